@@ -29,6 +29,7 @@ pub mod Taking
 pub mod Worlds
 pub use Rattle.tsdb_tasks.proofs.Coming
 pub use Rattle.tsdb_tasks.proofs.Stored
+pub use Rattle.tsdb_fileset.proofs.Swept
 pub use Rattle.tsdb_fileset.proofs.Taken
 pub use Rattle.tsdb_tasks.proofs.Finished
 pub use Rattle.tsdb_tasks.proofs.Given

@@ -11,7 +11,8 @@ use Rattle.tsdb_fileset.specs.Files.{outgoing_numbers}
 use Rattle.tsdb_fileset.specs.Places.{is_one_of}
 use Rattle.tsdb_base.specs.Lists.{Among, count}
 
-same_test : (n x : ℕ) → nat_eq n x ≡ (x == n)
+-- the two tests for equal numbers
+pub same_test : (n x : ℕ) → nat_eq n x ≡ (x == n)
 same_test n x = grind (arith, nat_tests)
 
 -- a number that stands in a list is counted

@@ -1,9 +1,10 @@
 -- What a sweep leaves.
 use Rattle.std.proofs.Common.{◌≡◌, ℕ, ◌+◌, ◌≤◌, Bool, true, false, cond, not, List, []}
 use Rattle.std.proofs.Common.{◌∷◌, ◌++◌, length, map, Option, Some}
-use Rattle.std.proofs.Common.{None, Result, Ok, Err, refl, sym, ap, subst, ◌∙◌, arith}
-use Rattle.std.specs.Prelude.{OnErr, OnOk, is_some, vec_capacity, vec_len}
-use Rattle.std.specs.List.{AllByRecursion as Each, filter}
+use Rattle.std.proofs.Common.{None, Result, Ok, Err, inl, inr, refl, sym, ap, subst, ◌∙◌, arith}
+use Rattle.std.specs.Cmp.{unsigned_Decides}
+use Rattle.std.specs.Prelude.{◌||◌, ◌&&◌, IfSome, OnErr, OnOk, is_some, nat_eq, vec_capacity, vec_len}
+use Rattle.std.specs.List.{AllByRecursion as Each, filter, list_any}
 use Rattle.std.proofs.lemmas.List.{append_assoc, map-append}
 use Rattle.tsdb_base.specs.declared.ids.FileNumber.{FileNumber}
 use Rattle.tsdb_fileset.specs.declared.files.KeptFiles.TheInside.{Inside}
@@ -11,11 +12,13 @@ use Rattle.tsdb_fileset.specs.declared.files.Outgoing.{Outgoing}
 use Rattle.tsdb_fileset.specs.Files.{AreKept, KeptFiles, entry_numbers, kept_file}
 use Rattle.tsdb_fileset.specs.Files.{listed_borns, numbers_of, outgoing_numbers}
 use Rattle.tsdb_fileset.specs.Kept.{AreSound, view_of}
-use Rattle.tsdb_fileset.specs.Places.{KeptFile, Places, TakesAway, file_at, is_one_of, place_at}
-use Rattle.tsdb_fileset.specs.Sweeps.{AreOnce, LeavesWithout, StopsAt, free_numbers, has_place, is_free, tried_numbers}
-use Rattle.tsdb_fileset.proofs.Counts.{among_counted, count_fewer, count_left, counted, filter_agrees}
+use Rattle.tsdb_fileset.specs.Held.{may_go, told_numbers}
+use Rattle.tsdb_fileset.specs.Places.{AreUnread, KeptFile, Places, TakesAway, file_at, is_one_of, place_at}
+use Rattle.tsdb_fileset.specs.Sweeps.{AreOnce, LeavesWithout, StopsAt, free_numbers, has_no_right, has_place, is_free}
+use Rattle.tsdb_fileset.specs.Sweeps.{is_that, tried_numbers}
+use Rattle.tsdb_fileset.proofs.Counts.{among_counted, count_fewer, count_left, counted, filter_agrees, same_test}
 use Rattle.tsdb_fileset.proofs.Numbers.{all_counted}
-use Rattle.tsdb_base.specs.Lists.{count, if_some}
+use Rattle.tsdb_base.specs.Lists.{Among, count, if_some}
 use Rattle.tsdb_base.proofs.Lists.{count_append, each_from_among}
 use Rattle.tsdb_flush.specs.Least.{IsLeastOf}
 use Rattle.tsdb_outside.specs.declared.faults.Failed.{Failed}
@@ -168,3 +171,65 @@ module _ {F S R P : Type 0} (doubted : List (Option FileNumber)) (old new : Insi
       × LeavesWithout (tried_numbers doubted (view_of old).places stop) (view_of old) (view_of new))
   swept_failed (Ok count) err = tt
   swept_failed (Err fault) err = (err.0, leaves (tried_numbers doubted old.tokens.entries err.0) err.1)
+
+-- ---- where no right is out and none is in doubt, no outgoing file is left
+
+never : (n : ℕ) (ns : List ℕ) → n ∷ ns ≡ [] → ⊥
+never n ns is = cc
+
+none_doubted : (n : ℕ) (doubted : List (Option FileNumber)) → told_numbers doubted ≡ []
+    → list_any (is_that n) doubted ≡ false
+none_doubted n [] is = refl
+none_doubted n (None ∷ doubted) is = none_doubted n doubted is
+none_doubted n (Some file ∷ doubted) is = absurd (never file.0 (told_numbers doubted) is)
+
+filter_all : (test : Outgoing → Bool) (files : List Outgoing) → Each (λ file. test file ≡ true) files
+    → filter test files ≡ files
+filter_all test [] all = refl
+filter_all test (file ∷ files) all = ap (λ b. cond b (file ∷ filter test files) (filter test files)) all.0
+    ∙ ap (λ rest. file ∷ rest) (filter_all test files all.1)
+
+filter_none : (test : Outgoing → Bool) (files : List Outgoing) → Each (λ file. test file ≡ false) files
+    → filter test files ≡ []
+filter_none test [] none = refl
+filter_none test (file ∷ files) none = ap (λ b. cond b (file ∷ filter test files) (filter test files)) none.0
+    ∙ filter_none test files none.1
+
+or_true : (a b : Bool) → b ≡ true → (a || b) ≡ true
+or_true true b is = refl
+or_true false b is = is
+
+-- the number of a file is one of those of a list that has the file
+is_there : (files : List Outgoing) (file : Outgoing) → Among file files
+    → is_one_of (outgoing_numbers files) file.number.0 ≡ true
+is_there [] file among = absurd among
+is_there (other ∷ files) file (inl is) =
+    ap (λ b. b || is_one_of (outgoing_numbers files) file.number.0)
+    (same_test file.number.0 other.number.0
+    ∙ (unsigned_Decides other.number.0 file.number.0).1 (ap (λ f. f.number.0) is))
+is_there (other ∷ files) file (inr among) = or_true (nat_eq file.number.0 other.number.0)
+    (is_one_of (outgoing_numbers files) file.number.0) (is_there files file among)
+
+module _ (doubted : List (Option FileNumber)) (old new : KeptFiles) (kept : AreKept old) (unread : AreUnread old.places)
+    (none : told_numbers doubted ≡ []) where
+  unlent : (found : Option KeptFile) → 1 ≤ length (if_some found) → IfSome found (λ file. file.rights ≡ 0)
+      → has_no_right found ≡ true
+  unlent None some zero = absurd (omega (arith, some))
+  unlent (Some file) some zero = ap (λ rights. nat_eq rights 0) zero
+
+  is_free_there : (file : Outgoing) → Among file old.outgoing → is_free doubted old.places file ≡ true
+  is_free_there file among =
+      let n = file.number.0 in
+      ap (λ b. b && not (list_any (is_that n) doubted)) (unlent (kept_file n old)
+      (omega (arith, among_counted file old.outgoing among, outgoing_counted n old, kept n)) (unread n))
+      ∙ ap not (none_doubted n doubted none)
+
+  all_go : may_go doubted old old.outgoing ≡ outgoing_numbers old.outgoing
+  all_go = ap outgoing_numbers (filter_all (is_free doubted old.places) old.outgoing
+      (each_from_among _ old.outgoing is_free_there))
+
+  pub none_left : LeavesWithout (may_go doubted old old.outgoing) old new → new.outgoing ≡ []
+  none_left leaves = leaves.outgoing
+      ∙ filter_none (λ file. not (is_one_of (may_go doubted old old.outgoing) file.number.0)) old.outgoing
+      (each_from_among _ old.outgoing (λ file among. ap not (ap (λ gone. is_one_of gone file.number.0) all_go
+      ∙ is_there old.outgoing file among)))

@@ -1,5 +1,5 @@
 -- Causes of faults, over the parts of a flush.
-use Rattle.std.proofs.Common.{◌≡◌, ◌≢◌, ◌⊎◌, ℕ, ◌+◌, ◌<◌, ◌≤◌, Result, Ok, Err, inl, inr, arith, refl, subst}
+use Rattle.std.proofs.Common.{◌≡◌, ◌≢◌, ◌⊎◌, ℕ, ◌+◌, ◌<◌, ◌≤◌, Result, Ok, Err, inl, inr, arith, refl, subst, sym}
 use Rattle.std.specs.Prelude.{IfErr}
 use Rattle.tsdb_core.specs.Flushes.{IsTakeAnswer}
 use Rattle.tsdb_core.specs.declared.commit.CoreFault.{CoreFault}
@@ -40,12 +40,45 @@ module _ {T : Type 0} where
   cause_before (Err fault) journal mid journal_after port port_mid port_after next less less_port cause =
       earlier journal mid journal_after port port_mid port_after next less less_port fault cause
 
+-- the counts have risen after it too, and no number was drawn since
+still : (journal journal_mid journal_after port port_mid port_after next now : ℕ) → journal_mid ≤ journal_after
+    → port_mid ≤ port_after → now ≡ next → (fault : FlushFault)
+    → HasFlushCause journal journal_mid port port_mid next fault
+    → HasFlushCause journal journal_after port port_after now fault
+still journal journal_mid journal_after port port_mid port_after next now less less_port same Device (inl rose) =
+    inl (rose_on journal journal_mid journal_after rose less)
+still journal journal_mid journal_after port port_mid port_after next now less less_port same Device (inr rose) =
+    inr (rose_on port port_mid port_after rose less_port)
+still journal journal_mid journal_after port port_mid port_after next now less less_port same Memory cause = tt
+still journal journal_mid journal_after port port_mid port_after next now less less_port same (Full counter) cause =
+    let end = cause.0 in
+    let number = cause.1 in
+    (end, omega (arith, number, same))
+
+module _ {T : Type 0} where
+  -- the cause of the fault of a first part is one of the whole
+  pub cause_since : (result : Result T FlushFault) (journal journal_mid journal_after port port_mid port_after next now : ℕ)
+      → journal_mid ≤ journal_after → port_mid ≤ port_after → now ≡ next
+      → IfErr result (HasFlushCause journal journal_mid port port_mid next)
+      → IfErr result (HasFlushCause journal journal_after port port_after now)
+  cause_since (Ok value) journal journal_mid journal_after port port_mid port_after next now less less_port same cause = tt
+  cause_since (Err fault) journal journal_mid journal_after port port_mid port_after next now less less_port same cause =
+      still journal journal_mid journal_after port port_mid port_after next now less less_port same fault cause
+
 -- a file could not be written
 pub file_cause : (journal journal_after port port_after next : ℕ) (fault : StoreFault)
     → (fault ≡ file.Failed → Rose port port_after)
     → HasFlushCause journal journal_after port port_after next (of_file_fault fault)
 file_cause journal journal_after port port_after next file.Failed rose = inr (rose refl)
 file_cause journal journal_after port port_after next file.Memory rose = tt
+
+-- a record could not be written
+pub commit_cause : {T : Type 0} (result : Result T FlushFault) (journal journal_after port port_after next : ℕ)
+    → IfErr result (λ fault. (fault ≡ Device) × Rose journal journal_after)
+    → IfErr result (HasFlushCause journal journal_after port port_after next)
+commit_cause (Ok value) journal journal_after port port_after next cause = tt
+commit_cause (Err fault) journal journal_after port port_after next cause =
+    subst (HasFlushCause journal journal_after port port_after next) (sym cause.0) (inl cause.1)
 
 -- a job could not be taken
 pub core_cause : (journal journal_after port port_after next now : ℕ) (fault : CoreFault)

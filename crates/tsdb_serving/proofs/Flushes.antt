@@ -13,7 +13,6 @@ use Rattle.tsdb_core.specs.Core.{logged_of, next_of, working_of}
 use Rattle.tsdb_core.specs.Ending.{drawn_for}
 use Rattle.tsdb_core.specs.Flushes.{IsAbandoned, IsCommit, IsDue, IsNotTaken, IsOldest, IsTaken, TakesMemory}
 use Rattle.tsdb_core.specs.Rows.{CanFreezeNow, NeedsFlush}
-use Rattle.tsdb_core.specs.Sweeps.{IsSwept}
 use Rattle.tsdb_core.specs.declared.commit.Commit.{Commit}
 use Rattle.tsdb_core.specs.declared.commit.Commit.TheVariants.{Gone}
 use Rattle.tsdb_core.specs.declared.engine.Core.{Core}
@@ -29,15 +28,13 @@ use Rattle.tsdb_memory.specs.Commands.{IsAny}
 use Rattle.tsdb_memory.specs.Logged.{log_of, memory_of}
 use Rattle.tsdb_memory.specs.declared.logged.Logged.{Logged}
 use Rattle.tsdb_model.specs.State as plain
-use Rattle.tsdb_base.specs.Causes.{Rose}
 use Rattle.tsdb_outside.specs.Disk.{IsLawful}
 use Rattle.tsdb_outside.specs.Files.{Store, StoredFile}
 use Rattle.tsdb_outside.specs.Moments.{LeavesOnly}
 use Rattle.tsdb_outside.specs.declared.disk.Disk as disk
 use Rattle.tsdb_outside.specs.declared.faults.Counted as counted
-use Rattle.tsdb_outside.specs.declared.faults.Failed.{Failed}
-use Rattle.tsdb_serving.proofs.Differing.{NoNumber, drawn_apart}
-use Rattle.tsdb_serving.proofs.Jobs.{put_numbers, ready_again, ready_swept, still_ready, within}
+use Rattle.tsdb_serving.proofs.Differing.{drawn_apart}
+use Rattle.tsdb_serving.proofs.Jobs.{put_numbers, ready_again, still_ready, within}
 use Rattle.tsdb_serving.proofs.Parts as parts
 use Rattle.tsdb_serving.proofs.Steps.{then}
 use Rattle.tsdb_model.specs.declared.command.Row.{Row}
@@ -164,57 +161,37 @@ module _ {J F S R P : Type 0} {means : disk.Ghosts J} {counts : counted.Ghosts J
           (ends.keeps tells files at next (parts.taken laws old mid job files at next taken serving));
     }
 
-  -- ---- the end of a job, and then a sweep
+  -- ---- the end of a job
 
-  swept_later : (old mid new : Core J F S R P means counts) (outcome : Result ℕ Failed) → IsSwept mid new outcome
-      → faults_under old ≤ faults_under mid → faults_under old ≤ faults_under new
-  swept_later old mid new outcome swept = subst (λ (logged : Logged J means counts).
-      faults_under old ≤ faults_of (log_of logged)) (sym swept.logged)
-
-  module _ (old mid new : Core J F S R P means counts) (job : FlushJob) (built : NewFiles) (given : Store)
+  module _ (old new : Core J F S R P means counts) (job : FlushJob) (built : NewFiles) (given : Store)
       (of_job : AreOfJob given job built) (all : Each (IsIn store) (all_of built))
-      (tells : store.tells ≡ true → TellBytes built) (outcome : Result ℕ Failed) (sweeps : IsSwept mid new outcome)
-      (busy : IsBusy store old job) where
-    pub commit_ends : (commit : Commit) → IsCommit old mid job built commit → EndsJob store old new job
+      (tells : store.tells ≡ true → TellBytes built) (busy : IsBusy store old job) where
+    pub commit_ends : (commit : Commit) → IsCommit old new job built commit → EndsJob store old new job
     commit_ends commit commits = record {
-      ready = ready_swept store mid new outcome sweeps (ready_again store given old mid job built commit of_job commits.ends all busy);
-      limit = sweeps.limit ∙ commits.ends.limit;
-      slot = ap (λ logged. slot_of (log_of logged)) sweeps.logged ∙ commits.slot;
-      next = sweeps.next ∙ commits.ends.next;
-      later = swept_later old mid new outcome sweeps commits.later;
+      ready = ready_again store given old new job built commit of_job commits.ends all busy;
+      limit = commits.ends.limit;
+      slot = commits.slot;
+      next = commits.ends.next;
+      later = commits.later;
       keeps = λ told files at next serving.
-          let one = parts.committed laws (IsOfJob job) old mid job built given of_job (tells told)
-          (put_numbers given job built of_job) files at next serving commit commits in
-          then laws (IsOfJob job) NoNumber (IsOfJob job) (λ n is. is) (λ n none. absurd none)
-          (λ a b is none. absurd none) old mid new files at next
-          at at commits.slot one
-          (parts.swept laws NoNumber mid new (files ++ one.put) at one.doubt one.serving outcome sweeps);
+          parts.committed laws (IsOfJob job) old new job built given of_job (tells told)
+          (put_numbers given job built of_job) files at next serving commit commits;
     }
 
-    pub abandon_ends : IsAbandoned old mid job built → EndsJob store old new job
+    pub abandon_ends : IsAbandoned old new job built → EndsJob store old new job
     abandon_ends gives_up = record {
-      ready = ready_swept store mid new outcome sweeps (ready_again store given old mid job built Gone of_job gives_up.ends all busy);
-      limit = sweeps.limit ∙ gives_up.ends.limit;
-      slot = ap (λ logged. slot_of (log_of logged)) sweeps.logged ∙ ap (λ logged. slot_of (log_of logged)) gives_up.logged;
-      next = sweeps.next ∙ gives_up.ends.next;
-      later = swept_later old mid new outcome sweeps (subst (λ (logged : Logged J means counts).
-          faults_under old ≤ faults_of (log_of logged)) (sym gives_up.logged) (omega arith));
+      ready = ready_again store given old new job built Gone of_job gives_up.ends all busy;
+      limit = gives_up.ends.limit;
+      slot = ap (λ logged. slot_of (log_of logged)) gives_up.logged;
+      next = gives_up.ends.next;
+      later = subst (λ (logged : Logged J means counts). faults_under old ≤ faults_of (log_of logged))
+          (sym gives_up.logged) (omega arith);
       keeps = λ told files at next serving.
-          let one = parts.abandoned laws (IsOfJob job) old mid job built given of_job (tells told)
-          (put_numbers given job built of_job) files at next serving gives_up in
-          then laws (IsOfJob job) NoNumber (IsOfJob job) (λ n is. is) (λ n none. absurd none)
-          (λ a b is none. absurd none) old mid new files at next
-          at at (ap (λ logged. slot_of (log_of logged)) gives_up.logged) one
-          (parts.swept laws NoNumber mid new (files ++ one.put) at one.doubt one.serving outcome sweeps);
+          parts.abandoned laws (IsOfJob job) old new job built given of_job (tells told)
+          (put_numbers given job built of_job) files at next serving gives_up;
     }
 
 module _ {J F S R P : Type 0} {means : disk.Ghosts J} {counts : counted.Ghosts J} where
-  -- a sweep leaves the journal's count as it was
-  pub later_rose : (old mid new : Core J F S R P means counts) (outcome : Result ℕ Failed) → IsSwept mid new outcome
-      → Rose (faults_under old) (faults_under mid) → Rose (faults_under old) (faults_under new)
-  later_rose old mid new outcome swept = subst (λ (logged : Logged J means counts).
-      Rose (faults_under old) (faults_of (log_of logged))) (sym swept.logged)
-
   -- taking memory leaves the pairs, and the journal's count
   pub oldest_still : (old new : Core J F S R P means counts) (job : FlushJob) → TakesMemory old new
       → IsTaken old new job → IsOldest job (memory_of (logged_of new))

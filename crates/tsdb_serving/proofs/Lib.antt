@@ -10,6 +10,7 @@ pub mod Possible
 pub mod Shown
 pub mod Slots
 pub mod Steps
+pub mod Swept
 pub mod Full
 pub use Rattle.tsdb_core.proofs.Jobs as CoreJobs
 pub use Rattle.tsdb_core.proofs.Beginnings

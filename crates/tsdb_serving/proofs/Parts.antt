@@ -1,5 +1,5 @@
 -- The steps of a flush, as a core takes them: what each leaves of the state that a core is in.
-use Rattle.std.proofs.Common.{◌≡◌, ℕ, List, [], ◌∷◌, ◌++◌, Option, None, Some, Result, Ok, Err, inl, inr, refl, sym}
+use Rattle.std.proofs.Common.{◌≡◌, ℕ, List, [], ◌∷◌, ◌++◌, Option, None, Some, inl, inr, refl, sym}
 use Rattle.std.proofs.Common.{ap, subst, ◌∙◌}
 use Rattle.std.specs.List.{AllByRecursion as Each, flat_map}
 use Rattle.std.specs.Prelude.{IfSome}
@@ -14,16 +14,13 @@ use Rattle.tsdb_core.specs.Core.{IsSeen, files_of, logged_of}
 use Rattle.tsdb_core.specs.Flushes.{IsAbandoned, IsCommit, IsCommitAnswer, IsOldest, IsSeenAfterCommit}
 use Rattle.tsdb_core.specs.Flushes.{IsTaken}
 use Rattle.tsdb_core.specs.Rows.{CanFreezeNow}
-use Rattle.tsdb_core.specs.Sweeps.{IsSwept, without_files}
 use Rattle.tsdb_core.specs.declared.commit.Commit.{Commit}
 use Rattle.tsdb_core.specs.declared.commit.Commit.TheVariants.{Device, Done, Gone}
 use Rattle.tsdb_core.specs.declared.engine.Core.{Core}
 use Rattle.tsdb_frames.proofs.MomentLemmas.{weaker}
-use Rattle.tsdb_core.specs.Held.{may_go}
 use Rattle.tsdb_state.proofs.ImageLemmas.After.{listed_after}
 use Rattle.tsdb_state.specs.Stored.{LeadsTo, built_files}
 use Rattle.tsdb_core.specs.FlushJob.{FlushJob}
-use Rattle.tsdb_core.specs.FilesetSweeps.{tried_numbers}
 use Rattle.tsdb_base.proofs.Lists.{each_among, each_from_among, each_left, each_right}
 use Rattle.tsdb_base.specs.Lists.{Among}
 use Rattle.tsdb_log.specs.declared.record.LogRecord.{LogRecord}
@@ -36,10 +33,9 @@ use Rattle.tsdb_outside.specs.Disk.{IsLawful}
 use Rattle.tsdb_outside.specs.Files.{Store, StoredFile}
 use Rattle.tsdb_outside.specs.declared.disk.Disk as disk
 use Rattle.tsdb_outside.specs.declared.faults.Counted as counted
-use Rattle.tsdb_outside.specs.declared.faults.Failed.{Failed}
 use Rattle.tsdb_state.specs.Stores.{IsStateOf}
 use Rattle.tsdb_serving.proofs.Differing.{Differ, stored_differ}
-use Rattle.tsdb_serving.proofs.Held.{either_wider, held_more, held_with, held_without}
+use Rattle.tsdb_serving.proofs.Held.{either_wider, held_more, held_with}
 use Rattle.tsdb_serving.proofs.Steps.{quiet_left, quiet}
 use Rattle.tsdb_serving.specs.Flushing.{IsServingJob}
 use Rattle.tsdb_serving.specs.Serving.{IsServedBy, IsServing, LeavesEither, MayDoubt, disk_under, slot_under}
@@ -49,7 +45,6 @@ use Rattle.tsdb_state.specs.Records.{after, flush_oldest, names, numbers_of}
 use Rattle.tsdb_state.specs.State as state
 use Rattle.tsdb_state.specs.State.{EngineState, File, FrozenPair, StoreState, Told}
 use Rattle.tsdb_state.specs.Steps.{committed_flush, ended_flush, failed, flush_record, number_or_none, settled}
-use Rattle.tsdb_state.specs.Steps.{swept as swept_state}
 use Rattle.tsdb_state.specs.Steps.{took_flush, wrote}
 use Rattle.tsdb_state.specs.Worlds.{StandsFor}
 
@@ -366,27 +361,3 @@ module _ {J F S R P : Type 0} {means : disk.Ghosts J} {counts : counted.Ghosts J
       pub committed : IsServedBy Q old new files at next at at
       committed = committed_as commit refl commits.answer
           (commits.step is.outside is.state is.flush is.others is.seen is.out tells)
-
-  -- ---- a sweep
-
-  module _ (Q : ℕ → Type 0) (old new : Core J F S R P means counts) (files : List StoredFile) (at : plain.State)
-      (next : Option plain.State) (serving : IsServing old files at next) where
-    swept_of : (numbers : List ℕ) → logged_of new ≡ logged_of old
-        → IsSeen new (without_files numbers serving.outside) (swept_state numbers serving.state)
-        → IsServedBy Q old new files at next at at
-    swept_of numbers same seen = quiet laws Q old new files [] at next at (ap (λ log. log_of log) same) tt tt
-        serving (more_files new files [] at next (record {
-          outside = without_files numbers serving.outside;
-          state = swept_state numbers serving.state;
-          seen = seen;
-          stands = serving.stands;
-          doubt = serving.doubt;
-          held = held_without numbers serving.outside.kept files serving.held;
-        }))
-
-    pub swept : (outcome : Result ℕ Failed) → IsSwept old new outcome
-        → IsServedBy Q old new files at next at at
-    swept (Ok count) sweeps = swept_of (may_go sweeps.doubted (files_of old) (files_of old).outgoing) sweeps.logged
-        (sweeps.all.step serving.outside serving.state serving.seen)
-    swept (Err failure) sweeps = swept_of (tried_numbers sweeps.doubted (files_of old).places sweeps.stopped.0)
-        sweeps.logged (sweeps.stopped.1.step serving.outside serving.state serving.seen)

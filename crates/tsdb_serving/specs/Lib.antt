@@ -2,6 +2,7 @@ pub mod Faults
 pub mod Files
 pub mod Flushing
 pub mod Serving
+pub mod Sweeping
 pub use Rattle.tsdb_core.specs.Core
 pub use Rattle.tsdb_core.specs.Pins
 pub use Rattle.tsdb_core.specs.declared.engine.Core as CoreType

@@ -1,6 +1,7 @@
-//! Changes of a user: a series is created, a row written, points deleted. Depends on `flushing` and tsdb_core.
-ghost use Rattle.std.specs.Prelude.{◌≡◌, ◌⊎◌, ◌+◌, ◌≤◌, IfErr, OnOk, true};
-ghost use Rattle.tsdb_core.specs.Core.{next_of};
+//! Changes of a user: a series is created, a row written, points deleted. Depends on `flushing`, `sweeping` and
+//! tsdb_core.
+ghost use Rattle.std.specs.Prelude.{◌≡◌, ◌⊎◌, ◌+◌, ◌≤◌, [], IfErr, OnOk, true};
+ghost use Rattle.tsdb_core.specs.Core.{files_of, next_of};
 ghost use Rattle.tsdb_core.specs.Rows.{NeedsFlush};
 ghost use Rattle.tsdb_base.specs.declared.answers.Answer.{Answer as AnswerOf};
 ghost use Rattle.tsdb_model.specs.Commands.{IsRow, IsSchema};
@@ -11,9 +12,11 @@ ghost use Rattle.tsdb_outside.specs.Files.{Store};
 ghost use Rattle.tsdb_serving.specs.Faults.{HasFlushCause};
 ghost use Rattle.tsdb_serving.specs.Flushing.{GoesOn, IsReady, faults_under};
 ghost use Rattle.tsdb_serving.specs.Serving.{Answers, HasFullCause, StaysInPlace};
+ghost use Rattle.tsdb_serving.specs.Sweeping.{LeavesNothing, StaysEmpty};
 
 use crate::fault::FlushFault;
 use crate::flushing::flush_oldest;
+use crate::sweeping::sweep;
 use std::alloc::Global;
 use tsdb_base::{Answer, Range};
 use tsdb_core::Core;
@@ -24,6 +27,7 @@ use tsdb_path::Path;
 /// Creates a series.
 pub fn create<J: Journal, F: Files>(core: &mut Core<J, F>, schema: &Schema) -> Answer
     requires { IsSchema schema.now }
+    ensures files { files_of core.new ≡ files_of core.old }
     ensures answers { Answers core.old core.new (Command.Create schema.now) (Reply.Plain result) }
     ensures ready { (store : Store) → IsReady store core.old → IsReady store core.new }
     ensures stays { StaysInPlace core.old core.new }
@@ -37,6 +41,7 @@ pub fn create<J: Journal, F: Files>(core: &mut Core<J, F>, schema: &Schema) -> A
 
 /// Deletes the points of a series in a range.
 pub fn delete<J: Journal, F: Files>(core: &mut Core<J, F>, series: &Path, range: &Range) -> Answer
+    ensures files { files_of core.new ≡ files_of core.old }
     ensures answers { Answers core.old core.new (Command.Delete series.now range.now) (Reply.Plain result) }
     ensures ready { (store : Store) → IsReady store core.old → IsReady store core.new }
     ensures stays { StaysInPlace core.old core.new }
@@ -49,7 +54,7 @@ pub fn delete<J: Journal, F: Files>(core: &mut Core<J, F>, series: &Path, range:
 }
 
 /// Writes a row. Where it does not fit the working pair and no other pair can be frozen, the oldest is flushed first; the
-/// fault of this flush is the answer.
+/// fault of this flush is the answer. Files on their way out are removed then.
 pub fn insert<J: Journal, F: Files>(
     alloc: Global,
     core: &mut Core<J, F>,
@@ -59,6 +64,7 @@ pub fn insert<J: Journal, F: Files>(
 ) -> Answer
     requires row { IsRow row.now }
     requires ready { IsReady (F.Port.store port.old) core.old }
+    ensures swept { StaysEmpty (F.Port.faults port.old) (F.Port.faults port.new) core.old core.new }
     ensures answers { (F.Port.store port.old).tells ≡ true
         → Answers core.old core.new (Command.Insert device.now row.now) (Reply.Plain result) }
     ensures ready { IsReady (F.Port.store port.old) core.new }
@@ -77,7 +83,7 @@ pub fn insert<J: Journal, F: Files>(
     }
 }
 
-/// Flushes the oldest frozen pair, where the row could not be put else.
+/// Flushes the oldest frozen pair, where the row could not be put else, and removes files on their way out.
 fn make_room<J: Journal, F: Files>(
     alloc: Global,
     core: &mut Core<J, F>,
@@ -87,6 +93,8 @@ fn make_room<J: Journal, F: Files>(
     requires row { IsRow row.now }
     requires ready { IsReady (F.Port.store port.old) core.old }
     ensures place { OnOk result (¬ NeedsFlush row.now core.new) }
+    ensures swept { (files_of core.old).outgoing ≡ []
+        → LeavesNothing (F.Port.faults port.old) (F.Port.faults port.new) core.new }
     ensures goes_on { GoesOn (F.Port.store port.old) core.old core.new }
     ensures draws { next_of core.new ≤ next_of core.old + 2 }
     ensures same_store { F.Port.store port.new ≡ F.Port.store port.old }
@@ -97,5 +105,7 @@ fn make_room<J: Journal, F: Files>(
     if !core.needs_flush(row) {
         return Ok(());
     }
-    flush_oldest(alloc, core, port)
+    let flushed = flush_oldest(alloc, core, port);
+    sweep(core, port);
+    flushed
 }

@@ -1,4 +1,4 @@
-//! A flush: the working pair and all frozen pairs become files. Depends on `fault`, tsdb_core and tsdb_flush.
+//! A flush: the working pair and all frozen pairs become files. Depends on `fault`, `sweeping` and tsdb_core.
 ghost use Rattle.std.specs.Prelude.{◌≡◌, ◌≢◌, ◌⊎◌, ◌+◌, ◌<◌, ◌≤◌, ◌↔◌, ℕ, [], None, IfErr, IfOk, IsTrue, OnErr, OnOk, drop};
 ghost use Rattle.std.specs.Prelude.{length, slice_get};
 ghost use Rattle.std.specs.Option.{option_map};
@@ -13,9 +13,11 @@ ghost use Rattle.tsdb_serving.specs.declared.fault.FlushFault.{FlushFault as Fau
 ghost use Rattle.tsdb_serving.specs.Faults.{HasFlushCause};
 ghost use Rattle.tsdb_serving.specs.Files.{AreDone, AreDoneSoFar};
 ghost use Rattle.tsdb_serving.specs.Flushing.{EndsJob, GoesOn, IsBusy, IsReady, faults_under, frozen_in};
+ghost use Rattle.tsdb_serving.specs.Sweeping.{LeavesNothing};
 ghost use Rattle.tsdb_base.specs.Limits.{max_frozen};
 
 use crate::fault::FlushFault;
+use crate::sweeping::sweep;
 use std::alloc::Global;
 use tsdb_base::{Answer, Space, Stamp, limits};
 use tsdb_core::{Commit, Core, FlushJob, FlushRefused, Flushed, run_flush};
@@ -27,9 +29,30 @@ const MAX_FROZEN: u64 = limits::MAX_FROZEN as u64;
 /// Freezes the working pair, where it has a point, and writes the files of all frozen pairs, from the oldest on.
 ///
 /// Where two pairs are frozen and the working pair has a point, the oldest is flushed first. It ends at the first pair
-/// that cannot be frozen or flushed, which stays in memory. Files on their way out are removed after each pair; one that
-/// cannot be removed is passed over.
+/// that cannot be frozen or flushed, which stays in memory. At the end files on their way out are removed, whatever it
+/// returns; one that cannot be removed is passed over.
 pub fn flush<J: Journal, F: Files>(
+    alloc: Global,
+    core: &mut Core<J, F>,
+    port: &mut F::Port,
+) -> Result<(), FlushFault>
+    requires ready { IsReady (F.Port.store port.old) core.old }
+    ensures flushed { OnOk result ((frozen_in core.new ≡ []) × HasNoPoint (working_of core.new)) }
+    ensures swept { LeavesNothing (F.Port.faults port.old) (F.Port.faults port.new) core.new }
+    ensures goes_on { GoesOn (F.Port.store port.old) core.old core.new }
+    ensures draws { next_of core.new ≤ next_of core.old + 6 }
+    ensures same_store { F.Port.store port.new ≡ F.Port.store port.old }
+    ensures cause { IfErr result (HasFlushCause (faults_under core.old) (faults_under core.new)
+        (F.Port.faults port.old) (F.Port.faults port.new) (next_of core.new)) }
+    ensures later { F.Port.faults port.old ≤ F.Port.faults port.new }
+{
+    let flushed = flush_pairs(alloc, core, port);
+    sweep(core, port);
+    flushed
+}
+
+/// Freezes the working pair, and flushes all pairs.
+fn flush_pairs<J: Journal, F: Files>(
     alloc: Global,
     core: &mut Core<J, F>,
     port: &mut F::Port,
@@ -222,55 +245,43 @@ fn run_job<J: Journal, F: Files>(
     ensures later { F.Port.faults port.old ≤ F.Port.faults port.new }
 {
     match run_flush::<F>(alloc, &job, port) {
-        Ok(files) => commit(core, port, job, files),
+        Ok(files) => commit(core, job, files),
         Err(FlushRefused { files, fault }) => {
-            give_up(core, port, job, files);
+            give_up(core, job, files);
             Err(FlushFault::of_file(fault))
         }
     }
 }
 
-/// Lists the files of the only job that is out. Then files on their way out are removed.
+/// Lists the files of the only job that is out.
 fn commit<J: Journal, F: Files>(
     core: &mut Core<J, F>,
-    port: &mut F::Port,
     job: FlushJob,
     files: Flushed<F>,
 ) -> Result<(), FlushFault>
-    requires busy { IsBusy (F.Port.store port.old) core.old job }
     requires oldest { IsOldest job (memory_of (logged_of core.old)) }
-    requires done { AreDone F.Sealed.file F.Sealed.rights (F.Port.store port.old) job files }
+    requires busy { (store : Store) × AreDone F.Sealed.file F.Sealed.rights store job files × IsBusy store core.old job }
     ensures flushed { OnOk result (frozen_in core.new ≡ drop 1 (frozen_in core.old)) }
     ensures working { working_of core.new ≡ working_of core.old }
-    ensures ends { EndsJob (F.Port.store port.old) core.old core.new job }
-    ensures same_store { F.Port.store port.new ≡ F.Port.store port.old }
-    ensures cause { IfErr result (HasFlushCause (faults_under core.old) (faults_under core.new)
-        (F.Port.faults port.old) (F.Port.faults port.new) (next_of core.new)) }
-    ensures later { F.Port.faults port.old ≤ F.Port.faults port.new }
+    ensures ends { (store : Store) → IsBusy store core.old job → AreDone F.Sealed.file F.Sealed.rights store job files
+        → EndsJob store core.old core.new job }
+    ensures cause { IfErr result (λ fault. (fault ≡ FaultOf.Device)
+        × Rose (faults_under core.old) (faults_under core.new)) }
 {
-    let commit = core.commit_flush(job, files);
-    let _ = core.sweep(port);
-    match commit {
+    match core.commit_flush(job, files) {
         Commit::Done => Ok(()),
         Commit::Gone => Ok(()),
         Commit::Device => Err(FlushFault::Device),
     }
 }
 
-/// Gives the only job that is out up. Then files on their way out are removed.
-fn give_up<J: Journal, F: Files>(
-    core: &mut Core<J, F>,
-    port: &mut F::Port,
-    job: FlushJob,
-    files: Flushed<F>,
-)
-    requires busy { IsBusy (F.Port.store port.old) core.old job }
-    requires done { AreDoneSoFar F.Sealed.file F.Sealed.rights (F.Port.store port.old) job files }
+/// Gives the only job that is out up: those of its files that are there are on their way out.
+fn give_up<J: Journal, F: Files>(core: &mut Core<J, F>, job: FlushJob, files: Flushed<F>)
+    requires busy { (store : Store) × AreDoneSoFar F.Sealed.file F.Sealed.rights store job files
+        × IsBusy store core.old job }
     ensures memory { memory_of (logged_of core.new) ≡ memory_of (logged_of core.old) }
-    ensures ends { EndsJob (F.Port.store port.old) core.old core.new job }
-    ensures same_store { F.Port.store port.new ≡ F.Port.store port.old }
-    ensures later { F.Port.faults port.old ≤ F.Port.faults port.new }
+    ensures ends { (store : Store) → IsBusy store core.old job
+        → AreDoneSoFar F.Sealed.file F.Sealed.rights store job files → EndsJob store core.old core.new job }
 {
     core.abandon_flush(job, files);
-    let _ = core.sweep(port);
 }

@@ -9,9 +9,11 @@ mod changes;
 mod fault;
 mod flushing;
 mod showing;
+mod sweeping;
 
 pub use changes::{create, delete, insert};
 pub use fault::FlushFault;
 pub use flushing::flush;
 pub use showing::show;
+pub use sweeping::sweep;
 pub use tsdb_core::{Core, Options};

@@ -40,3 +40,6 @@ pub returns-clause-full : goal.returns-clause-full
 returns-clause-full g c = by_stamp c.args.core.now c.create.new.self c.create.result
     (create_stamp (memory_of (logged_of c.args.core.now)) c.args.schema.now.path c.create.result c.create.ensures.answer)
     (λ counter is. c.create.ensures.command.refused (subst IsRefusal (sym is) tt))
+
+pub returns-clause-files : goal.returns-clause-files
+returns-clause-files g c = c.create.ensures.command.kept.files

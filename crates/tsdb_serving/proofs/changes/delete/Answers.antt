@@ -40,3 +40,6 @@ pub returns-clause-full : goal.returns-clause-full
 returns-clause-full g c = by_stamp c.args.core.now c.delete.new.self c.delete.result
     (delete_stamp (memory_of (logged_of c.args.core.now)) c.args.series.now c.delete.result c.delete.ensures.answer)
     (λ counter is. c.delete.ensures.command.refused (subst IsRefusal (sym is) tt))
+
+pub returns-clause-files : goal.returns-clause-files
+returns-clause-files g c = c.delete.ensures.command.kept.files

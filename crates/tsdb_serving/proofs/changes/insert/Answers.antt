@@ -1,5 +1,6 @@
-use Rattle.std.proofs.Common.{◌++◌, inl, arith, refl, subst, sym, ◌∙◌}
+use Rattle.std.proofs.Common.{◌≡◌, [], ◌++◌, inl, arith, refl, subst, sym, ◌∙◌}
 use Rattle.tsdb_core.specs.Core.{logged_of}
+use Rattle.tsdb_core.specs.FilesetFiles.{KeptFiles}
 use Rattle.tsdb_memory.specs.Logged.{memory_of}
 use Rattle.tsdb_model.specs.declared.command.Command.TheVariants.{Insert}
 use Rattle.tsdb_model.specs.declared.reply.Reply.TheVariants.{Plain}
@@ -8,6 +9,7 @@ use Rattle.tsdb_serving.proofs.Answered.{world_is}
 use Rattle.tsdb_serving.proofs.Slots.{row_slot}
 use Rattle.tsdb_serving.proofs.Causes.{device_cause, full_cause, rose_later}
 use Rattle.tsdb_serving.proofs.Jobs.{drawn_first, drawn_second, kept_ready}
+use Rattle.tsdb_serving.proofs.Swept.{empty_without_faults}
 use Rattle.tsdb_serving.specs.Flushing.{faults_under}
 use Rattle.tsdb_serving.specs.Serving.{IsAnsweredBy, IsDrawn}
 use Rattle.tsdb_core.specs.Rows.{IsRowCommand}
@@ -91,3 +93,15 @@ returns-in-Ok-clause-full g c = by_stamp c.make_room.new.core c.insert.new.self 
 pub returns-in-Err-clause-full : goal.returns-in-Err-clause-full
 returns-in-Err-clause-full g c = by_number c.args.core.now c.make_room.new.core c.answer.result
     (next_counter _ _ _ _ _ c.in-Err.fault c.in-Err.ensures.cause c.answer.result c.answer.ensures)
+
+pub returns-in-Ok-clause-swept : goal.returns-in-Ok-clause-swept
+returns-in-Ok-clause-swept g c = λ none calm counted. subst (λ (files : KeptFiles). files.outgoing ≡ [])
+    (sym c.insert.ensures.kept.files)
+    (empty_without_faults c.make_room.new.core (g.F.Port.Counted.faults c.args.port.now)
+    (g.F.Port.Counted.faults c.make_room.new.port) (c.make_room.ensures.swept none) calm
+    (omega (arith, c.insert.ensures.later, counted)))
+
+pub returns-in-Err-clause-swept : goal.returns-in-Err-clause-swept
+returns-in-Err-clause-swept g c = λ none. empty_without_faults c.make_room.new.core
+    (g.F.Port.Counted.faults c.args.port.now) (g.F.Port.Counted.faults c.make_room.new.port)
+    (c.make_room.ensures.swept none)

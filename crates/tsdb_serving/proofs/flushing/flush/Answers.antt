@@ -1,20 +1,38 @@
-use Rattle.std.proofs.Common.{subst, sym}
+use Rattle.std.proofs.Common.{arith, subst, sym}
 use Rattle.tsdb_core.specs.Core.{next_of}
-use Rattle.tsdb_serving.proofs.Causes.{cause_before}
-use Rattle.tsdb_serving.proofs.Flushes.{and_then}
-use Rattle.tsdb_serving.specs.Flushing.{GoesOn, IsReady, faults_under}
+use Rattle.tsdb_serving.proofs.Causes.{cause_since}
+use Rattle.tsdb_serving.proofs.Swept.{flushed_swept, goes_on_swept, no_less_swept, nothing_since}
+use Rattle.tsdb_serving.specs.Flushing.{IsReady, faults_under}
 use Rattle.tsdb_serving.proofs.flushing.flush.Goals as goal
 
-pub freeze_and_flush-requires-clause-ready : goal.freeze_and_flush-requires-clause-ready
-freeze_and_flush-requires-clause-ready g c = λ lifetimes lives. subst (λ store. IsReady store c.make_place.new.core)
-    (sym c.make_place.ensures.same_store) c.make_place.ensures.goes_on.ready
+pub sweep-requires-clause-ready : goal.sweep-requires-clause-ready
+sweep-requires-clause-ready g c = λ lifetimes lives. subst (λ store. IsReady store c.flush_pairs-flushed.new.core)
+    (sym c.flush_pairs-flushed.ensures.same_store) c.flush_pairs-flushed.ensures.goes_on.ready
 
-pub returns-in-Ok-clause-goes_on : goal.returns-in-Ok-clause-goes_on
-returns-in-Ok-clause-goes_on g c = and_then g.J.Disk.lawful (g.F.Port.Port.store c.args.port.now) c.args.core.now c.make_place.new.core c.freeze_and_flush.new.core
-    c.make_place.ensures.goes_on (subst (λ store. GoesOn store c.make_place.new.core c.freeze_and_flush.new.core)
-    c.make_place.ensures.same_store c.freeze_and_flush.ensures.goes_on)
+pub returns-clause-flushed : goal.returns-clause-flushed
+returns-clause-flushed g c = flushed_swept c.flush_pairs-flushed.new.core c.sweep.new.core c.sweep.ensures.listed
+    c.flush_pairs-flushed.result c.flush_pairs-flushed.ensures.flushed
 
-pub returns-in-Ok-clause-cause : goal.returns-in-Ok-clause-cause
-returns-in-Ok-clause-cause g c = cause_before c.freeze_and_flush.result (faults_under c.args.core.now) (faults_under c.make_place.new.core)
-    (faults_under c.freeze_and_flush.new.core) (g.F.Port.Counted.faults c.args.port.now) (g.F.Port.Counted.faults c.make_place.new.port) (g.F.Port.Counted.faults c.freeze_and_flush.new.port)
-    (next_of c.freeze_and_flush.new.core) c.make_place.ensures.goes_on.later c.make_place.ensures.later c.freeze_and_flush.ensures.cause
+pub returns-clause-swept : goal.returns-clause-swept
+returns-clause-swept g c = nothing_since (g.F.Port.Counted.faults c.args.port.now)
+    (g.F.Port.Counted.faults c.flush_pairs-flushed.new.port) (g.F.Port.Counted.faults c.sweep.new.port) c.sweep.new.core
+    c.flush_pairs-flushed.ensures.later c.sweep.ensures.swept
+
+pub returns-clause-goes_on : goal.returns-clause-goes_on
+returns-clause-goes_on g c = goes_on_swept c.args.core.now c.flush_pairs-flushed.new.core c.sweep.new.core
+    c.sweep.ensures.listed (g.F.Port.Port.store c.args.port.now) c.flush_pairs-flushed.ensures.goes_on
+    (subst (λ store. IsReady store c.sweep.new.core) c.flush_pairs-flushed.ensures.same_store c.sweep.ensures.ready)
+
+pub returns-clause-draws : goal.returns-clause-draws
+returns-clause-draws g c =
+    let part = c.flush_pairs-flushed.ensures.draws in
+    let same = c.sweep.ensures.listed.next in
+    omega (arith, part, same)
+
+pub returns-clause-cause : goal.returns-clause-cause
+returns-clause-cause g c = cause_since c.flush_pairs-flushed.result (faults_under c.args.core.now)
+    (faults_under c.flush_pairs-flushed.new.core) (faults_under c.sweep.new.core)
+    (g.F.Port.Counted.faults c.args.port.now) (g.F.Port.Counted.faults c.flush_pairs-flushed.new.port)
+    (g.F.Port.Counted.faults c.sweep.new.port) (next_of c.flush_pairs-flushed.new.core) (next_of c.sweep.new.core)
+    (no_less_swept c.flush_pairs-flushed.new.core c.sweep.new.core c.sweep.ensures.listed) c.sweep.ensures.later
+    c.sweep.ensures.listed.next c.flush_pairs-flushed.ensures.cause
