@@ -11,7 +11,6 @@ use Rattle.tsdb_serving.specs.InputRuns.{InputRuns}
 use Rattle.tsdb_serving.specs.Beginnings.{IsBeginAnswer}
 use Rattle.tsdb_serving.specs.Core.{files_of, next_of}
 use Rattle.tsdb_serving.specs.Replacements.{EndsFiles, TellsNew}
-use Rattle.tsdb_serving.specs.Sweeps.{IsSwept}
 use Rattle.tsdb_serving.specs.CoreFault.{CoreFault}
 use Rattle.tsdb_serving.specs.TheVariants as core_fault
 use Rattle.tsdb_serving.specs.CoreType.{Core}
@@ -24,8 +23,7 @@ use Rattle.tsdb_outside.specs.Causes.{HasStoreCause}
 use Rattle.tsdb_outside.specs.Files.{NamedFile, Store, Tells}
 use Rattle.tsdb_outside.specs.declared.disk.Disk as disk
 use Rattle.tsdb_outside.specs.declared.faults.Counted as counted
-use Rattle.tsdb_outside.specs.declared.faults.Failed.{Failed}
-use Rattle.tsdb_rewriting.specs.Rewriting.{IsFinished, KeepsBoth}
+use Rattle.tsdb_rewriting.specs.Rewriting.{IsFinished}
 use Rattle.tsdb_serving.specs.Faults.{of_core_fault, of_file_fault}
 use Rattle.tsdb_serving.specs.declared.fault.FlushFault.{FlushFault}
 use Rattle.tsdb_serving.specs.declared.fault.FlushFault.TheVariants as fault
@@ -180,32 +178,19 @@ counter_of_cross IsPlan next Order result (core_fault.Full number) is disorder a
     (λ not. full_is_no_memory result number is (disorder not)) answer counter same
 
 module _ {J F S R P : Type 0} {means : disk.Ghosts J} {counts : counted.Ghosts J} where
-  -- a sweep leaves both lists
-  pub swept_lists : (old new : Core J F S R P means counts) (outcome : Result ℕ Failed) → IsSwept old new outcome
-      → KeepsBoth (files_of old) (files_of new)
-  swept_lists old new (Ok count) sweeps = record {
-    sequence = sweeps.all.left.sequence;
-    unsequence = sweeps.all.left.unsequence;
-  }
-  swept_lists old new (Err failure) sweeps = record {
-    sequence = sweeps.stopped.1.left.sequence;
-    unsequence = sweeps.stopped.1.left.unsequence;
-  }
-
-  -- a commit that is done has replaced the files of the job, and a sweep leaves that
-  pub finished : (old mid new : Core J F S R P means counts) (job : Job F S R P) (file : Option NewFile)
+  -- a commit that is done has replaced the files of the job
+  pub finished : (old new : Core J F S R P means counts) (job : Job F S R P) (file : Option NewFile)
       → (runs : InputRuns) → AreRunsOf job runs (files_of old)
       → IfSome file (λ one. one.entry.number.0 ≡ job.output.0)
-      → EndsFiles job runs file (files_of old) (files_of mid) (Ok tt)
-      → KeepsBoth (files_of mid) (files_of new) → IsFinished job old new
-  finished old mid new job file runs stand numbered ends keeps = (
+      → EndsFiles job runs file (files_of old) (files_of new) (Ok tt) → IsFinished job old new
+  finished old new job file runs stand numbered ends = (
     runs,
     stand,
     record {
       output = option_map (λ one. one.entry) file;
       numbered = number_of file numbered;
-      sequence = keeps.sequence ∙ ends.lists.sequence_is;
-      unsequence = keeps.unsequence ∙ ends.lists.unsequence_is;
+      sequence = ends.lists.sequence_is;
+      unsequence = ends.lists.unsequence_is;
     },
   )
     where

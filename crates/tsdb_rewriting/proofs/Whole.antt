@@ -1,12 +1,15 @@
 -- What a compaction leaves as a whole.
-use Rattle.std.proofs.Common.{◌≡◌, ◌≢◌, ◌⊎◌, ℕ, ◌+◌, ◌<◌, Option, None, Result, Ok, Err, inl, inr, sym, ◌∙◌}
+use Rattle.std.proofs.Common.{◌≡◌, ◌≢◌, ◌⊎◌, ℕ, ◌+◌, ◌<◌, ◌≤◌, Option, None, Result, Ok, Err, inl, inr, subst, sym, ◌∙◌}
 use Rattle.std.specs.Prelude.{IfErr, OnOk}
 use Rattle.tsdb_base.specs.declared.ids.Space.{Space}
 use Rattle.tsdb_serving.specs.InputRuns.{InputRuns}
 use Rattle.tsdb_compactions.specs.declared.job.Job.{Job}
 use Rattle.tsdb_serving.proofs.Beginnings.{Fit}
 use Rattle.tsdb_serving.specs.Beginnings.{IsBegun}
-use Rattle.tsdb_serving.specs.Core.{files_of}
+use Rattle.tsdb_base.specs.Causes.{Rose}
+use Rattle.tsdb_serving.proofs.Causes.{rose_on}
+use Rattle.tsdb_serving.proofs.Swept.{no_less_swept}
+use Rattle.tsdb_serving.specs.Core.{files_of, next_of}
 use Rattle.tsdb_serving.specs.CoreFault.{CoreFault}
 use Rattle.tsdb_serving.specs.CoreType.{Core}
 use Rattle.tsdb_fileset.specs.Files.{AreKept}
@@ -14,7 +17,9 @@ use Rattle.tsdb_outside.specs.Files.{NamedFile}
 use Rattle.tsdb_outside.specs.declared.disk.Disk as disk
 use Rattle.tsdb_outside.specs.declared.faults.Counted as counted
 use Rattle.tsdb_rewriting.proofs.Listed.{replaced_by}
-use Rattle.tsdb_rewriting.specs.Rewriting.{IsCompacted, IsFinished, KeepsBoth}
+use Rattle.tsdb_rewriting.specs.Rewriting.{IsCompacted, IsFinished}
+use Rattle.tsdb_serving.specs.Flushing.{faults_under}
+use Rattle.tsdb_serving.specs.Sweeping.{KeepsListed}
 use Rattle.tsdb_serving.specs.declared.fault.FlushFault.{FlushFault}
 use Rattle.tsdb_serving.specs.declared.fault.FlushFault.TheVariants as fault
 use Rattle.tsdb_base.specs.Limits.{end_of_numbers}
@@ -28,14 +33,55 @@ module _ {J F S R P : Type 0} {means : disk.Ghosts J} {counts : counted.Ghosts J
       inl (runs, plan, replaced_by name space runs old mid job begun fit kept new finished)
   compacted IsPlan space runs old mid new job (Err why) plan begun fit kept finished = tt
 
-pub keeps_on : {J F S R P : Type 0} {means : disk.Ghosts J} {counts : counted.Ghosts J}
-    (old mid new : Core J F S R P means counts) → (files_of mid).sequence ≡ (files_of old).sequence
-    → (files_of mid).unsequence ≡ (files_of old).unsequence → KeepsBoth (files_of mid) (files_of new)
-    → KeepsBoth (files_of old) (files_of new)
-keeps_on old mid new early late keeps = record {
-  sequence = keeps.sequence ∙ early;
-  unsequence = keeps.unsequence ∙ late;
-}
+-- ---- a compaction, and then a sweep
+
+module _ {J F S R P : Type 0} {means : disk.Ghosts J} {counts : counted.Ghosts J} where
+  module _ (IsPlan : InputRuns → Type 0) (space : Space) (old mid new : Core J F S R P means counts)
+      (keeps : KeepsListed mid new) where
+    on : IsCompacted IsPlan space old mid → IsCompacted IsPlan space old new
+    on (inl (runs, plan, by)) = inl (
+      runs,
+      plan,
+      record {
+        output = by.output;
+        numbered = by.numbered;
+        sequence = keeps.sequence ∙ by.sequence;
+        unsequence = keeps.unsequence ∙ by.unsequence;
+      },
+    )
+    on (inr (none, both)) = inr (
+      none,
+      record {
+        sequence = keeps.sequence ∙ both.sequence;
+        unsequence = keeps.unsequence ∙ both.unsequence;
+      },
+    )
+
+    pub compacted_swept : (result : Result (Unit {0}) FlushFault) → OnOk result (IsCompacted IsPlan space old mid)
+        → OnOk result (IsCompacted IsPlan space old new)
+    compacted_swept (Ok value) compacted = on compacted
+    compacted_swept (Err why) compacted = tt
+
+  -- a count that has risen has risen since
+  pub cause_swept : (old mid new : Core J F S R P means counts) → KeepsListed mid new → (before now later : ℕ)
+      → now ≤ later → (result : Result (Unit {0}) FlushFault)
+      → IfErr result (λ why. why ≡ fault.Device → Rose (faults_under old) (faults_under mid) ⊎ Rose before now)
+      → IfErr result (λ why. why ≡ fault.Device → Rose (faults_under old) (faults_under new) ⊎ Rose before later)
+  cause_swept old mid new keeps before now later less (Ok value) cause = tt
+  cause_swept old mid new keeps before now later less (Err why) cause = λ is. by (cause is)
+    where
+      by : Rose (faults_under old) (faults_under mid) ⊎ Rose before now
+          → Rose (faults_under old) (faults_under new) ⊎ Rose before later
+      by (inl rose) = inl (rose_on (faults_under old) (faults_under mid) (faults_under new) rose
+          (no_less_swept mid new keeps))
+      by (inr rose) = inr (rose_on before now later rose less)
+
+  pub counter_swept : (mid new : Core J F S R P means counts) → KeepsListed mid new
+      → (result : Result (Unit {0}) FlushFault)
+      → IfErr result (λ why. (counter : ℕ) → why ≡ fault.Full counter → counter ≡ next_of mid)
+      → IfErr result (λ why. (counter : ℕ) → why ≡ fault.Full counter → counter ≡ next_of new)
+  counter_swept mid new keeps result = subst (λ next. IfErr result
+      (λ why. (counter : ℕ) → why ≡ fault.Full counter → counter ≡ next)) (sym keeps.next)
 
 -- no number was asked for
 pub no_full : (result : Result (Unit {0}) FlushFault) → IfErr result (λ why. (counter : ℕ) → why ≢ fault.Full counter)

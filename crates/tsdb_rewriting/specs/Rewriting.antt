@@ -5,6 +5,7 @@ use Rattle.tsdb_base.specs.declared.ids.Space.TheVariants.{Sequence, Unsequence}
 use Rattle.tsdb_serving.specs.Inputs.{input_numbers}
 use Rattle.tsdb_serving.specs.Finishing.{AreRunsOf}
 use Rattle.tsdb_serving.specs.InputRuns.{InputRuns}
+use Rattle.tsdb_compactions.specs.Built.{Built}
 use Rattle.tsdb_compactions.specs.Jobs.{IsCompactionOf}
 use Rattle.tsdb_compactions.specs.Outputs.{TellsInputs}
 use Rattle.tsdb_compactions.specs.declared.job.Job.{Job}
@@ -39,6 +40,10 @@ pub record IsReplacedBy (number : ℕ) (space : Space) (runs : InputRuns) (old n
 pub record KeepsBoth (old new : KeptFiles) : Type 0 where
   pub sequence : new.sequence ≡ old.sequence
   pub unsequence : new.unsequence ≡ old.unsequence
+
+-- the output of a job, where there is one, is in the store
+abbrev pub IsOfStore : {F S R P : Type 0} → (S → NamedFile) → Store → Option (Built F S R P) → Type 0
+IsOfStore file store output = IfSome output (λ built. (file built.sealed).store ≡ store)
 
 module _ {J F S R P : Type 0} {means : disk.Ghosts J} {counts : counted.Ghosts J} where
   -- The files of a plan were replaced by one with the next number, or by none; or there is no plan, and the lists are as

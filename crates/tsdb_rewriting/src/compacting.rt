@@ -1,7 +1,7 @@
 //! A compaction: the files of a plan become one. Depends on tsdb_core, tsdb_inner and tsdb_serving.
 ghost use Rattle.std.specs.List.{AllByRecursion as Each};
 ghost use Rattle.std.specs.Option.{option_map};
-ghost use Rattle.std.specs.Prelude.{◌≡◌, ◌≢◌, ◌⊎◌, ◌≤◌, ◌<◌, ◌+◌, ℕ, IfErr, IfOk, IfSome, OnOk};
+ghost use Rattle.std.specs.Prelude.{◌≡◌, ◌≢◌, ◌⊎◌, ◌≤◌, ◌<◌, ◌+◌, ℕ, IfErr, IfOk, OnOk};
 ghost use Rattle.tsdb_base.specs.declared.ids.Space.TheVariants.{Sequence as SequenceSpace};
 ghost use Rattle.tsdb_serving.specs.TasksFiles.{new_file};
 ghost use Rattle.tsdb_compactions.specs.Jobs.{IsFormed};
@@ -14,9 +14,11 @@ ghost use Rattle.tsdb_inner.specs.Inputs.{IsInputOf};
 ghost use Rattle.tsdb_fileset.specs.Files.{AreKept};
 ghost use Rattle.tsdb_base.specs.Causes.{Rose};
 ghost use Rattle.tsdb_outside.specs.Causes.{HasStoreCause};
-ghost use Rattle.tsdb_rewriting.specs.Rewriting.{EndsRewrite, IsCompacted, IsFinished, IsRewriting, KeepsBoth};
+ghost use Rattle.tsdb_outside.specs.Files.{Store};
+ghost use Rattle.tsdb_rewriting.specs.Rewriting.{EndsRewrite, IsCompacted, IsFinished, IsOfStore, IsRewriting};
 ghost use Rattle.tsdb_serving.specs.Flushing.{GoesOn, IsReady, faults_under};
 ghost use Rattle.tsdb_serving.specs.Serving.{IsSure};
+ghost use Rattle.tsdb_serving.specs.Sweeping.{LeavesNothing};
 ghost use Rattle.tsdb_serving.specs.declared.fault.FlushFault.{FlushFault as FaultOf};
 ghost use Rattle.tsdb_base.specs.Limits.{end_of_numbers};
 ghost use Rattle.tsdb_state.specs.State.{Told};
@@ -26,12 +28,40 @@ use tsdb_base::Space;
 use tsdb_compactions::{Built, Job};
 use tsdb_inner::{run_cross, run_inner};
 use tsdb_outside::{Failed, Files, Journal, Port, StoreFault};
-use tsdb_serving::{Core, FlushFault};
+use tsdb_serving::{Core, FlushFault, sweep};
 
-/// Replaces the files of the inner plan of a list by one, where there is a plan, and removes files on their way out.
+/// Replaces the files of the inner plan of a list by one, where there is a plan, and removes files on their way out,
+/// whatever it returns.
 ///
 /// A job that cannot be run is given up, and a file that cannot be removed is passed over.
 pub fn compact_inner<J: Journal, F: Files>(
+    alloc: Global,
+    core: &mut Core<J, F>,
+    port: &mut F::Port,
+    space: Space,
+) -> Result<(), FlushFault>
+    requires ready { IsReady (F.Port.store port.old) core.old }
+    ensures compacted { OnOk result (IsCompacted (IsInnerRuns space core.old) space core.old core.new) }
+    ensures swept { LeavesNothing (F.Port.faults port.old) (F.Port.faults port.new) core.new }
+    ensures goes_on { GoesOn (F.Port.store port.old) core.old core.new }
+    ensures same_store { F.Port.store port.new ≡ F.Port.store port.old }
+    ensures cause { IsSure (F.Port.store port.old) core.old → IfErr result (λ fault. fault ≡ FaultOf.Device
+        → Rose (faults_under core.old) (faults_under core.new)
+        ⊎ Rose (F.Port.faults port.old) (F.Port.faults port.new)) }
+    ensures full { IfErr result (λ fault. (counter : ℕ) → fault ≡ FaultOf.Full counter
+        → end_of_numbers < counter + 2) }
+    ensures draws { next_of core.new ≤ next_of core.old + 1 }
+    ensures counter { IfErr result (λ fault. (counter : ℕ) → fault ≡ FaultOf.Full counter
+        → counter ≡ next_of core.new) }
+    ensures later { F.Port.faults port.old ≤ F.Port.faults port.new }
+{
+    let compacted = replace_inner(alloc, core, port, space);
+    sweep(core, port);
+    compacted
+}
+
+/// Replaces the files of the inner plan of a list by one, where there is a plan.
+fn replace_inner<J: Journal, F: Files>(
     alloc: Global,
     core: &mut Core<J, F>,
     port: &mut F::Port,
@@ -53,16 +83,39 @@ pub fn compact_inner<J: Journal, F: Files>(
 {
     match core.begin_inner(space) {
         Ok(Some(job)) => rewrite(alloc, core, port, Kind::Inner, job),
-        Ok(None) => {
-            sweep(core, port);
-            Ok(())
-        }
+        Ok(None) => Ok(()),
         Err(fault) => Err(FlushFault::of_core(fault)),
     }
 }
 
 /// Replaces the files of the cross plan by one, where there is a plan, as `compact_inner` does those of an inner one.
 pub fn compact_cross<J: Journal, F: Files>(
+    alloc: Global,
+    core: &mut Core<J, F>,
+    port: &mut F::Port,
+) -> Result<(), FlushFault>
+    requires ready { IsReady (F.Port.store port.old) core.old }
+    ensures compacted { OnOk result (IsCompacted (IsCrossRuns core.old) SequenceSpace core.old core.new) }
+    ensures swept { LeavesNothing (F.Port.faults port.old) (F.Port.faults port.new) core.new }
+    ensures goes_on { GoesOn (F.Port.store port.old) core.old core.new }
+    ensures same_store { F.Port.store port.new ≡ F.Port.store port.old }
+    ensures cause { IsSure (F.Port.store port.old) core.old → IfErr result (λ fault. fault ≡ FaultOf.Device
+        → Rose (faults_under core.old) (faults_under core.new)
+        ⊎ Rose (F.Port.faults port.old) (F.Port.faults port.new)) }
+    ensures full { IfErr result (λ fault. (counter : ℕ) → fault ≡ FaultOf.Full counter
+        → end_of_numbers < counter + 2) }
+    ensures draws { next_of core.new ≤ next_of core.old + 1 }
+    ensures counter { IfErr result (λ fault. (counter : ℕ) → fault ≡ FaultOf.Full counter
+        → counter ≡ next_of core.new) }
+    ensures later { F.Port.faults port.old ≤ F.Port.faults port.new }
+{
+    let compacted = replace_cross(alloc, core, port);
+    sweep(core, port);
+    compacted
+}
+
+/// Replaces the files of the cross plan by one, where there is a plan.
+fn replace_cross<J: Journal, F: Files>(
     alloc: Global,
     core: &mut Core<J, F>,
     port: &mut F::Port,
@@ -83,10 +136,7 @@ pub fn compact_cross<J: Journal, F: Files>(
 {
     match core.begin_cross() {
         Ok(Some(job)) => rewrite(alloc, core, port, Kind::Cross, job),
-        Ok(None) => {
-            sweep(core, port);
-            Ok(())
-        }
+        Ok(None) => Ok(()),
         Err(fault) => Err(FlushFault::of_core(fault)),
     }
 }
@@ -96,18 +146,6 @@ pub fn compact_cross<J: Journal, F: Files>(
 enum Kind {
     Inner,
     Cross,
-}
-
-/// Removes files on their way out. One that cannot be removed is passed over.
-fn sweep<J: Journal, F: Files>(core: &mut Core<J, F>, port: &mut F::Port)
-    requires ready { IsReady (F.Port.store port.old) core.old }
-    ensures goes_on { GoesOn (F.Port.store port.old) core.old core.new }
-    ensures draws { next_of core.new ≡ next_of core.old }
-    ensures lists { KeepsBoth (files_of core.old) (files_of core.new) }
-    ensures same_store { F.Port.store port.new ≡ F.Port.store port.old }
-    ensures later { F.Port.faults port.old ≤ F.Port.faults port.new }
-{
-    let _ = core.sweep(port);
 }
 
 /// Writes the output of the only job that is out, and lists it; or gives the job up, where it cannot be written.
@@ -131,9 +169,9 @@ fn rewrite<J: Journal, F: Files>(
 {
     tell_kept(core);
     match run(alloc, kind, &job, port) {
-        Ok(output) => commit(core, port, job, output),
+        Ok(output) => commit(core, job, output),
         Err(fault) => {
-            give_up(core, port, job);
+            give_up(core, job);
             Err(FlushFault::of_file(fault))
         }
     }
@@ -156,8 +194,7 @@ fn run<F: Files>(
     requires formed { IsFormed job.now }
     requires of_store { Each (IsInputOf F.Right.file (F.Port.store port.old)) job.now.inputs }
     ensures output { IfOk result (IsOutputOf F.Right.file F.Sealed.file F.Sealed.rights job.now) }
-    ensures of_store { IfOk result (λ output. IfSome output (λ built.
-        (F.Sealed.file built.sealed).store ≡ F.Port.store port.old)) }
+    ensures of_store { IfOk result (IsOfStore F.Sealed.file (F.Port.store port.old)) }
     ensures cause { (told : Told) → TellsTruth F.Right.file told job.now
         → HasStoreCause (F.Port.faults port.old) (F.Port.faults port.new) result }
     ensures later { F.Port.faults port.old ≤ F.Port.faults port.new }
@@ -169,26 +206,21 @@ fn run<F: Files>(
     }
 }
 
-/// Lists the output of the only job that is out. Then files on their way out are removed.
+/// Lists the output of the only job that is out.
 fn commit<J: Journal, F: Files>(
     core: &mut Core<J, F>,
-    port: &mut F::Port,
     job: Job<F>,
     output: Option<Built<F>>,
 ) -> Result<(), FlushFault>
-    requires rewriting { IsRewriting F.Right.file (F.Port.store port.old) core.old job }
+    requires rewriting { (store : Store) × IsRewriting F.Right.file store core.old job × IsOfStore F.Sealed.file store output }
     requires output { IsOutputOf F.Right.file F.Sealed.file F.Sealed.rights job output }
-    requires of_store { IfSome output (λ built. (F.Sealed.file built.sealed).store ≡ F.Port.store port.old) }
     ensures finished { OnOk result (IsFinished job core.old core.new) }
-    ensures ends { EndsRewrite F.Right.file (F.Port.store port.old) core.old core.new job }
-    ensures same_store { F.Port.store port.new ≡ F.Port.store port.old }
+    ensures ends { (store : Store) → IsRewriting F.Right.file store core.old job → IsOfStore F.Sealed.file store output
+        → EndsRewrite F.Right.file store core.old core.new job }
     ensures cause { IfErr result (λ fault. (fault ≡ FaultOf.Device)
         × Rose (faults_under core.old) (faults_under core.new)) }
-    ensures later { F.Port.faults port.old ≤ F.Port.faults port.new }
 {
-    let committed = list(core, job, output);
-    let _ = core.sweep(port);
-    match committed {
+    match list(core, job, output) {
         Ok(()) => Ok(()),
         Err(Failed) => Err(FlushFault::Device),
     }
@@ -211,13 +243,11 @@ fn list<J: Journal, F: Files>(
     }
 }
 
-/// Gives the only job that is out up. Then files on their way out are removed.
-fn give_up<J: Journal, F: Files>(core: &mut Core<J, F>, port: &mut F::Port, job: Job<F>)
-    requires rewriting { IsRewriting F.Right.file (F.Port.store port.old) core.old job }
-    ensures ends { EndsRewrite F.Right.file (F.Port.store port.old) core.old core.new job }
-    ensures same_store { F.Port.store port.new ≡ F.Port.store port.old }
-    ensures later { F.Port.faults port.old ≤ F.Port.faults port.new }
+/// Gives the only job that is out up.
+fn give_up<J: Journal, F: Files>(core: &mut Core<J, F>, job: Job<F>)
+    requires rewriting { (store : Store) × IsRewriting F.Right.file store core.old job }
+    ensures ends { (store : Store) → IsRewriting F.Right.file store core.old job
+        → EndsRewrite F.Right.file store core.old core.new job }
 {
     core.abandon(job, None);
-    let _ = core.sweep(port);
 }

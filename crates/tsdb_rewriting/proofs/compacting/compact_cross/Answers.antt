@@ -1,118 +1,40 @@
-use Rattle.std.proofs.Common.{◌≡◌, Ok, ap, arith, inl, inr, refl, subst, sym, ◌∙◌}
+use Rattle.std.proofs.Common.{arith, subst, sym}
 use Rattle.tsdb_base.specs.declared.ids.Space.TheVariants.{Sequence}
-use Rattle.tsdb_serving.proofs.Beginnings.{plan_fits}
-use Rattle.tsdb_serving.specs.Beginnings.{HaveHulls, IsBeginAnswer, IsBegunOrNot, IsCrossRuns, IsInnerRuns}
-use Rattle.tsdb_serving.specs.Core.{next_of}
-use Rattle.tsdb_serving.specs.TheVariants.{Memory as NoMemory}
-use Rattle.tsdb_rewriting.proofs.Begun.{cause_of, not_begun, rewritten, sure_truth}
-use Rattle.tsdb_rewriting.proofs.Outputs.{counter_of_cross, full_of_cross, not_device}
-use Rattle.tsdb_rewriting.proofs.Ready.{is_rewriting}
-use Rattle.tsdb_rewriting.proofs.Whole.{compacted, keeps_on, no_counter, no_full, no_plan}
-use Rattle.tsdb_serving.proofs.Flushes.{and_then}
-use Rattle.tsdb_serving.specs.declared.fault.FlushFault.TheVariants as fault
+use Rattle.tsdb_serving.specs.Beginnings.{IsCrossRuns}
+use Rattle.tsdb_rewriting.proofs.Whole.{cause_swept, compacted_swept, counter_swept}
+use Rattle.tsdb_serving.proofs.Swept.{goes_on_swept, nothing_since}
+use Rattle.tsdb_serving.specs.Flushing.{IsReady}
 use Rattle.tsdb_rewriting.proofs.compacting.compact_cross.Goals as goal
 
-pub rewrite-requires-clause-rewriting : goal.rewrite-requires-clause-rewriting
-rewrite-requires-clause-rewriting g c = λ lifetimes lives.
-    let begun = subst (IsBegunOrNot g.F.Right.ReadRight.file Sequence (IsCrossRuns c.args.core.now) c.args.core.now c.begin_cross.new.self)
-    (c.in-Ok-Some.is ∙ ap Ok c.in-Ok-Some.field-0-is) c.begin_cross.ensures.begun in
-    is_rewriting g.F.Right.ReadRight.file (g.F.Port.Port.store c.args.port.now) Sequence begun.0 c.args.core.now c.begin_cross.new.self
-    c.in-Ok-Some.job begun.2 c.requires.ready
-
-pub returns-in-Ok-Some-clause-compacted : goal.returns-in-Ok-Some-clause-compacted
-returns-in-Ok-Some-clause-compacted g c =
-    let begun = subst (IsBegunOrNot g.F.Right.ReadRight.file Sequence (IsCrossRuns c.args.core.now) c.args.core.now c.begin_cross.new.self)
-    (c.in-Ok-Some.is ∙ ap Ok c.in-Ok-Some.field-0-is) c.begin_cross.ensures.begun in
-    compacted g.F.Right.ReadRight.file (IsCrossRuns c.args.core.now) Sequence begun.0 c.args.core.now c.begin_cross.new.self
-    c.rewrite.new.core c.in-Ok-Some.job c.rewrite.result begun.1 begun.2
-    (plan_fits Sequence c.args.core.now begun.0 (inr (refl, begun.1))) c.rewrite.ensures.kept c.rewrite.ensures.finished
-
-pub returns-in-Ok-Some-clause-goes_on : goal.returns-in-Ok-Some-clause-goes_on
-returns-in-Ok-Some-clause-goes_on g c =
-    let begun = subst (IsBegunOrNot g.F.Right.ReadRight.file Sequence (IsCrossRuns c.args.core.now) c.args.core.now c.begin_cross.new.self)
-    (c.in-Ok-Some.is ∙ ap Ok c.in-Ok-Some.field-0-is) c.begin_cross.ensures.begun in
-    rewritten g.F.Right.ReadRight.file (g.F.Port.Port.store c.args.port.now) Sequence begun.0 c.args.core.now c.begin_cross.new.self
-    c.in-Ok-Some.job begun.2 c.requires.ready c.rewrite.new.core c.rewrite.ensures.ends g.F.Right.ReadRight.tells
-
-pub returns-in-Ok-Some-clause-cause : goal.returns-in-Ok-Some-clause-cause
-returns-in-Ok-Some-clause-cause g c = λ sure.
-    let begun = subst (IsBegunOrNot g.F.Right.ReadRight.file Sequence (IsCrossRuns c.args.core.now) c.args.core.now c.begin_cross.new.self)
-    (c.in-Ok-Some.is ∙ ap Ok c.in-Ok-Some.field-0-is) c.begin_cross.ensures.begun in
-    let told = sure_truth g.F.Right.ReadRight.file (g.F.Port.Port.store c.args.port.now) Sequence begun.0 c.args.core.now
-    c.begin_cross.new.self c.in-Ok-Some.job begun.2 c.requires.ready g.F.Right.ReadRight.tells sure in
-    cause_of g.F.Right.ReadRight.file (g.F.Port.Port.store c.args.port.now) Sequence begun.0 c.args.core.now c.begin_cross.new.self
-    c.in-Ok-Some.job begun.2 c.requires.ready c.rewrite.result (λ why. why ≡ fault.Device) _ _ _
-    (c.rewrite.ensures.cause told.0 told.1)
-
-pub returns-in-Ok-Some-clause-full : goal.returns-in-Ok-Some-clause-full
-returns-in-Ok-Some-clause-full g c = no_full c.rewrite.result c.rewrite.ensures.full
-
 pub sweep-requires-clause-ready : goal.sweep-requires-clause-ready
-sweep-requires-clause-ready g c = λ lifetimes lives. (not_begun g.J.Disk.lawful (g.F.Port.Port.store c.args.port.now)
-    c.args.core.now c.begin_cross.new.self (subst (IsBegunOrNot g.F.Right.ReadRight.file Sequence (IsCrossRuns c.args.core.now) c.args.core.now c.begin_cross.new.self)
-    (c.in-Ok-None.is ∙ ap Ok c.in-Ok-None.field-0-is) c.begin_cross.ensures.begun) c.requires.ready).ready
+sweep-requires-clause-ready g c = λ lifetimes lives. subst (λ store. IsReady store c.replace_cross-compacted.new.core)
+    (sym c.replace_cross-compacted.ensures.same_store) c.replace_cross-compacted.ensures.goes_on.ready
 
-pub returns-in-Ok-None-clause-compacted : goal.returns-in-Ok-None-clause-compacted
-returns-in-Ok-None-clause-compacted g c =
-    let not = subst (IsBegunOrNot g.F.Right.ReadRight.file Sequence (IsCrossRuns c.args.core.now) c.args.core.now c.begin_cross.new.self)
-    (c.in-Ok-None.is ∙ ap Ok c.in-Ok-None.field-0-is) c.begin_cross.ensures.begun in
-    inr (
-      λ runs. no_plan c.begin_cross.result NoMemory (HaveHulls c.args.core.now) (IsCrossRuns c.args.core.now runs)
-          (c.in-Ok-None.is ∙ ap Ok c.in-Ok-None.field-0-is) c.begin_cross.ensures.disorder
-          (λ order. subst (IsBeginAnswer (IsCrossRuns c.args.core.now) (next_of c.args.core.now))
-          (c.in-Ok-None.is ∙ ap Ok c.in-Ok-None.field-0-is) (c.begin_cross.ensures.answer order) runs),
-      keeps_on c.args.core.now c.begin_cross.new.self c.sweep.new.core not.lists.sequence not.lists.unsequence
-          c.sweep.ensures.lists,
-    )
+pub returns-clause-compacted : goal.returns-clause-compacted
+returns-clause-compacted g c = compacted_swept (IsCrossRuns c.args.core.now) Sequence c.args.core.now c.replace_cross-compacted.new.core
+    c.sweep.new.core c.sweep.ensures.listed c.replace_cross-compacted.result c.replace_cross-compacted.ensures.compacted
 
-pub returns-in-Ok-None-clause-goes_on : goal.returns-in-Ok-None-clause-goes_on
-returns-in-Ok-None-clause-goes_on g c =
-    let not = subst (IsBegunOrNot g.F.Right.ReadRight.file Sequence (IsCrossRuns c.args.core.now) c.args.core.now c.begin_cross.new.self)
-    (c.in-Ok-None.is ∙ ap Ok c.in-Ok-None.field-0-is) c.begin_cross.ensures.begun in
-    and_then g.J.Disk.lawful (g.F.Port.Port.store c.args.port.now) c.args.core.now c.begin_cross.new.self c.sweep.new.core
-    (not_begun g.J.Disk.lawful (g.F.Port.Port.store c.args.port.now) c.args.core.now c.begin_cross.new.self not c.requires.ready)
-    c.sweep.ensures.goes_on
+pub returns-clause-swept : goal.returns-clause-swept
+returns-clause-swept g c = nothing_since (g.F.Port.Counted.faults c.args.port.now)
+    (g.F.Port.Counted.faults c.replace_cross-compacted.new.port) (g.F.Port.Counted.faults c.sweep.new.port) c.sweep.new.core
+    c.replace_cross-compacted.ensures.later c.sweep.ensures.swept
 
-pub returns-in-Err-clause-goes_on : goal.returns-in-Err-clause-goes_on
-returns-in-Err-clause-goes_on g c = not_begun g.J.Disk.lawful (g.F.Port.Port.store c.args.port.now) c.args.core.now
-    c.begin_cross.new.self (subst (IsBegunOrNot g.F.Right.ReadRight.file Sequence (IsCrossRuns c.args.core.now) c.args.core.now c.begin_cross.new.self)
-    c.in-Err.is c.begin_cross.ensures.begun) c.requires.ready
+pub returns-clause-goes_on : goal.returns-clause-goes_on
+returns-clause-goes_on g c = goes_on_swept c.args.core.now c.replace_cross-compacted.new.core c.sweep.new.core
+    c.sweep.ensures.listed (g.F.Port.Port.store c.args.port.now) c.replace_cross-compacted.ensures.goes_on
+    (subst (λ store. IsReady store c.sweep.new.core) c.replace_cross-compacted.ensures.same_store c.sweep.ensures.ready)
 
-pub returns-in-Err-clause-cause : goal.returns-in-Err-clause-cause
-returns-in-Err-clause-cause g c = λ sure is. absurd (not_device c.in-Err.fault (sym c.of_core.ensures ∙ is))
+pub returns-clause-cause : goal.returns-clause-cause
+returns-clause-cause g c = λ sure. cause_swept c.args.core.now c.replace_cross-compacted.new.core c.sweep.new.core c.sweep.ensures.listed
+    (g.F.Port.Counted.faults c.args.port.now) (g.F.Port.Counted.faults c.replace_cross-compacted.new.port)
+    (g.F.Port.Counted.faults c.sweep.new.port) c.sweep.ensures.later c.replace_cross-compacted.result (c.replace_cross-compacted.ensures.cause sure)
 
-pub returns-in-Err-clause-full : goal.returns-in-Err-clause-full
-returns-in-Err-clause-full g c = λ counter is. full_of_cross (IsCrossRuns c.args.core.now) (next_of c.args.core.now) (HaveHulls c.args.core.now) c.begin_cross.result c.in-Err.fault c.in-Err.is
-    c.begin_cross.ensures.disorder c.begin_cross.ensures.answer counter (sym c.of_core.ensures ∙ is)
+pub returns-clause-draws : goal.returns-clause-draws
+returns-clause-draws g c =
+    let part = c.replace_cross-compacted.ensures.draws in
+    let same = c.sweep.ensures.listed.next in
+    omega (arith, part, same)
 
-pub returns-in-Ok-Some-clause-draws : goal.returns-in-Ok-Some-clause-draws
-returns-in-Ok-Some-clause-draws g c =
-    let begun = subst (IsBegunOrNot g.F.Right.ReadRight.file Sequence (IsCrossRuns c.args.core.now) c.args.core.now c.begin_cross.new.self)
-    (c.in-Ok-Some.is ∙ ap Ok c.in-Ok-Some.field-0-is) c.begin_cross.ensures.begun in
-    let drawn = begun.2.next in
-    let ends = c.rewrite.ensures.ends.next in
-    omega (arith, drawn, ends)
-
-pub returns-in-Ok-Some-clause-counter : goal.returns-in-Ok-Some-clause-counter
-returns-in-Ok-Some-clause-counter g c = no_counter c.rewrite.result (next_of c.rewrite.new.core) c.rewrite.ensures.full
-
-pub returns-in-Ok-None-clause-draws : goal.returns-in-Ok-None-clause-draws
-returns-in-Ok-None-clause-draws g c =
-    let not = subst (IsBegunOrNot g.F.Right.ReadRight.file Sequence (IsCrossRuns c.args.core.now) c.args.core.now c.begin_cross.new.self)
-    (c.in-Ok-None.is ∙ ap Ok c.in-Ok-None.field-0-is) c.begin_cross.ensures.begun in
-    let same = not.same.next in
-    let swept = c.sweep.ensures.draws in
-    omega (arith, same, swept)
-
-pub returns-in-Err-clause-draws : goal.returns-in-Err-clause-draws
-returns-in-Err-clause-draws g c =
-    let not = subst (IsBegunOrNot g.F.Right.ReadRight.file Sequence (IsCrossRuns c.args.core.now) c.args.core.now c.begin_cross.new.self) c.in-Err.is c.begin_cross.ensures.begun in
-    let same = not.same.next in
-    omega (arith, same)
-
-pub returns-in-Err-clause-counter : goal.returns-in-Err-clause-counter
-returns-in-Err-clause-counter g c = λ counter is.
-    let not = subst (IsBegunOrNot g.F.Right.ReadRight.file Sequence (IsCrossRuns c.args.core.now) c.args.core.now c.begin_cross.new.self) c.in-Err.is c.begin_cross.ensures.begun in
-    counter_of_cross (IsCrossRuns c.args.core.now) (next_of c.args.core.now) (HaveHulls c.args.core.now) c.begin_cross.result c.in-Err.fault
-    c.in-Err.is c.begin_cross.ensures.disorder c.begin_cross.ensures.answer counter (sym c.of_core.ensures ∙ is)
-    ∙ sym not.same.next
+pub returns-clause-counter : goal.returns-clause-counter
+returns-clause-counter g c = counter_swept c.replace_cross-compacted.new.core c.sweep.new.core c.sweep.ensures.listed c.replace_cross-compacted.result
+    c.replace_cross-compacted.ensures.counter
