@@ -4,8 +4,8 @@
 //!
 //! A course is a compaction under a pin, with steps before it, while it is out, and behind it, and maybe a second
 //! compaction that begins while it is out and ends behind it. `calls` and `jobs` are the calls of a core, `course`
-//! leads a core through a course, and `cases` has the courses. `served` is a core that serves commands, and
-//! `served_cases` asks it.
+//! leads a core through a course, and `cases` has the courses. `served` is a core that serves commands, `served_cases`
+//! asks it, and `stored` looks which files are stored.
 #![tactic(auto)]
 
 #[cfg(test)]
@@ -20,3 +20,5 @@ mod jobs;
 mod served;
 #[cfg(test)]
 mod served_cases;
+#[cfg(test)]
+mod stored;

@@ -16,6 +16,7 @@ ghost use Rattle.tsdb_pins.specs.Reading.{AreColumnsOf, AreColumnsTold, AreColum
 ghost use Rattle.tsdb_pins.specs.Reading.{TellPoints};
 ghost use Rattle.tsdb_serving.specs.Flushing.{IsReady, faults_under};
 ghost use Rattle.tsdb_serving.specs.Serving.{Answers as AreAnswered, IsServing, StaysInPlace};
+ghost use Rattle.tsdb_serving.specs.Sweeping.{LeavesNothing};
 ghost use Rattle.tsdb_state.specs.State as state;
 ghost use Rattle.tsdb_state.specs.Steps.{PinStandsFor};
 
@@ -28,7 +29,7 @@ use tsdb_model::{Item, Reply};
 use tsdb_outside::{Files, Journal, StoreFault};
 use tsdb_path::Path;
 use tsdb_pin::{Pin, PinFault};
-use tsdb_serving::Core;
+use tsdb_serving::{Core, sweep};
 
 /// The aggregates of a pin, read with a count of pages that nobody looks at.
 fn read_values<F: Files, L: Ledger>(
@@ -59,8 +60,40 @@ fn read_values<F: Files, L: Ledger>(
 /// Reads the aggregates of items of a device over a range, each of which asks for one.
 ///
 /// Answers one value or none for each item, or `NoPath` or `WrongType` as the plain map does. Answers `Device` where a
-/// file could not be read, and `Memory`. A query changes nothing: its pin is given back whatever it answers.
+/// file could not be read, and `Memory`. A query changes nothing: its pin is given back whatever it answers. Then files
+/// on their way out are removed; one that cannot be removed is passed over.
 pub fn aggregates<J: Journal, F: Files>(
+    alloc: Global,
+    core: &mut Core<J, F>,
+    port: &mut F::Port,
+    device: &Path,
+    items: &[Item],
+    range: &Range,
+) -> Reply
+    requires values { ask_aggregates items.now ≡ true }
+    requires ready { IsReady (F.Port.store port.old) core.old }
+    ensures answers { AreAnswered core.old core.new (Command.Select device.now items.now range.now) result }
+    ensures swept { LeavesNothing (F.Port.faults port.old) (F.Port.faults port.new) core.new }
+    ensures ready { IsReady (F.Port.store port.old) core.new }
+    ensures stays { StaysInPlace core.old core.new }
+    ensures draws { next_of core.new ≡ next_of core.old }
+    ensures no_full { (counter : ℕ) → result ≢ ReplyOf.Plain (AnswerOf.Full counter) }
+    ensures same_store { F.Port.store port.new ≡ F.Port.store port.old }
+    ensures cause { (files : List StoredFile) (at : plain.State) (next : Option plain.State)
+        → IsServing core.old files at next → result ≡ ReplyOf.Plain AnswerOf.Device
+        → Rose (F.Port.faults port.old) (F.Port.faults port.new) }
+    ensures untold { (F.Port.store port.old).tells ≡ false → result ≡ ReplyOf.Plain AnswerOf.Device
+        → Rose (F.Port.faults port.old) (F.Port.faults port.new) }
+    ensures faults { faults_under core.new ≡ faults_under core.old }
+    ensures later { F.Port.faults port.old ≤ F.Port.faults port.new }
+{
+    let reply = answer_values(alloc, core, port, device, items, range);
+    sweep(core, port);
+    reply
+}
+
+/// The same without the files on their way out.
+fn answer_values<J: Journal, F: Files>(
     alloc: Global,
     core: &mut Core<J, F>,
     port: &mut F::Port,
