@@ -10,7 +10,7 @@ use crate::fault::OpenFault;
 use tsdb_base::FileNumber;
 use tsdb_outside::{Failed, Files, Port, StoreFault};
 
-/// Removes those of these files that are not kept.
+/// Removes those of these files that are not kept. After `Ok` no removal has failed.
 pub(crate) fn remove_strays<F: Files>(
     adopting: &Adopting<F>,
     files: &mut F,
@@ -24,6 +24,7 @@ pub(crate) fn remove_strays<F: Files>(
     ensures no_damage { IfErr result NoDamage }
     ensures same_store { F.store files.new ≡ F.store files.old }
     ensures same_port { F.Port.store port.new ≡ F.Port.store port.old }
+    ensures no_fault { OnOk result (F.Port.faults port.new ≡ F.Port.faults port.old) }
     ensures cause { HasFilesCause (F.faults files.old) (F.faults files.new) (F.Port.faults port.old)
         (F.Port.faults port.new) result }
 {
@@ -36,7 +37,7 @@ pub(crate) fn remove_strays<F: Files>(
     Ok(())
 }
 
-/// Removes a file, where it is there and not kept.
+/// Removes a file, where it is there and not kept. After `Ok` no removal has failed.
 fn remove_if_stray<F: Files>(
     adopting: &Adopting<F>,
     files: &mut F,
@@ -50,6 +51,7 @@ fn remove_if_stray<F: Files>(
     ensures no_damage { IfErr result NoDamage }
     ensures same_store { F.store files.new ≡ F.store files.old }
     ensures same_port { F.Port.store port.new ≡ F.Port.store port.old }
+    ensures no_fault { OnOk result (F.Port.faults port.new ≡ F.Port.faults port.old) }
     ensures cause { HasFilesCause (F.faults files.old) (F.faults files.new) (F.Port.faults port.old)
         (F.Port.faults port.new) result }
 {

@@ -12,6 +12,7 @@ loop-number-init g c = record {
       refl;
   same_store = refl;
   same_port = refl;
+  no_fault = refl;
   cause = none_yet (g.F.Counted.faults c.args.files.now) (g.F.Port.Counted.faults c.args.port.now);
 }
 
@@ -27,6 +28,7 @@ loop-number-preserved g c = record {
       c.in-Ok.ensures.gone;
   same_store = c.remove_if_stray.ensures.same_store ∙ c.loop-number.invariant.same_store;
   same_port = c.remove_if_stray.ensures.same_port ∙ c.loop-number.invariant.same_port;
+  no_fault = c.in-Ok.ensures.no_fault ∙ c.loop-number.invariant.no_fault;
   cause = cause_then (g.F.Counted.faults c.args.files.now) (g.F.Counted.faults c.loop-number.files)
       (g.F.Counted.faults c.remove_if_stray.new.files) (g.F.Port.Counted.faults c.args.port.now)
       (g.F.Port.Counted.faults c.loop-number.port) (g.F.Port.Counted.faults c.remove_if_stray.new.port) (Ok tt)

@@ -12,6 +12,7 @@ invariant-loop-number g l = record {
       (g.F.Files.at_rest l.files);
   same_store : g.F.Files.store l.files ≡ g.F.Files.store l.fn.files;
   same_port : g.F.Port.Port.store l.port ≡ g.F.Port.Port.store l.fn.port;
+  no_fault : g.F.Port.Counted.faults l.port ≡ g.F.Port.Counted.faults l.fn.port;
   cause : HasFilesCause {T = ⊤} (g.F.Counted.faults l.fn.files) (g.F.Counted.faults l.files)
       (g.F.Port.Counted.faults l.fn.port)
       (g.F.Port.Counted.faults l.port) (Ok tt);
