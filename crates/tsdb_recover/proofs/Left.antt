@@ -27,12 +27,14 @@ use Rattle.tsdb_redo.specs.declared.opening.Opening.{Opening}
 use Rattle.tsdb_outside.specs.Disk.{WhereTold}
 use Rattle.tsdb_outside.specs.Files.{IsFileNumber, Store, StoredFile}
 use Rattle.tsdb_recover.specs.declared.fault.OpenFault.{OpenFault}
+use Rattle.tsdb_recover.specs.declared.fault.OpenFault.TheVariants as fault
+use Rattle.tsdb_recover.specs.declared.fault.Part.{Part}
 use Rattle.tsdb_recover.proofs.Opened.{begun}
 use Rattle.tsdb_recover.proofs.Rest.{behind, found_each, none_is_some, none_there}
 use Rattle.tsdb_recover.specs.Damage.{IsTreeFile}
-use Rattle.tsdb_recover.specs.Left.{AreLeft, IsUnlisted}
+use Rattle.tsdb_recover.specs.Left.{AreLeft, IsUnlisted, NoneMayGo}
 use Rattle.tsdb_recover.specs.Opened.{IsReplay}
-use Rattle.tsdb_recover.specs.Taking.{AreGone, AreGoneIn, AreTaken, HasTakenUp, IsRest, IsTakingUp, rests_of}
+use Rattle.tsdb_recover.specs.Taking.{AreGone, AreGoneIn, AreTaken, HasTakenUp, IsRest, IsTakingUp, NoDamage, rests_of}
 use Rattle.tsdb_state.specs.Replays.{Replays}
 use Rattle.tsdb_state.specs.Stores.{Recorded, store_steps}
 use Rattle.tsdb_recover.proofs.Stored.{IsToldAt, at_place, each_stored, few_stored, found, named, places_stored, stored_at}
@@ -244,7 +246,7 @@ module _ {F S R P : Type 0} (old new : Adopting F S R P) (opening : Opening)
       files = files_of new
 
       by : (recorded : Recorded) → AreStored stored → IsAdoptingOf new recorded → (before mid : Option (List StoredFile))
-          → (mid ≡ before) ⊎ (HasAdoptedAll new × AreGoneIn [] files before mid)
+          → (mid ≡ before) ⊎ (HasAdoptedAll new × AreGoneIn [] files before mid × NoDamage answer)
           → IsTakingUp stored recorded.store files before → WhereTold (ArePutBack (names_at files.places)) mid now
           → IsSomeAnd now (AreLeft (IsUnlisted recorded.store) stored)
       by recorded are later None mid gone up puts = absurd up.others
@@ -271,3 +273,34 @@ module _ {F S R P : Type 0} (old new : Adopting F S R P) (opening : Opening)
               let wanted = same_wanted files (opening_of new) all.recorded recorded all.is.opening later.opening all.all in
               false≢true (ap (λ found. is_some found) (sym none)
               ∙ (kept_where_listed files recorded.store n are_kept later.first wanted).1 among)
+
+  -- a damaged store has each of its files
+  pub has_kept : (store : Store) (start mid now : Option (List StoredFile)) (answer : OpenFault)
+      → files_of old ≡ none_kept → HasTakenUp store old new start mid (Err answer)
+      → WhereTold (ArePutBack (names_at (files_of new).places)) mid now → AreRising (files_of new).places
+      → AreKept (files_of new) → IfSome start (λ stored. (items : List LogRecord) (recorded : Recorded)
+      → IsReplay opening items recorded → AreStored stored → (part : Part) (at : ℕ) → answer ≡ fault.Damaged part at
+      → IsSomeAnd now (AreLeft NoneMayGo stored))
+  has_kept store None mid now answer none takes puts rising are_kept = tt
+  has_kept store (Some stored) mid now answer none takes puts rising are_kept = λ items recorded replay are part at is.
+      let adopting = begins items recorded replay.shown replay.replayed in
+      by recorded are (takes.goes_on.adopting recorded adopting) takes.left.before mid part at is takes.left.gone
+      (takes.left.taken stored recorded adopting (begun stored recorded.store (files_of old) none are)) puts
+    where
+      files : KeptFiles
+      files = files_of new
+
+      by : (recorded : Recorded) → AreStored stored → IsAdoptingOf new recorded → (before mid : Option (List StoredFile))
+          → (part : Part) (at : ℕ) → answer ≡ fault.Damaged part at
+          → (mid ≡ before) ⊎ (HasAdoptedAll new × AreGoneIn [] files before mid × NoDamage answer)
+          → IsTakingUp stored recorded.store files before → WhereTold (ArePutBack (names_at files.places)) mid now
+          → IsSomeAnd now (AreLeft NoneMayGo stored)
+      by recorded are later None mid part at is gone up puts = absurd up.others
+      by recorded are later (Some before) mid part at is (inl same) up puts =
+          put_back stored recorded.store files are are_kept rising later.first up.taken NoneMayGo before
+          up.others.are_stored (hidden_before stored recorded.store files are are_kept rising later.first up.taken before
+          up.others)
+          (λ n none. inl (same_before stored recorded.store files are are_kept rising later.first up.taken before up.others
+          n none)) now
+          (subst (λ m. WhereTold (ArePutBack (names_at files.places)) m now) same puts)
+      by recorded are later (Some before) mid part at is (inr gone) up puts = absurd (subst NoDamage is gone.2)

@@ -1,7 +1,7 @@
 -- All listed files are taken up, and no other is left: a store is opened.
 use Rattle.std.proofs.Common.{◌≡◌, ◌⊎◌, ◌∙◌, ℕ, List, [], Option, None, Some, Result, Ok, Err, IfSome, inl, inr, refl}
 use Rattle.std.proofs.Common.{sym, ap, subst}
-use Rattle.std.specs.Prelude.{OnErr, OnOk}
+use Rattle.std.specs.Prelude.{IfErr, OnErr, OnOk}
 use Rattle.std.specs.List.{All}
 use Rattle.tsdb_recover.specs.Adopting.{HasAdoptedAll, IsAdoptingOf, files_of}
 use Rattle.tsdb_recover.specs.declared.adopting.Adopting.{Adopting}
@@ -94,7 +94,7 @@ module _ {F S R P : Type 0} (old new : Adopting F S R P) where
       damages part at is stored recorded adopting (begun stored recorded.store (files_of old) none are)
 
   pub is_refused : (store : Store) (rest now : Option (List StoredFile)) (answer : OpenFault) → files_of old ≡ none_kept
-      → GoesOn store old new → Damages rest answer → HasLeft old new rest now
+      → GoesOn store old new → Damages rest answer → HasLeft old new rest now answer
       → HasTakenUp store old new rest now (Err answer)
   is_refused store rest now answer none goes damages left = record {
     left = left;
@@ -126,11 +126,12 @@ pub ok_with : {T E : Type 0} (result : Result T E) (P Q : Type 0) → (P → Q) 
 ok_with (Ok value) P Q step holds = step holds
 ok_with (Err fault) P Q step holds = tt
 
-pub err_with : {T E : Type 0} (result : Result T E) (P Q : Type 0) → (P → Q) → OnErr result P → OnErr result Q
-err_with (Ok value) P Q step holds = tt
-err_with (Err fault) P Q step holds = step holds
+pub err_and : {T E : Type 0} (result : Result T E) (P : Type 0) (Q R : E → Type 0) → ((e : E) → P → Q e → R e)
+    → OnErr result P → IfErr result Q → IfErr result R
+err_and (Ok value) P Q R step holds also = tt
+err_and (Err fault) P Q R step holds also = step fault holds also
 
 -- where nothing was taken up, all that was at rest is
-pub nothing_left : {F S R P : Type 0} (old : Adopting F S R P) (rest now : Option (List StoredFile)) → now ≡ rest
-    → HasLeft old old rest now
+pub nothing_left : {F S R P : Type 0} {answer : OpenFault} (old : Adopting F S R P)
+    (rest now : Option (List StoredFile)) → now ≡ rest → HasLeft old old rest now answer
 nothing_left old rest now same = record { before = rest; taken = λ stored recorded is up. up; gone = inl same }

@@ -38,7 +38,7 @@ use Rattle.tsdb_recover.proofs.Greatest.{said_number}
 use Rattle.tsdb_recover.proofs.Once.{none_damaged, one_damage}
 use Rattle.tsdb_recover.proofs.Trees.{all_trees}
 use Rattle.tsdb_recover.specs.Damage.{AnswersDamageIn, IsDamagedFile, IsDamagedIn, IsFileDamaged, IsTreeFile}
-use Rattle.tsdb_recover.specs.Left.{AreLeft, IsStray, IsUnlisted}
+use Rattle.tsdb_recover.specs.Left.{AreLeft, IsStray, IsUnlisted, NoneMayGo}
 use Rattle.tsdb_recover.specs.Opened.{HasOpened, IsNextNumber, IsRecovered, IsReplay}
 use Rattle.tsdb_recover.specs.Taking.{HasTakenUp, HaveLengths}
 use Rattle.tsdb_recover.specs.Stored.{AreStored}
@@ -205,6 +205,21 @@ module _ (opening : Opening) (items : List LogRecord) (recorded : Recorded) (goo
           → IsSomeAnd now (AreLeft (IsStray image.a) stored)
       by None is = absurd is
       by (Some files) is = record { are_stored = is.are_stored; each = λ n. may_go files n (is.each n) }
+
+  -- a store in which something is damaged has each of its files
+  pub damage_keeps : (rest now : Option (List StoredFile)) (answer : OpenFault)
+      → IfSome rest (λ stored. (items : List LogRecord) (recorded : Recorded) → IsReplay opening items recorded
+      → AreStored stored → (part : Part) (at : ℕ) → answer ≡ fault.Damaged part at
+      → IsSomeAnd now (AreLeft NoneMayGo stored))
+      → IfSome rest (λ stored. AreStored stored → (part : Part) (at : ℕ) → answer ≡ fault.Damaged part at
+      → IsSomeAnd now (AreLeft NoneMayGo stored))
+  damage_keeps None now answer kept = tt
+  damage_keeps (Some stored) now answer kept = λ are part at is. kept items recorded replay are part at is
+
+pub none_lost : (rest : Option (List StoredFile)) (answer : OpenFault) → IfSome rest (λ stored. AreStored stored
+    → (part : Part) (at : ℕ) → answer ≡ fault.Damaged part at → IsSomeAnd rest (AreLeft NoneMayGo stored))
+none_lost None answer = tt
+none_lost (Some stored) answer = λ are part at is. record { are_stored = are; each = λ n. inl refl }
 
 -- where the log is refused no file goes
 pub none_gone : (rest : Option (List StoredFile)) (seen : Option Image)

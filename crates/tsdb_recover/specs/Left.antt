@@ -18,6 +18,10 @@ abbrev pub IsStray : List ℕ → ℕ → Type 0
 IsStray bytes number =
     (recorded : Recorded) × IsReplayOf store_steps bytes recorded × IsUnlisted recorded.store number
 
+-- no file may go
+abbrev pub NoneMayGo : ℕ → Type 0
+NoneMayGo number = ⊥
+
 -- Each file is as it was, or it is gone, and is one of those that may go. There is no other.
 pub record AreLeft (MayGo : ℕ → Type 0) (old new : List StoredFile) : Type 0 where
   pub are_stored : AreStored new

@@ -1,6 +1,6 @@
 -- How far the files of a store are taken up, and which are at rest meanwhile.
 use Rattle.std.specs.Prelude.{◌≡◌, ◌⊎◌, ℕ, ◌+◌, ◌<◌, ◌≤◌, List, [], ◌++◌, length, map, Option, None, Some}
-use Rattle.std.specs.Prelude.{Contains, IfOk, IfSome, IsErrOf, OnErr, OnOk, Result}
+use Rattle.std.specs.Prelude.{Contains, IfErr, IfOk, IfSome, IsErrOf, OnOk, Result}
 use Rattle.std.specs.List.{AllByRecursion as Each}
 use Rattle.std.specs.Option.{IsSomeAnd}
 use Rattle.tsdb_recover.specs.Adopting.{AreDescribed, HasAdoptedAll, IsAdoptingOf, files_of, next_in, opening_of}
@@ -121,12 +121,13 @@ pub record AreAllTaken (stored : List StoredFile) (store : StoreState) (files : 
   pub none : rest ≡ Some []
 
 module _ {F S R P : Type 0} where
-  -- Taking up has failed. More files are taken up, and all others are at rest; or all listed ones are taken up, and of
-  -- the others some are gone.
-  pub record HasLeft (old new : Adopting F S R P) (rest now : Option (List StoredFile)) : Type 0 where
+  -- Taking up has failed. More files are taken up, and all others are at rest; or all listed ones are taken up, none of
+  -- them damaged, and of the others some are gone.
+  pub record HasLeft (old new : Adopting F S R P) (rest now : Option (List StoredFile)) (answer : OpenFault)
+      : Type 0 where
     pub before : Option (List StoredFile)
     pub taken : HasTaken old new rest before
-    pub gone : (now ≡ before) ⊎ (HasAdoptedAll new × AreGoneIn [] (files_of new) before now)
+    pub gone : (now ≡ before) ⊎ (HasAdoptedAll new × AreGoneIn [] (files_of new) before now × NoDamage answer)
 
   -- All listed files were taken up and all others removed, or a fault came. Before it these were at rest.
   pub record HasTakenUp (store : Store) (old new : Adopting F S R P) (rest now : Option (List StoredFile))
@@ -137,7 +138,7 @@ module _ {F S R P : Type 0} where
     pub number : IfOk result (λ last. IfSome last (λ number. number.0 < end_of_numbers))
     pub taken : IfOk result (λ last. IfSome rest (λ stored. (recorded : Recorded) → IsAdoptingOf old recorded
         → AreStored stored → AreAllTaken stored recorded.store (files_of new) last now))
-    pub left : OnErr result (HasLeft old new rest now)
+    pub left : IfErr result (HasLeft old new rest now)
     pub damaged : (part : Part) (at : ℕ) → IsErrOf result (fault.Damaged part at)
         → IfSome rest (λ stored. (recorded : Recorded) → IsAdoptingOf old recorded → AreStored stored
         → IsFileDamaged (kept_bytes stored) recorded.store part at)

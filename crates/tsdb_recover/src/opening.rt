@@ -22,7 +22,7 @@ ghost use Rattle.tsdb_recover.specs.Files.{HasFilesCause};
 ghost use Rattle.tsdb_recover.specs.declared.fault.Part as store_part;
 ghost use Rattle.tsdb_recover.specs.Damage.{AnswersDamageIn, IsDamagedIn, IsFileDamaged};
 ghost use Rattle.tsdb_recover.specs.Opened.{HasOpened, IsNextNumber, IsRecovered, IsReplay, IsUnclaimed};
-ghost use Rattle.tsdb_recover.specs.Left.{AreLeft, IsStray, IsUnlisted};
+ghost use Rattle.tsdb_recover.specs.Left.{AreLeft, IsStray, IsUnlisted, NoneMayGo};
 ghost use Rattle.tsdb_recover.specs.Taking.{AreGoneIn, GoesOn, HasLeft, HasOpenCause, HasTaken, HasTakenUp};
 ghost use Rattle.tsdb_recover.specs.Taking.{HaveLengths, IsGreatest, IsTakingUp};
 ghost use Rattle.tsdb_state.specs.Replays.{IsReplayOf};
@@ -42,7 +42,8 @@ use tsdb_redo::Opening;
 use tsdb_serving::{Core, Options};
 
 /// Opens the store of a journal and its files: replays the log, takes up each listed file, and removes all others. It
-/// writes nothing to the journal. A store that is not opened is left as it was, but for files that no list has.
+/// writes nothing to the journal. A store that is not opened is left as it was, but for files that no list has; one that
+/// is damaged has these too.
 pub fn recover<J: Journal, F: Files>(
     alloc: Global,
     journal: J,
@@ -67,6 +68,11 @@ pub fn recover<J: Journal, F: Files>(
         → IsErrAnd result (λ refused. AnswersDamageIn part at refused.fault))) }
     ensures left { IfErr result (λ refused. IfSome (J.state journal).seen (λ image. IfSome (F.at_rest files.old)
         (λ stored. AreStored stored → IsSomeAnd (F.at_rest files.new) (AreLeft (IsStray image.a) stored)))) }
+
+    // Strays go last: where something is damaged each file of the store is as it was.
+    ensures damaged_keeps { IfErr result (λ refused. IfSome (F.at_rest files.old) (λ stored. AreStored stored
+        → (part : store_part.Part) (at : ℕ) → refused.fault ≡ OpenFault.Damaged part at
+        → IsSomeAnd (F.at_rest files.new) (AreLeft NoneMayGo stored))) }
 
     // Nothing is in doubt, nothing is out, claimed or on its way out, and all files are of the store.
     ensures no_doubt { IfOk result (λ core. is_in_doubt (log_of (logged_of core)) ≡ false) }
@@ -113,6 +119,9 @@ fn open_files<J: Journal, F: Files>(
     ensures left { IfErr result (λ refused. IfSome (F.at_rest files.old) (λ stored. (items : List LogRecord)
         (recorded : Recorded) → IsReplay opening items recorded → AreStored stored
         → IsSomeAnd (F.at_rest files.new) (AreLeft (IsUnlisted recorded.store) stored))) }
+    ensures damaged_keeps { IfErr result (λ refused. IfSome (F.at_rest files.old) (λ stored. (items : List LogRecord)
+        (recorded : Recorded) → IsReplay opening items recorded → AreStored stored → (part : store_part.Part) (at : ℕ)
+        → refused.fault ≡ OpenFault.Damaged part at → IsSomeAnd (F.at_rest files.new) (AreLeft NoneMayGo stored))) }
     ensures log { IfOk result (λ core. log_of (logged_of core) ≡ log) }
     ensures quiet { IfOk result (λ core. KeepsJobs core [] []) }
     ensures unclaimed { IfOk result (λ core. IsUnclaimed core) }
@@ -208,7 +217,7 @@ fn take_listed<F: Files>(
     ensures taken { OnOk result ((rest : Option (List StoredFile)) × HasTaken adopting.old adopting.new
         (F.at_rest files.old) rest × AreGoneIn (plain_numbers numbers.now) (files_of adopting.new) rest
         (F.at_rest files.new)) }
-    ensures left { OnErr result (HasLeft adopting.old adopting.new (F.at_rest files.old) (F.at_rest files.new)) }
+    ensures left { IfErr result (HasLeft adopting.old adopting.new (F.at_rest files.old) (F.at_rest files.new)) }
     ensures damaged { (part : store_part.Part) (at : ℕ) → IsErrOf result (OpenFault.Damaged part at)
         → (stored : List StoredFile) (recorded : Recorded) → IsAdoptingOf adopting.old recorded
         → IsTakingUp stored recorded.store (files_of adopting.old) (F.at_rest files.old)

@@ -1,6 +1,6 @@
 use Rattle.std.proofs.Common.{Err, ap}
 use Rattle.tsdb_recover.proofs.Recovered.{has_damage, has_opened}
-use Rattle.tsdb_recover.proofs.Left.{has_left}
+use Rattle.tsdb_recover.proofs.Left.{has_kept, has_left}
 use Rattle.tsdb_recover.proofs.opening.open_files.Goals as goal
 
 pub take_up-requires-clause-some : goal.take_up-requires-clause-some
@@ -29,6 +29,13 @@ returns-in-Err-clause-damaged g c =
 pub returns-in-Err-clause-left : goal.returns-in-Err-clause-left
 returns-in-Err-clause-left g c =
     has_left c.new-adopting.result c.take_up.new.adopting c.args.opening c.new-adopting.ensures.begins
+    (g.F.Files.store c.args.files.now) (g.F.Files.at_rest c.args.files.now) (g.F.Files.at_rest c.take_up.new.files)
+    (g.F.Files.at_rest c.end.new.files) c.in-Err.fault c.new-adopting.ensures.files c.in-Err.ensures.takes
+    c.end.ensures.at_rest c.end.ensures.rising c.end.ensures.kept
+
+pub returns-in-Err-clause-damaged_keeps : goal.returns-in-Err-clause-damaged_keeps
+returns-in-Err-clause-damaged_keeps g c =
+    has_kept c.new-adopting.result c.take_up.new.adopting c.args.opening c.new-adopting.ensures.begins
     (g.F.Files.store c.args.files.now) (g.F.Files.at_rest c.args.files.now) (g.F.Files.at_rest c.take_up.new.files)
     (g.F.Files.at_rest c.end.new.files) c.in-Err.fault c.new-adopting.ensures.files c.in-Err.ensures.takes
     c.end.ensures.at_rest c.end.ensures.rising c.end.ensures.kept

@@ -1,6 +1,6 @@
 use Rattle.tsdb_recover.proofs.Recovered.{each_answered, file_damage, if_err, if_ok, is_next, is_recovered}
 use Rattle.tsdb_recover.proofs.Recovered.{log_answered}
-use Rattle.tsdb_recover.proofs.Recovered.{no_stray, none_gone, strays_gone}
+use Rattle.tsdb_recover.proofs.Recovered.{damage_keeps, no_stray, none_gone, none_lost, strays_gone}
 use Rattle.tsdb_recover.proofs.opening.recover.Goals as goal
 use Rattle.std.proofs.Common.{ap, refl, ◌∙◌}
 use Rattle.tsdb_frames.specs.Frames.{is_in_doubt}
@@ -70,3 +70,14 @@ returns-in-Err-clause-left g c =
 pub returns-in-Ok-clause-no_doubt : goal.returns-in-Ok-clause-no_doubt
 returns-in-Ok-clause-no_doubt g c = if_ok c.open_files.result _ _ (λ core same.
     ap (λ log. is_in_doubt log) same ∙ c.in-Ok.ensures.read.no_doubt) c.open_files.ensures.log
+
+pub returns-in-Ok-clause-damaged_keeps : goal.returns-in-Ok-clause-damaged_keeps
+returns-in-Ok-clause-damaged_keeps g c =
+    let read = c.in-Ok.ensures.read in
+    if_err c.open_files.result _ _ (λ refused keeps.
+    damage_keeps c.in-Ok.opening read.items read.recorded read.good read.replayed read.shown
+    (g.F.Files.at_rest c.args.files.now) (g.F.Files.at_rest c.open_files.new.files) refused.fault keeps)
+    c.open_files.ensures.damaged_keeps
+
+pub returns-in-Err-clause-damaged_keeps : goal.returns-in-Err-clause-damaged_keeps
+returns-in-Err-clause-damaged_keeps g c = none_lost (g.F.Files.at_rest c.args.files.now) c.in-Err.refused.fault
