@@ -1,4 +1,4 @@
-//! The core with files: what is in memory behind its log, and the files that are kept beside it. Depends on tsdb_base,
+//! The core: what is in memory behind its log, and the files that are kept beside it. Depends on tsdb_base,
 //! tsdb_path, tsdb_model, tsdb_outside, tsdb_frames, tsdb_log, tsdb_marks, tsdb_memtable, tsdb_plan, tsdb_state,
 //! tsdb_memory, tsdb_fileset and tsdb_tasks.
 //!

@@ -18,7 +18,7 @@
 //! record is in doubt; `Damage` the first place at which a log has no replay; `Stores` the step of each record, the
 //! files that are whole, the world that a store stands for, and sound stores.
 //!
-//! What a stop leaves of an engine with files.
+//! What a stop leaves of an engine.
 //!
 //! `specs/Stored.antt` says when an engine is stored: the acknowledged records of its log lead to its store, it is in
 //! order, and each of its files is kept. The laws say that each step keeps it stored, and that whatever a stop leaves
