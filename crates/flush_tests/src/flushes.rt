@@ -5,7 +5,7 @@ ghost use Rattle.tsdb_flush.specs.Jobs.{IsJob};
 ghost use Rattle.tsdb_model.specs.Commands.{IsSchema};
 ghost use Rattle.tsdb_path.specs.Nodes.{node_count};
 
-use crate::files::schema_at;
+use crate::schemas::schema_at;
 use mem_outside::{SteadyFiles, SteadyPlace};
 use std::alloc::Global;
 use std::sync::Arc;

@@ -1,5 +1,5 @@
 //! The job of a flush, taken from memory: its series in a worked order, its numbers, and its pair.
-use crate::files::schema_at;
+use crate::schemas::schema_at;
 use std::alloc::Global;
 use std::test::Fail;
 use tsdb_base::{DataType, Encoding, FileNumber, List, Time, Value};
