@@ -1,40 +1,8 @@
-//! The same lists as values. It depends on `examples` and `tsdb_pages`.
-use crate::examples::{BEYOND_IN_RUN, DICTIONARY, Example, List, MAX_VALUES, PLAIN, RLE, TS_2DIFF};
+//! The values of points, by type and encoding. It depends on `examples` and `tsdb_pages`.
+use crate::examples::{BEYOND_IN_RUN, MAX_VALUES};
 use std::alloc::Global;
-use tsdb_base::{DataType, DecodeFault, Encoding, Point, Text, Value, suits};
+use tsdb_base::{DataType, DecodeFault, Encoding, Point, Value, suits};
 use tsdb_pages::{HasValue, decode, encode_into};
-
-impl List {
-    fn data_type(self) -> DataType {
-        match self {
-            List::Truths(_) => DataType::Boolean,
-            List::Narrow(_) => DataType::Int32,
-            List::Wide(_) => DataType::Int64,
-            List::Texts(_) => DataType::Text,
-        }
-    }
-
-    /// The value at this place.
-    fn value(self, alloc: Global, place: usize) -> Option<Value> {
-        match self {
-            List::Truths(values) => Some(Value::Bool(*values.get(place)?)),
-            List::Narrow(values) => Some(Value::I32(*values.get(place)?)),
-            List::Wide(values) => Some(Value::I64(*values.get(place)?)),
-            List::Texts(values) => { Some(Value::Text(Text::new(alloc, values.get(place)?).ok()?)) }
-        }
-    }
-
-    /// All values, or fewer where memory ran out.
-    fn values(self, alloc: Global) -> Vec<Value> {
-        let mut values = Vec::new(alloc);
-        for place in 0..MAX_VALUES {
-            if let Some(value) = self.value(alloc, place) {
-                let _ = values.push(value);
-            }
-        }
-        values
-    }
-}
 
 /// Appends the bytes of the values, and says whether they are there.
 fn put<T: HasValue>(
@@ -73,25 +41,6 @@ fn is_pair<T: HasValue>(
         && into.as_slice() == bytes
         && suits(data_type, encoding)
         && are_values(decode(alloc, data_type, encoding, bytes), items)
-}
-
-fn first_wrong(alloc: Global, encoding: Encoding, examples: &[Example]) -> Option<usize> {
-    for (place, (list, bytes)) in examples.iter().enumerate() {
-        let values = list.values(alloc);
-        if !is_pair(alloc, list.data_type(), encoding, &values, bytes) {
-            return Some(place);
-        }
-    }
-    None
-}
-
-#[test]
-fn examples(rt: HostRuntime) {
-    let alloc = rt.alloc();
-    assert_eq!(rt; first_wrong(alloc, Encoding::Plain, &PLAIN), None);
-    assert_eq!(rt; first_wrong(alloc, Encoding::Rle, &RLE), None);
-    assert_eq!(rt; first_wrong(alloc, Encoding::Ts2diff, &TS_2DIFF), None);
-    assert_eq!(rt; first_wrong(alloc, Encoding::Dictionary, &DICTIONARY), None);
 }
 
 const POINTS: [Point; 2] = [
