@@ -2,11 +2,8 @@
 ghost use Rattle.tsdb_log.specs.Spelling.{HasFewParts, IsRecord};
 
 use std::alloc::Global;
-use tsdb_base::{DataType, Encoding, FileNumber, Point, Space, Value};
-use tsdb_log::{
-    CellRecord, LogFault, LogRecord, PairRecord, Snapshot, TableRecord, append_record, read_record,
-    write_record,
-};
+use tsdb_base::{DataType, Encoding, FileNumber, Space, Value};
+use tsdb_log::{CellRecord, LogFault, LogRecord, append_record, read_record, write_record};
 use tsdb_path::Path;
 
 /// The record that a payload is.
@@ -91,73 +88,6 @@ fn are_cells(cells: &[CellRecord]) -> bool {
     }
 }
 
-/// The points of the first series, where tables have no other one.
-fn points_of(tables: &[TableRecord]) -> &[Point] {
-    match tables {
-        [table] if table.series.0 == 0 => table.points.items(),
-        _ => &[],
-    }
-}
-
-fn is_frozen(pairs: &[PairRecord]) -> bool {
-    match pairs {
-        [pair] => {
-            pair.born.0 == 6
-                && matches!(
-                    points_of(pair.sequence.items()),
-                    [point] if point.time == 4 && matches!(point.value, Value::I32(-2))
-                )
-                && pair.unsequence.items().is_empty()
-        }
-        _ => false,
-    }
-}
-
-fn are_working(points: &[Point]) -> bool {
-    match points {
-        [first, second] => {
-            (first.time, second.time) == (1, 2)
-                && matches!(first.value, Value::Bool(true))
-                && is_text(&second.value)
-        }
-        _ => false,
-    }
-}
-
-/// Whether a snapshot has the series, the watermark and the mark.
-fn has_series(snapshot: &Snapshot) -> bool {
-    let schemas = snapshot.schemas.items();
-    let watermarks = snapshot.watermarks.items();
-    match (schemas, watermarks, snapshot.marks.items()) {
-        ([schema], [watermark], [mark]) => {
-            is_series(&schema.path)
-                && (schema.data_type, schema.encoding) == (DataType::Int64, Encoding::Plain)
-                && watermark.device.bytes() == b"root.g.d".as_slice()
-                && watermark.time == 7
-                && is_series(&mark.path)
-                && (mark.from, mark.to, mark.version.0) == (-1, 3, 8)
-        }
-        _ => false,
-    }
-}
-
-/// Whether it has the file and the points.
-fn has_points(snapshot: &Snapshot) -> bool {
-    matches!(
-        snapshot.sequence.items(),
-        [file] if file.number.0 == 3 && file.born.0 == 5
-    ) && snapshot.unsequence.items().is_empty()
-        && is_frozen(snapshot.frozen.items())
-        && are_working(points_of(snapshot.working_sequence.items()))
-        && snapshot.working_unsequence.items().is_empty()
-}
-
-fn is_snapshot(snapshot: &Snapshot) -> bool {
-    (snapshot.generation, snapshot.stamp.0, snapshot.next_file) == (2, 9, 4)
-        && has_series(snapshot)
-        && has_points(snapshot)
-}
-
 /// Whether a record of files is the one that a payload is.
 fn is_of_files(said: Said, item: &LogRecord) -> bool {
     match (said, item) {
@@ -204,7 +134,9 @@ fn is_said(said: Said, item: &LogRecord) -> bool {
             (path.bytes(), range.from, range.to) == (b"root".as_slice(), -1, 2)
         }
         (Said::Freeze, LogRecord::Freeze) => true,
-        (Said::Snapshot, LogRecord::Snapshot(snapshot)) => is_snapshot(snapshot),
+        (Said::Snapshot, LogRecord::Snapshot(snapshot)) => {
+            (snapshot.generation, snapshot.stamp.0, snapshot.next_file) == (2, 9, 4)
+        }
         _ => is_of_files(said, item),
     }
 }
