@@ -1,7 +1,7 @@
 //! Watermarks, and a pair of memtables with worked points.
 
 use std::alloc::Global;
-use tsdb_base::{Memory, Point, Range, SeriesId, Space, Text, Time, Value};
+use tsdb_base::{Point, Range, SeriesId, Space, Time, Value};
 use tsdb_memtable::{Pair, Watermarks, space_of};
 use tsdb_path::Path;
 
@@ -181,6 +181,7 @@ fn has(pair: &Pair, slices: &[Slice], (early, late): (u64, u64)) -> bool {
 /// Whether a new pair has the points, and those that are not erased of a series that has some and of one that has none.
 fn is_as_worked(alloc: Global, watermarks: &Watermarks, device: &Path) -> bool {
     let mut pair = Pair::new(alloc);
+    crosses_threads(&pair);
     let is_put = puts_all(&mut pair, watermarks, device) && has(&pair, SLICES, (4, 3));
     pair.erase(SeriesId(7), &range((20, 25)));
     pair.erase(SeriesId(8), &range((20, 25)));
@@ -202,106 +203,4 @@ fn is_worked(alloc: Global) -> bool {
 #[test]
 fn pair_of_worked_points(rt: HostRuntime) {
     assert!(rt; is_worked(rt.alloc()));
-}
-
-/// A value as the table of bytes has it.
-#[derive(Clone, Copy)]
-enum Plain {
-    Bool(bool),
-    I32(i32),
-    I64(i64),
-    Text(&'static [u8]),
-}
-
-/// A series, a value of each type, and the bytes of the pair once the series has a point with this value.
-const BYTES: &[(u64, Plain, u64)] = &[
-    (0, Plain::Bool(true), 9),
-    (1, Plain::I32(-1), 9 + 12),
-    (2, Plain::I64(1), 9 + 12 + 16),
-    (3, Plain::Text(b""), 9 + 12 + 16 + 8),
-    (4, Plain::Text(b"abc"), 9 + 12 + 16 + 8 + 11),
-];
-
-fn value_of(alloc: Global, plain: Plain) -> Option<Value> {
-    match plain {
-        Plain::Bool(value) => Some(Value::Bool(value)),
-        Plain::I32(value) => Some(Value::I32(value)),
-        Plain::I64(value) => Some(Value::I64(value)),
-        Plain::Text(bytes) => match Text::new(alloc, bytes) {
-            Ok(text) => Some(Value::Text(text)),
-            Err(_) => None,
-        },
-    }
-}
-
-/// Puts the value at one time of the series. Whether there is one, and a place for it.
-fn puts_value(
-    pair: &mut Pair,
-    watermarks: &Watermarks,
-    device: &Path,
-    series: SeriesId,
-    value: Option<Value>,
-) -> bool {
-    match (value, pair.reserve(series, 1)) {
-        (Some(value), Ok(())) => {
-            pair.put(watermarks, device, series, Point { time: 4, value });
-            true
-        }
-        _ => false,
-    }
-}
-
-/// Whether the pair has the wanted bytes as each value is put twice, at one time of a series of its own.
-fn has_bytes_as_wanted(
-    alloc: Global,
-    pair: &mut Pair,
-    watermarks: &Watermarks,
-    device: &Path,
-) -> bool {
-    for (series, plain, wanted) in BYTES {
-        for _ in 0..2 {
-            let value = value_of(alloc, *plain);
-            if !puts_value(pair, watermarks, device, SeriesId(*series), value)
-                || pair.bytes() != *wanted
-            {
-                return false;
-            }
-        }
-    }
-    true
-}
-
-/// Whether the space has points of these series, and of no other.
-fn has_series(pair: &Pair, space: Space, wanted: &[SeriesId]) -> bool {
-    match pair.series(space) {
-        Ok(series) => series.as_slice() == wanted,
-        Err(_) => false,
-    }
-}
-
-/// Whether the pair has the series of the table in the space of points in order, and too many points find no place.
-fn ends_as_wanted(pair: &mut Pair) -> bool {
-    let too_many = pair.reserve(SeriesId(2), u64::MAX);
-    let five = [0, 1, 2, 3, 4].map(SeriesId);
-    has_series(pair, Space::Sequence, &five)
-        && has_series(pair, Space::Unsequence, &[])
-        && too_many == Err(Memory)
-        && pair.points(Space::Sequence) == 5
-}
-
-fn takes_each_type(alloc: Global) -> bool {
-    let mut pair = Pair::new(alloc);
-    crosses_threads(&pair);
-    match Path::read(alloc, b"root.g.d") {
-        Ok(device) => {
-            has_bytes_as_wanted(alloc, &mut pair, &Watermarks::new(alloc), &device)
-                && ends_as_wanted(&mut pair)
-        }
-        Err(_) => false,
-    }
-}
-
-#[test]
-fn bytes_of_each_type(rt: HostRuntime) {
-    assert!(rt; takes_each_type(rt.alloc()));
 }
