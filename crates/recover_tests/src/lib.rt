@@ -5,8 +5,6 @@
 #![tactic(auto)]
 
 #[cfg(test)]
-mod kept;
-#[cfg(test)]
 mod log;
 #[cfg(test)]
 mod reads;
