@@ -40,16 +40,6 @@ const CASES: &[Case] = &[
         steps: &[(Step::Asks(&["Cs", "Ct", "I1st", "I2s", "I2st"]), OK)],
         end: End::Counts([2, 0, 2, 4, 5]),
     },
-    // A deletion erases from the working pair alone. One that finds nothing is accepted, and draws a stamp.
-    Case {
-        limit: 9,
-        next: 4,
-        steps: &[(
-            Step::Asks(&["Cs", "I5s", "F", "I6s", "D09s", "D90s", "I7s", "F"]),
-            OK,
-        )],
-        end: End::Counts([2, 0, 0, 6, 6]),
-    },
     // The last row is one above the first limit. A point that is replaced counts in the row.
     Case {
         limit: 2,
@@ -62,16 +52,6 @@ const CASES: &[Case] = &[
         next: 4,
         steps: &[(Step::Asks(&["Cs", "I1s", "I1s", "I2s", "I3s"]), OK)],
         end: End::Counts([0, 3, 0, 0, 5]),
-    },
-    // The watermark is the last sequence time, also after a late row was frozen.
-    Case {
-        limit: 9,
-        next: 4,
-        steps: &[(
-            Step::Asks(&["Cs", "I5s", "F", "I4s", "F", "I5s", "I6s"]),
-            OK,
-        )],
-        end: End::Counts([2, 1, 1, 3, 5]),
     },
 ];
 

@@ -8,15 +8,6 @@ use tsdb_core::{Commit, CoreFault};
 /// A series with a value at time 1 in a frozen pair.
 const ONE_FROZEN: Step = Step::Asks(&["Cs", "I1s", "F"]);
 
-/// Writes a value into `s` at the first time, and at the last.
-const PUT_FIRST: Step = Step::Line(
-    "insert into root.g.d(timestamp,s) values(-9223372036854775808,1)",
-);
-
-const PUT_LAST: Step = Step::Line(
-    "insert into root.g.d(timestamp,s) values(9223372036854775807,1)",
-);
-
 const FAILED: Came = Came::Ended(Some(Commit::Device));
 
 /// The last number that a file can have.
@@ -44,53 +35,6 @@ const CASES: &[Case] = &[
         ],
         end: End::Listing(
             "sequence 1 born 2 points 1 from 1 to 1\nfrozen 0\nworking 0 0\nmarks 0\n",
-        ),
-    },
-    // A tie at the watermark is late.
-    Case {
-        limit: 9,
-        next: 1,
-        steps: &[
-            (ONE_FROZEN, OK),
-            (Step::Flush(2), DONE),
-            (Step::Ask("I1s"), OK),
-        ],
-        end: End::Listing(
-            "sequence 1 born 2 points 1 from 1 to 1\nfrozen 0\nworking 0 1\nmarks 0\n",
-        ),
-    },
-    // The first and the last time.
-    Case {
-        limit: 9,
-        next: 1,
-        steps: &[
-            (Step::Ask("Cs"), OK),
-            (PUT_FIRST, OK),
-            (PUT_LAST, OK),
-            (Step::Ask("F"), OK),
-            (FLUSH, DONE),
-            (PUT_LAST, OK),
-        ],
-        end: End::Listing(
-            "sequence 1 born 3 points 2 from -9223372036854775808 to 9223372036854775807\n\
-            frozen 0\nworking 0 1\nmarks 0\n",
-        ),
-    },
-    // A mark stays while a listed file was frozen before it.
-    Case {
-        limit: 9,
-        next: 1,
-        steps: &[
-            (ONE_FROZEN, OK),
-            (FLUSH, DONE),
-            (Step::Asks(&["D01s", "I1s", "F"]), OK),
-            (FLUSH, DONE),
-            (Step::Ask("D01s"), OK),
-        ],
-        end: End::Listing(
-            "sequence 1 born 2 points 1 from 1 to 1\n\
-            unsequence 2 born 4 points 1 from 1 to 1\n\
-            frozen 0\nworking 0 0\nmarks 2\n",
         ),
     },
     // The row that needs a third frozen pair waits for a flush.
