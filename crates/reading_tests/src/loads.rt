@@ -190,10 +190,10 @@ fn points(alloc: Global, from: i64, to: i64, step: i64, source: i64) -> Result<V
 }
 
 /// First time, last time and step of a list of points, and the source that its values tell.
-pub type Shape = (i64, i64, i64, i64);
+type Shape = (i64, i64, i64, i64);
 
 /// A list for each shape.
-pub fn lists_of(alloc: Global, shapes: &[Shape]) -> Result<Vec<Vec<Point>>, Fail> {
+fn lists_of(alloc: Global, shapes: &[Shape]) -> Result<Vec<Vec<Point>>, Fail> {
     let mut lists = Vec::new(alloc);
     for (from, to, step, source) in shapes {
         lists
