@@ -1,6 +1,6 @@
 //! Unsigned numbers, types and encodings by themselves as bytes, as the fields of a file's index and of the log's
 //! records are. Depends on `plain` and `value`.
-ghost use Rattle.std.specs.Prelude.{◌<◌, ◌^◌};
+ghost use Rattle.std.specs.Prelude.{◌≡◌, ◌<◌, ◌^◌, [], ◌∷◌};
 ghost use Rattle.tsdb_base.specs.Fields.{number16, number32, number64, type_field, encoding_field, pair_field, IsPair};
 ghost use Rattle.tsdb_base.specs.FieldLaws.{number16-prefix_free, number32-prefix_free, number64-prefix_free};
 ghost use Rattle.tsdb_base.specs.FieldLaws.{type_field-prefix_free, encoding_field-prefix_free, pair_field-prefix_free};
@@ -77,6 +77,30 @@ impl PlainValue for u64 {
     }
 }
 
+/// The byte of the type.
+pub fn type_byte(data_type: DataType) -> u8
+    ensures { type_field data_type ≡ result ∷ [] }
+{
+    match data_type {
+        DataType::Boolean => 0,
+        DataType::Int32 => 1,
+        DataType::Int64 => 2,
+        DataType::Text => 5,
+    }
+}
+
+/// The byte of the encoding.
+pub fn encoding_byte(encoding: Encoding) -> u8
+    ensures { encoding_field encoding ≡ result ∷ [] }
+{
+    match encoding {
+        Encoding::Plain => 0,
+        Encoding::Dictionary => 1,
+        Encoding::Rle => 2,
+        Encoding::Ts2diff => 4,
+    }
+}
+
 impl PlainValue for DataType {
     ghost spelling = { type_field };
 
@@ -85,13 +109,7 @@ impl PlainValue for DataType {
     ghost prefix_free = { type_field-prefix_free };
 
     fn put(&self, into: &mut Vec<u8>) -> Result<(), Memory> {
-        let byte = match self {
-            DataType::Boolean => 0,
-            DataType::Int32 => 1,
-            DataType::Int64 => 2,
-            DataType::Text => 5,
-        };
-        into.push(byte)?;
+        into.push(type_byte(*self))?;
         Ok(())
     }
 
@@ -114,13 +132,7 @@ impl PlainValue for Encoding {
     ghost prefix_free = { encoding_field-prefix_free };
 
     fn put(&self, into: &mut Vec<u8>) -> Result<(), Memory> {
-        let byte = match self {
-            Encoding::Plain => 0,
-            Encoding::Dictionary => 1,
-            Encoding::Rle => 2,
-            Encoding::Ts2diff => 4,
-        };
-        into.push(byte)?;
+        into.push(encoding_byte(*self))?;
         Ok(())
     }
 

@@ -17,6 +17,7 @@ mod value;
 
 pub use answers::{Aggregate, Answer};
 pub use fault::{DecodeFault, Memory};
+pub use field::{encoding_byte, type_byte};
 pub use ids::{FileNumber, SeriesId, Space, Stamp};
 pub use list::List;
 pub use plain::{PlainValue, put_all, take_all};

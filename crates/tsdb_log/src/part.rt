@@ -22,7 +22,7 @@ ghost use Rattle.tsdb_log.specs.Steps.{IsMissing, ReadsFields};
 use crate::record::CellRecord;
 use std::alloc::Global;
 use std::marker::PhantomData;
-use tsdb_base::{DataType, Encoding, FileNumber, List, Memory, SeriesId, Space, Time, Value};
+use tsdb_base::{DataType, Encoding, FileNumber, List, Memory, SeriesId, Space, Time, Value, encoding_byte, type_byte};
 use tsdb_fields::{FieldFault, FieldReader, Rest, read_field, read_fields, read_path, read_value};
 use tsdb_path::Path;
 
@@ -72,28 +72,6 @@ fn put_text(bytes: &[u8], into: &mut Vec<u8>) -> Result<(), Memory>
 {
     put_bytes(&(bytes.len() as u16).to_be_bytes(), into)?;
     put_bytes(bytes, into)
-}
-
-fn type_byte(data_type: DataType) -> u8
-    ensures { type_field data_type ≡ result ∷ [] }
-{
-    match data_type {
-        DataType::Boolean => 0,
-        DataType::Int32 => 1,
-        DataType::Int64 => 2,
-        DataType::Text => 5,
-    }
-}
-
-fn encoding_byte(encoding: Encoding) -> u8
-    ensures { encoding_field encoding ≡ result ∷ [] }
-{
-    match encoding {
-        Encoding::Plain => 0,
-        Encoding::Dictionary => 1,
-        Encoding::Rle => 2,
-        Encoding::Ts2diff => 4,
-    }
 }
 
 fn space_byte(space: Space) -> u8
