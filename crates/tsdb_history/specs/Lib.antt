@@ -7,6 +7,7 @@ pub mod Listings
 pub mod Closing
 pub mod Joining
 pub use Rattle.tsdb_querying.specs.Flushing
+pub use Rattle.tsdb_querying.specs.Serving
 pub use Rattle.tsdb_querying.specs.Core
 pub use Rattle.tsdb_querying.specs.CoreType
 pub use Rattle.tsdb_querying.specs.Reading

@@ -7,7 +7,7 @@ use Rattle.tsdb_recover.proofs.Known.{known_in}
 use Rattle.tsdb_recover.specs.Adopting.{AreDescribed, AreFirstOf, Describe, wanted_file, wanted_of}
 use Rattle.tsdb_recover.specs.Known.{known_of}
 use Rattle.tsdb_base.specs.declared.ids.FileNumber.{FileNumber}
-use Rattle.tsdb_serving.specs.Core.{IsAbove}
+use Rattle.tsdb_core.specs.Core.{IsAbove}
 use Rattle.tsdb_fileset.specs.Held.{AreFilesOf, entry_of, leaving, listed}
 use Rattle.tsdb_state.proofs.ImageLemmas.Numbers.{opened_numbers}
 use Rattle.tsdb_state.proofs.ImageLemmas.Storing.{opened_stored}

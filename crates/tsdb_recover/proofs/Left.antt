@@ -11,7 +11,7 @@ use Rattle.tsdb_recover.proofs.Counting.{entries_are, kept_where_listed}
 use Rattle.tsdb_recover.proofs.AdoptedCore.{same_wanted}
 use Rattle.tsdb_recover.specs.Adopting.{AreFirstOf, HasAdoptedAll, IsAdoptingOf, files_of, opening_of}
 use Rattle.tsdb_recover.specs.declared.adopting.Adopting.{Adopting}
-use Rattle.tsdb_serving.proofs.CoreJobs.{is_there}
+use Rattle.tsdb_core.proofs.Jobs.{is_there}
 use Rattle.tsdb_fileset.specs.Held.{listed}
 use Rattle.tsdb_state.proofs.ImageLemmas.Kept.{found_bytes, has_number}
 use Rattle.tsdb_state.specs.Stored.{kept_bytes}

@@ -10,8 +10,8 @@ use Rattle.tsdb_recover.specs.Adopting.{AreDescribed, IsAdoptingOf, files_of, op
 use Rattle.tsdb_recover.specs.Known.{known_of}
 use Rattle.tsdb_recover.specs.declared.adopting.Adopting.{Adopting}
 use Rattle.tsdb_base.specs.declared.ids.FileNumber.{FileNumber}
-use Rattle.tsdb_serving.specs.Core.{IsSeen, next_of}
-use Rattle.tsdb_serving.specs.CoreType.{Core}
+use Rattle.tsdb_core.specs.Core.{IsSeen, next_of}
+use Rattle.tsdb_core.specs.declared.engine.Core.{Core}
 use Rattle.tsdb_frames.specs.Frames.{IsLog}
 use Rattle.tsdb_frames.specs.Log.{IsSettled}
 use Rattle.tsdb_frames.specs.Slots.{HasRecords}

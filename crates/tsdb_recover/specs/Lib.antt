@@ -12,8 +12,6 @@ pub mod Opened
 pub mod Left
 pub mod Stored
 pub mod Taking
-pub use Rattle.tsdb_serving.specs.Flushing
-pub use Rattle.tsdb_serving.specs.Serving
-pub use Rattle.tsdb_serving.specs.Limits
-pub use Rattle.tsdb_serving.specs.Core
-pub use Rattle.tsdb_serving.specs.CoreType
+pub use Rattle.tsdb_core.specs.Limits
+pub use Rattle.tsdb_core.specs.Core
+pub use Rattle.tsdb_core.specs.declared.engine.Core as CoreType

@@ -2,8 +2,8 @@
 use Rattle.std.specs.Prelude.{◌≡◌, ℕ, ◌+◌, List, [], ◌++◌, false, map, Option, None, Some}
 use Rattle.std.specs.List.{All, AllByRecursion as Each}
 use Rattle.tsdb_recover.specs.Adopting.{AreFree}
-use Rattle.tsdb_serving.specs.Core.{IsSeen, files_of, is_sequence_claimed, next_of}
-use Rattle.tsdb_serving.specs.CoreType.{Core}
+use Rattle.tsdb_core.specs.Core.{IsSeen, files_of, is_sequence_claimed, next_of}
+use Rattle.tsdb_core.specs.declared.engine.Core.{Core}
 use Rattle.tsdb_frames.specs.Frames.{IsLog}
 use Rattle.tsdb_frames.specs.declared.frames.Frames.{Frames}
 use Rattle.tsdb_state.specs.Stored.{IsKeptWhole, kept_bytes}

@@ -5,8 +5,8 @@ ghost use Rattle.std.specs.List.{AllByRecursion as Each};
 ghost use Rattle.tsdb_recover.specs.Adopting.{AreDescribed, wanted_file};
 ghost use Rattle.tsdb_recover.specs.Known.{known_of};
 ghost use Rattle.tsdb_recover.specs.Opened.{IsUnclaimed};
-ghost use Rattle.tsdb_serving.specs.Core.{IsSeen, KeepsJobs, files_of as core_files, limit_of, logged_of, next_of};
-ghost use Rattle.tsdb_serving.specs.Limits.{IsPairLimit};
+ghost use Rattle.tsdb_core.specs.Core.{IsSeen, KeepsJobs, files_of as core_files, limit_of, logged_of, next_of};
+ghost use Rattle.tsdb_core.specs.Limits.{IsPairLimit};
 ghost use Rattle.tsdb_frames.specs.Frames.{IsLog};
 ghost use Rattle.tsdb_fileset.specs.Held.{TellTheirBytes};
 ghost use Rattle.tsdb_state.specs.Stored.{IsKeptWhole};
@@ -34,7 +34,7 @@ use tsdb_base::FileNumber;
 use tsdb_frames::Frames;
 use tsdb_memory::Logged;
 use tsdb_outside::{Files, Journal};
-use tsdb_serving::{Core, Options};
+use tsdb_core::{Core, Options};
 
 impl<F: Files> Adopting<F> {
     ghost use Rattle.tsdb_recover.specs.Adopting.{HasAdoptedAll, IsAdoptingOf, files_of, opening_of};

@@ -1,6 +1,6 @@
 //! The opening of a store by its log and its files. Depends on tsdb_base, tsdb_path, tsdb_model, tsdb_outside,
 //! tsdb_frames, tsdb_stats, tsdb_index, tsdb_log, tsdb_pages, tsfile_reader, tsdb_plan, tsdb_state, tsdb_memory,
-//! tsdb_flush, tsdb_redo, tsdb_fileset and tsdb_serving.
+//! tsdb_flush, tsdb_redo, tsdb_fileset and tsdb_core.
 //!
 //! Recovery: a store is opened by its log.
 //!
@@ -34,7 +34,6 @@ mod described_laws;
 mod fault;
 mod files;
 mod finishing;
-mod laws;
 mod log;
 mod opening;
 mod strays;
@@ -47,7 +46,6 @@ pub use described::{Described, describe};
 pub use described_laws::the_entry_of_a_file_says_its_points;
 pub use fault::{OpenFault, OpenRefused, Part};
 pub use files::fetch_whole;
-pub use laws::a_recovered_core_serves;
 pub use log::read_log;
 pub use opening::recover;
-pub use tsdb_serving::{Core, Options};
+pub use tsdb_core::{Core, Options};

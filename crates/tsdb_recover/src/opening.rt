@@ -5,8 +5,8 @@ ghost use Rattle.std.specs.declared.option.Option.{Option};
 ghost use Rattle.std.specs.List.Sorted.{IsStrictlyIncreasing};
 ghost use Rattle.std.specs.Option.{IsSomeAnd};
 ghost use Rattle.tsdb_recover.specs.Adopting.{HasAdoptedAll, IsAdoptingOf, files_of};
-ghost use Rattle.tsdb_serving.specs.Core.{KeepsJobs, files_of as core_files, limit_of, logged_of, next_of};
-ghost use Rattle.tsdb_serving.specs.Limits.{IsPairLimit};
+ghost use Rattle.tsdb_core.specs.Core.{KeepsJobs, files_of as core_files, limit_of, logged_of, next_of};
+ghost use Rattle.tsdb_core.specs.Limits.{IsPairLimit};
 ghost use Rattle.tsdb_frames.specs.Frames.{disk_of, faults_of, is_in_doubt, journal_of, slot_of};
 ghost use Rattle.tsdb_state.specs.Stored.{kept_bytes};
 ghost use Rattle.tsdb_fileset.specs.Files.{none_kept};
@@ -39,7 +39,7 @@ use tsdb_base::{FileNumber, Memory};
 use tsdb_frames::Frames;
 use tsdb_outside::{Files, Journal, Port, StoreFault};
 use tsdb_redo::Opening;
-use tsdb_serving::{Core, Options};
+use tsdb_core::{Core, Options};
 
 /// Opens the store of a journal and its files: replays the log, takes up each listed file, and removes all others. It
 /// writes nothing to the journal. A store that is not opened is left as it was, but for files that no list has; one that

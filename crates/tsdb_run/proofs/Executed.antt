@@ -38,7 +38,7 @@ use Rattle.tsdb_run.proofs.Whole.{sound_after, sound_left}
 use Rattle.tsdb_run.specs.Steps.{IsNewerThan, IsRunOn}
 use Rattle.tsdb_run.specs.Store.{IsSoundOrSilent, StandsFor, contents}
 use Rattle.tsdb_script.specs.declared.numbered.Numbered.{Numbered}
-use Rattle.tsdb_recover.specs.Serving.{IsDrawn, disk_under, slot_under}
+use Rattle.tsdb_history.specs.Serving.{IsDrawn, disk_under, slot_under}
 
 -- a call that writes nothing leaves what the disk might leave
 keeps_leaves : (old new : DiskState) (P : Image → Type 0) → IsLawful old → IsLawful new → Keeps old new

@@ -30,7 +30,7 @@ use Rattle.tsdb_script.specs.Reading.{IsFirstBad, IsScript}
 use Rattle.tsdb_script.specs.declared.fault.ScriptFault.{ScriptFault}
 use Rattle.tsdb_script.specs.declared.fault.ScriptFault.TheVariants as script_fault
 use Rattle.tsdb_script.specs.declared.numbered.Numbered.{Numbered}
-use Rattle.tsdb_recover.specs.Serving.{IsServing, disk_under}
+use Rattle.tsdb_history.specs.Serving.{IsServing, disk_under}
 
 -- the run of these words and this source, with what it left
 abbrev pub run_of : List (List ℕ) → Option (List ℕ) → Contents → Contents → ℕ → ℕ → Option (List ℕ) → List Told

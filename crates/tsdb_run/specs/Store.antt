@@ -19,7 +19,7 @@ use Rattle.tsdb_recover.specs.Stored.{AreStored}
 use Rattle.tsdb_recover.specs.Taking.{HaveLengths}
 use Rattle.tsdb_state.specs.Replays.{IsReplayOf}
 use Rattle.tsdb_state.specs.Stores as store
-use Rattle.tsdb_recover.specs.Serving.{AreHeldWith}
+use Rattle.tsdb_history.specs.Serving.{AreHeldWith}
 
 -- What a place has: what its disk means, and the files of its store where it tells them.
 pub record Contents : Type 1 where

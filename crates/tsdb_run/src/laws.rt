@@ -1,6 +1,6 @@
-//! The laws of runs that follow one another. The functions do nothing; their contracts are the laws. Depends on
-//! tsdb_outside.
-ghost use Rattle.std.specs.Prelude.{◌≡◌, ℕ, List, [], ◌∷◌, Some};
+//! The laws of a core that was recovered, and of runs that follow one another. The functions do nothing; their contracts
+//! are the laws. Depends on tsdb_outside and tsdb_recover.
+ghost use Rattle.std.specs.Prelude.{◌≡◌, ℕ, List, [], ◌∷◌, None, Some};
 ghost use Rattle.tsdb_history.specs.Joining.{IsFollowed, IsJoined};
 ghost use Rattle.tsdb_history.specs.Prefixes.{StandsAfterPrefix};
 ghost use Rattle.tsdb_model.specs.History.{Entry, IsLegal};
@@ -8,11 +8,20 @@ ghost use Rattle.tsdb_model.specs.State as plain;
 ghost use Rattle.tsdb_base.specs.Causes.{Rose};
 ghost use Rattle.tsdb_outside.specs.Disk.{Image};
 ghost use Rattle.tsdb_outside.specs.Files.{StoredFile};
+ghost use Rattle.tsdb_history.specs.Serving.{IsServing};
+ghost use Rattle.tsdb_recover.specs.Opened.{IsRecovered};
 ghost use Rattle.tsdb_run.specs.Headline.{HasRun};
 ghost use Rattle.tsdb_run.specs.Stops.{IsStopped};
 ghost use Rattle.tsdb_run.specs.Store.{IsSound, contents, new_state};
 
-use tsdb_outside::Place;
+use tsdb_outside::{Files, Journal, Place};
+use tsdb_recover::Core;
+
+/// A recovered core is in the state of its store, beside the stored files. So it can serve commands.
+pub(crate) fn a_recovered_core_serves<J: Journal, F: Files>(_core: &Core<J, F>)
+    ensures { (bytes : List ℕ) (stored : List StoredFile) (at : plain.State) → IsRecovered _core.now bytes stored at
+        → IsServing _core.now stored at None }
+{}
 
 /// Where a second run begins on the sound store that a first one left, its entries follow those of the first, with the
 /// one change in doubt or without.

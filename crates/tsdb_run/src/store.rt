@@ -11,16 +11,17 @@ ghost use Rattle.tsdb_recover.specs.declared.fault.Part as store_part;
 ghost use Rattle.tsdb_run.specs.Causes.{ReportsDamage, TellsDevice};
 ghost use Rattle.tsdb_run.specs.Steps.{IsRefused, IsRunOn, IsServedFrom, opening_status};
 ghost use Rattle.tsdb_run.specs.Store.{HasDamage, IsSoundOrSilent, contents};
-ghost use Rattle.tsdb_recover.specs.Flushing.{IsReady};
-ghost use Rattle.tsdb_recover.specs.Serving.{IsSure, slot_under};
+ghost use Rattle.tsdb_history.specs.Flushing.{IsReady};
+ghost use Rattle.tsdb_history.specs.Serving.{IsSure, slot_under};
 
 use crate::asked::Asked;
+use crate::laws::a_recovered_core_serves;
 use crate::status::Status;
 use std::alloc::Global;
 use tsdb_base::List;
 use tsdb_history::{Room, Told, close, execute};
 use tsdb_outside::{Files, Journal, Place, StoreFault};
-use tsdb_recover::{Core, OpenFault, OpenRefused, Options, a_recovered_core_serves, recover};
+use tsdb_recover::{Core, OpenFault, OpenRefused, Options, recover};
 use tsdb_script::Numbered;
 
 /// Executes the commands of a script on the store that is asked for. Where the store cannot be opened, its log is as it

@@ -12,7 +12,7 @@ use Rattle.tsdb_outside.specs.Files.{Store}
 use Rattle.tsdb_run.proofs.Executed.{above_stored, run_before}
 use Rattle.tsdb_run.proofs.Whole.{gone, image, next_is, next_same, opened, sound_left}
 use Rattle.tsdb_run.specs.Store.{IsSoundOrSilent, contents}
-use Rattle.tsdb_recover.specs.Serving.{IsSure, disk_under}
+use Rattle.tsdb_history.specs.Serving.{IsSure, disk_under}
 use Rattle.tsdb_outside.proofs.DiskLemmas.{Keeps-same}
 use Rattle.tsdb_run.proofs.Refused.{never_opened, opening_refused, reports, same_refused}
 use Rattle.tsdb_run.specs.Causes.{ReportsDamage}

@@ -8,7 +8,7 @@ use Rattle.std.specs.Prelude.{is_some}
 use Rattle.tsdb_base.specs.Causes.{Rose}
 use Rattle.tsdb_outside.specs.Files.{Store}
 use Rattle.tsdb_run.proofs.Executed.{has_run, one_more_fault, some_and}
-use Rattle.tsdb_recover.specs.Flushing.{faults_under}
+use Rattle.tsdb_history.specs.Flushing.{faults_under}
 use Rattle.tsdb_run.proofs.store.serve_script.Goals as goal
 
 pub returns-clause-served : goal.returns-clause-served

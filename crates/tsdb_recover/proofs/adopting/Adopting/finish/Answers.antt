@@ -3,7 +3,7 @@ use Rattle.tsdb_recover.proofs.AdoptedCore.{above_kept, opened_files, same_wante
 use Rattle.tsdb_fileset.specs.Files.{KeptFiles}
 use Rattle.tsdb_recover.specs.Adopting.{AreFree, files_of, opening_of}
 use Rattle.tsdb_recover.specs.Known.{known_of}
-use Rattle.tsdb_serving.specs.Core.{IsSeen}
+use Rattle.tsdb_core.specs.Core.{IsSeen}
 use Rattle.tsdb_frames.specs.Frames.{IsLog}
 use Rattle.tsdb_log.specs.Spelling.{spelling}
 use Rattle.tsdb_memory.specs.Logged.{Outside}

@@ -1,8 +1,8 @@
 use Rattle.std.proofs.Common.{subst, sym}
-use Rattle.tsdb_serving.specs.Core.{next_of}
+use Rattle.tsdb_recover.specs.Core.{next_of}
 use Rattle.tsdb_state.specs.Stores.{HoldsKept}
 use Rattle.tsdb_state.specs.NewStore.{opened}
-use Rattle.tsdb_recover.proofs.laws.a_recovered_core_serves.Goals as goal
+use Rattle.tsdb_run.proofs.laws.a_recovered_core_serves.Goals as goal
 
 pub returns : goal.returns
 returns g c = λ bytes stored at recovered. record {
