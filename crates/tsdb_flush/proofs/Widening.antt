@@ -14,7 +14,8 @@ use Rattle.std.proofs.lemmas.List.Elements.{All-from_recursion, recursion_from_A
 use Rattle.std.proofs.lemmas.List.{get_or_append_left, get_or_default, get_or_push, length-append}
 use Rattle.tsdb_base.specs.Points.{IsRising}
 use Rattle.tsdb_base.specs.declared.point.Point.{Point}
-use Rattle.tsdb_flush.specs.MakingSteps.{AddsTimes, AreFrom, ComeBefore, EndsIn, IsWidened, filled_with}
+use Rattle.tsdb_flush.specs.Hulls.{EndsIn, IsWidened}
+use Rattle.tsdb_flush.specs.MakingSteps.{AddsTimes, AreFrom, ComeBefore, filled_with}
 use Rattle.tsdb_index.specs.Entries.{AreNamesBefore}
 use Rattle.tsdb_flush.specs.Built.{AreHullsOf, HasHullOver, HasTime}
 use Rattle.tsdb_flush.specs.Parts.{Filled, names_of}

@@ -7,6 +7,7 @@ pub mod BuiltParts
 pub mod Flushes
 pub mod Taking
 pub mod TakingSteps
+pub mod Hulls
 pub use Rattle.tsdb_memory.specs.Least
 pub use Rattle.tsdb_memory.specs.Shown
 pub use Rattle.tsdb_memory.specs.Places

@@ -1,5 +1,5 @@
 -- What a part in the making has, and what its steps do. Only private calls speak of it.
-use Rattle.std.specs.Prelude.{◌≡◌, ◌≢◌, Bool, true, false, ℕ, ℤ, ◌<◌, ◌≤ℤ◌, ◌⊎◌, List, [], ◌∷◌, ◌++◌, length, map}
+use Rattle.std.specs.Prelude.{◌≡◌, ℕ, ℤ, ◌<◌, ◌≤ℤ◌, List, [], ◌∷◌, ◌++◌, length, map}
 use Rattle.std.specs.List.{AllByRecursion as Each}
 use Rattle.tsdb_base.specs.declared.point.Point.{Point}
 use Rattle.tsdb_base.specs.Values.{type_of}
@@ -28,21 +28,6 @@ pub record HaveBegun (builder : Builder) (points : List Point) : Type 0 where
   pub schema : Schema
   pub given : WasGiven builder (map series_of (part ++ filled_with schema [] ∷ []))
   pub typed : Each (λ point. type_of point.value ≡ schema.data_type) points
-
--- the hull is the old one, over the times from the one to the other too
-pub record IsWidened (old : Hull) (from to : ℤ) (new : Hull) : Type 0 where
-  pub device : new.device ≡ old.device
-  pub begins : (new.from ≡ old.from) ⊎ (new.from ≡ from)
-  pub ends : (new.to ≡ old.to) ⊎ (new.to ≡ to)
-  pub from_old : new.from ≤ℤ old.from
-  pub from_new : new.from ≤ℤ from
-  pub to_old : old.to ≤ℤ new.to
-  pub to_new : to ≤ℤ new.to
-
--- the last hull is of the device, or no last hull is
-abbrev pub EndsIn : List Hull → List ℕ → Bool → Type 0
-EndsIn hulls device true = (front : List Hull) × (last : Hull) × (hulls ≡ front ++ last ∷ []) × (last.device ≡ device)
-EndsIn hulls device false = (front : List Hull) (last : Hull) → hulls ≡ front ++ last ∷ [] → last.device ≢ device
 
 -- the points lie from the one time to the other, and both have a point
 pub record AreFrom (points : List Point) (from to : ℤ) : Type 0 where

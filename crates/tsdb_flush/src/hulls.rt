@@ -1,7 +1,8 @@
 //! The hulls of a part in the making. Depends on tsdb_base, tsdb_path and tsdb_plan.
 ghost use Rattle.std.specs.Prelude.{◌<◌, List, length, OnOk};
 ghost use Rattle.tsdb_base.specs.declared.point.Point.{Point as PointOf};
-ghost use Rattle.tsdb_flush.specs.MakingSteps.{AddsTimes, AreFrom, EndsIn, IsWidened};
+ghost use Rattle.tsdb_flush.specs.Hulls.{EndsIn, IsWidened};
+ghost use Rattle.tsdb_flush.specs.MakingSteps.{AddsTimes, AreFrom};
 ghost use Rattle.tsdb_base.specs.Points.{IsRising};
 ghost use Rattle.tsdb_path.specs.Nodes.{device_of as device_in};
 ghost use Rattle.std.specs.Prelude.{◌≡◌};
@@ -11,7 +12,7 @@ use tsdb_path::Path;
 use tsdb_plan::Hull;
 
 /// Widens the hull over the times from the one to the other.
-fn widen(hull: &mut Hull, from: Time, to: Time)
+pub fn widen(hull: &mut Hull, from: Time, to: Time)
     ensures { IsWidened hull.old from to hull.new }
 {
     hull.from = hull.from.min(from);
@@ -19,7 +20,7 @@ fn widen(hull: &mut Hull, from: Time, to: Time)
 }
 
 /// Whether the last hull is of the device.
-fn ends_in(hulls: &[Hull], device: &Path) -> bool
+pub fn ends_in(hulls: &[Hull], device: &Path) -> bool
     ensures { EndsIn hulls.now device.now result }
 {
     match hulls.last() {

@@ -36,6 +36,7 @@ pub use built_laws::{
     the_part_of_a_job_is_the_content_of_its_pair,
 };
 pub use flush::{FlushRefused, run_flush};
+pub use hulls::{ends_in, widen};
 pub use job::{Built, FlushJob, Flushed};
 pub use part::{Part, Whole};
 pub use taking::take;
