@@ -12,6 +12,7 @@ pub mod StateSweeps
 pub mod Joining
 pub mod Spans
 pub mod Telling
+pub mod StoredPlaces
 pub use Rattle.tsdb_flush.proofs.Types
 pub use Rattle.tsdb_flush.proofs.Emptiness
 pub use Rattle.tsdb_flush.proofs.RowCells

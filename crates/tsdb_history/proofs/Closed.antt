@@ -10,7 +10,7 @@ use Rattle.tsdb_querying.specs.Core.{files_of, logged_of}
 use Rattle.tsdb_querying.specs.Listings.{TellsStore}
 use Rattle.tsdb_querying.specs.CoreType.{Core}
 use Rattle.tsdb_fileset.specs.Held.{AreFilesOf, listed, leaving}
-use Rattle.tsdb_history.proofs.Stored.{IsToldAt, at_place, differing, each_stored, few, found, named, stored_at}
+use Rattle.tsdb_fileset.proofs.StoredPlaces.{IsToldAt, at_place, differing, each_stored, few, found, named, stored_at}
 use Rattle.tsdb_history.specs.Closing.{IsClosed}
 use Rattle.tsdb_history.specs.Listings.{IsListingOf}
 use Rattle.tsdb_state.proofs.ImageLemmas.Kept.{holds_found, kept_by_number}

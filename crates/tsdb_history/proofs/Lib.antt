@@ -1,4 +1,3 @@
-pub mod Stored
 pub mod Closed
 pub mod Entries
 pub mod SoFar

@@ -37,7 +37,8 @@ use Rattle.tsdb_recover.specs.Opened.{IsReplay}
 use Rattle.tsdb_recover.specs.Taking.{AreGone, AreGoneIn, AreTaken, HasTakenUp, IsRest, IsTakingUp, NoDamage, rests_of}
 use Rattle.tsdb_state.specs.Replays.{Replays}
 use Rattle.tsdb_state.specs.Stores.{Recorded, store_steps}
-use Rattle.tsdb_recover.proofs.Stored.{IsToldAt, at_place, each_stored, few_stored, found, named, places_stored, stored_at}
+use Rattle.tsdb_fileset.proofs.StoredPlaces.{IsToldAt, at_place, each_stored, found, named, stored_at}
+use Rattle.tsdb_recover.proofs.Stored.{few_stored, places_stored}
 use Rattle.tsdb_recover.specs.Stored.{AreStored, DifferInNumber, IsNumbered}
 use Rattle.tsdb_state.specs.Records.{numbers_of as state_numbers}
 use Rattle.tsdb_state.specs.State.{File, StoreState}

@@ -1,4 +1,4 @@
--- The files that are stored when a core is closed: those at its places.
+-- The files that are stored at the places of a core: what the kept files tell.
 use Rattle.std.proofs.Common.{◌≡◌, ◌≢◌, inl, inr, ℕ, ◌+◌, ◌-◌, ◌<◌, ◌≤◌, Bool, true, false, cond, nat_eq, List, [], ◌∷◌, ◌++◌}
 use Rattle.std.proofs.Common.{length, length-append, Option, Some, None, refl, sym, ap, subst, ◌∙◌, arith}
 use Rattle.std.proofs.lemmas.Bool.{false≢true}
@@ -8,7 +8,7 @@ use Rattle.std.specs.Ordering.{is_eq}
 use Rattle.std.specs.List.{AllByRecursion as Each, AllZip, find, flat_map}
 use Rattle.std.specs.Option.{option_map}
 use Rattle.std.specs.Prelude.{IfSome}
-use Rattle.tsdb_state.specs.Stored.{kept_bytes}
+use Rattle.tsdb_flush.specs.Stored.{kept_bytes}
 use Rattle.tsdb_fileset.proofs.PlaceFacts.{other_number, same_number}
 use Rattle.tsdb_fileset.specs.Closing.{AreRising, IsNamed, names_at}
 use Rattle.tsdb_fileset.specs.Places.{KeptFile, Places, file_at, is_number, place_at}
