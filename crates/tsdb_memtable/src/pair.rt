@@ -1,4 +1,4 @@
-//! The points that are in memory, of both spaces, by series. It depends on `series` and `watermarks`.
+//! The points that are in memory, of both spaces, by series. It depends on `points`, `series` and `watermarks`.
 ghost use Rattle.std.specs.Prelude.{◌≡◌, ◌≢◌, ℕ, ◌+◌, ◌<◌, true, [], map, IfOk, OnOk, OnErr};
 ghost use Rattle.std.specs.List.{filter};
 ghost use Rattle.tsdb_base.specs.declared.ids.Space.{Space as SpaceOf};
@@ -9,6 +9,7 @@ ghost use Rattle.tsdb_memtable.specs.Pairs.{byte_count, change_points, count, Ha
 ghost use Rattle.tsdb_memtable.specs.Pairs.{UsesSpareRoom, points_of, put_in, spare_of, table};
 ghost use Rattle.tsdb_memtable.specs.PairModel.{CanSwap, IsSwap, HasRoomFor};
 
+use crate::points;
 use crate::series::{SeriesPoints, Totals};
 use crate::watermarks::{Watermarks, space_of};
 use std::alloc::Global;
@@ -220,12 +221,10 @@ impl Pair {
 
     /// The points of the series in the space and the range, in order of time. It takes no memory.
     pub fn slice(&self, space: Space, series: SeriesId, range: &Range) -> &[Point]
-        ensures { result.now ≡ filter (is_within range.now) (points_of space series.0 self.now) }
+        ensures points { result.now ≡ filter (is_within range.now) (points_of space series.0 self.now) }
+        ensures rising { IsRising (points_of space series.0 self.now) }
     {
-        match self.series.get(&series.0) {
-            Some(points) => points.slice(space, range),
-            None => &[],
-        }
+        points::slice(self.points_of(space, series), range)
     }
 
     /// The series that have a point in the space, in order of their numbers.

@@ -1,10 +1,8 @@
 //! The points of one series in both spaces, with room for more. It depends on `points`.
 ghost use Rattle.std.specs.Prelude.{◌≡◌, ◌==◌, ◌+◌, ◌*◌, ◌<◌, ◌≤◌, length, OnOk, OnErr};
-ghost use Rattle.std.specs.List.{filter};
 ghost use Rattle.tsdb_base.specs.Limits.{max_point_bytes};
 ghost use Rattle.tsdb_memtable.specs.Limits.{max_bytes};
 ghost use Rattle.tsdb_base.specs.Points.{IsRising};
-ghost use Rattle.tsdb_memtable.specs.Points.{is_within};
 ghost use Rattle.tsdb_base.specs.declared.ids.Space.{Space as SpaceOf};
 ghost use Rattle.tsdb_memtable.specs.Pairs.{IsProvided, blank, without_range, points_in, put_in, series_bytes};
 ghost use Rattle.tsdb_memtable.specs.Model.{most_bytes, totals_of, with_room};
@@ -139,16 +137,6 @@ impl SeriesPoints {
         match space {
             Space::Sequence => self.sequence.as_slice(),
             Space::Unsequence => self.unsequence.as_slice(),
-        }
-    }
-
-    /// The points of the space in the range.
-    pub(crate) fn slice(&self, space: Space, range: &Range) -> &[Point]
-        ensures { result.now ≡ filter (is_within range.now) (points_in space self.now) }
-    {
-        match space {
-            Space::Sequence => points::slice(&self.sequence, range),
-            Space::Unsequence => points::slice(&self.unsequence, range),
         }
     }
 }

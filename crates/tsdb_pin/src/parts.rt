@@ -27,8 +27,6 @@ fn take_part<F: Files>(
     ensures memory { OnErr result (sources.new.items ≡ sources.old.items) }
     ensures rising { IsRising (points_of space series.0 pair.now) }
 {
-    // (a call of the pair tells that its points rise)
-    let _ = pair.points_of(space, series);
     let points = pair.slice(space, series, range);
     if points.is_empty() {
         return Ok(());
