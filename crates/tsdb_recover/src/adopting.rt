@@ -68,7 +68,6 @@ impl<F: Files> Adopting<F> {
         ensures free { (recorded : Recorded) → IsAdoptingOf self.now recorded
             → IfSome result (λ number. kept_file number.0 (files_of self.now) ≡ None) }
     {
-        self.tell_kept();
         match self.next() {
             Some((_space, file)) => Some(file.number),
             None => None,
@@ -77,8 +76,9 @@ impl<F: Files> Adopting<F> {
 
     /// The file that is taken up next, with its list.
     fn next(&self) -> Option<(Space, ListedFile)>
-        ensures { (recorded : Recorded) → IsOpeningOf (opening_of self.now) recorded
+        ensures file { (recorded : Recorded) → IsOpeningOf (opening_of self.now) recorded
             → option_map shown result ≡ wanted_file (files_of self.now) recorded.store }
+        ensures kept { AreKept (files_of self.now) }
     {
         if let Some(file) = self.next_of(Space::Sequence) {
             return Some((Space::Sequence, file));
@@ -91,8 +91,9 @@ impl<F: Files> Adopting<F> {
 
     /// The first file of a list that is not kept yet.
     fn next_of(&self, space: Space) -> Option<ListedFile>
-        ensures { (recorded : Recorded) → IsOpeningOf (opening_of self.now) recorded
+        ensures file { (recorded : Recorded) → IsOpeningOf (opening_of self.now) recorded
             → option_map file_of result ≡ next_in space (files_of self.now) recorded.store }
+        ensures kept { AreKept (files_of self.now) }
     {
         let kept = self.files.entries(space).len();
         self.opening.files(space).get(kept).copied()
@@ -133,7 +134,6 @@ impl<F: Files> Adopting<F> {
         ensures token { IfErr result (λ refused. refused.sealed ≡ sealed) }
         ensures same { OnErr result (KeepsFiles (files_of self.old) (files_of self.new)) }
     {
-        self.tell_kept();
         self.tell_memory();
         let Some((space, file)) = self.next() else {
             unreachable!()

@@ -12,7 +12,7 @@ enlist-requires-clause-place g c κs within =
     let is = c.requires.wanted.is in
     let recorded = c.requires.wanted.recorded in
     let free = wanted_not_kept (files_of c.args.self.now) is.items recorded c.in-Some.space (file_of c.in-Some.file)
-    c.tell_kept.ensures is.replayed is.first (sym (c.in-Some.ensures recorded is.opening)) in
+    c.next.ensures.kept is.replayed is.first (sym (c.in-Some.ensures.file recorded is.opening)) in
     subst (λ n. IsOpen n (files_of c.prepare.new.self)) (sym c.in-Ok.ensures.described.number)
     (c.in-Ok.ensures.place.made free)
 
@@ -23,7 +23,7 @@ returns-in-Ok-clause-adopting g c = λ recorded is.
     let made = files_of c.prepare.new.self in
     let new = files_of c.enlist.new.self in
     let adopted = is_adopted name c.args.meta.now recorded.store c.in-Some.space (file_of c.in-Some.file) old made new
-    c.in-Ok.described.entry c.in-Ok.described.series (sym (c.in-Some.ensures recorded is.opening))
+    c.in-Ok.described.entry c.in-Ok.described.series (sym (c.in-Some.ensures.file recorded is.opening))
     c.in-Ok.ensures.described c.in-Ok.ensures.files c.enlist.ensures.taken in
     record {
       opening = subst (λ o. IsOpeningOf o recorded)
@@ -42,10 +42,10 @@ returns-in-Ok-clause-described g c = λ recorded told is order read says.
     let held = c.tell_memory.ensures recorded is.opening in
     let may = c.requires.wanted in
     let adopted = is_adopted name c.args.meta.now recorded.store c.in-Some.space (file_of c.in-Some.file) old made new
-    c.in-Ok.described.entry c.in-Ok.described.series (sym (c.in-Some.ensures recorded is.opening))
+    c.in-Ok.described.entry c.in-Ok.described.series (sym (c.in-Some.ensures.file recorded is.opening))
     c.in-Ok.ensures.described c.in-Ok.ensures.files c.enlist.ensures.taken in
     let number = number_wanted (adopted.space, adopted.file) (wanted_file old may.recorded.store) name.number
-    (sym adopted.wanted ∙ sym (c.in-Some.ensures recorded is.opening) ∙ c.in-Some.ensures may.recorded may.is.opening)
+    (sym adopted.wanted ∙ sym (c.in-Some.ensures.file recorded is.opening) ∙ c.in-Some.ensures.file may.recorded may.is.opening)
     may.wanted in
     says_more name c.args.meta.now recorded.store old new adopted told held.0 is.items recorded refl (sym number)
-    c.tell_kept.ensures is.replayed is.first held.1 held.2 order read says
+    c.next.ensures.kept is.replayed is.first held.1 held.2 order read says

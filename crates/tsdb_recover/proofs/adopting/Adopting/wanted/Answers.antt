@@ -4,5 +4,5 @@ use Rattle.tsdb_recover.proofs.adopting.Adopting.wanted.Goals as goal
 
 pub returns-in-Some-clause-free : goal.returns-in-Some-clause-free
 returns-in-Some-clause-free g c = λ recorded is.
-    not_kept_yet (files_of c.args.self.now) is.items recorded _ c.tell_kept.ensures is.replayed is.first
-    (c.in-Some.ensures recorded is.opening)
+    not_kept_yet (files_of c.args.self.now) is.items recorded _ c.next.ensures.kept is.replayed is.first
+    (c.in-Some.ensures.file recorded is.opening)
