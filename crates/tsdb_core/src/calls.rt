@@ -25,6 +25,7 @@ impl<J: Journal, F: Files> Core<J, F> {
     ghost use Rattle.tsdb_core.specs.Rows.{CanFreezeNow};
     ghost use Rattle.tsdb_core.specs.Sweeps.{IsSwept};
     ghost use Rattle.tsdb_core.specs.Worlds.{FollowsMap, KeepsWorld};
+    ghost use Rattle.tsdb_fileset.specs.Files.{AreKept};
     ghost use Rattle.tsdb_memory.specs.Closing.{IsClosed};
     ghost use Rattle.tsdb_memory.specs.Commands.{IsAny, create_record};
     ghost use Rattle.tsdb_memory.specs.Logged.{memory_of};
@@ -115,6 +116,7 @@ impl<J: Journal, F: Files> Core<J, F> {
         ensures at_rest { WhereTold (ArePutBack (names_at (files_of self).places)) (F.at_rest files.old)
             (F.at_rest files.new) }
         ensures rising { AreRising (files_of self).places }
+        ensures kept { AreKept (files_of self) }
         ensures same_store { F.store files.new ≡ F.store files.old }
         ensures faults { F.faults files.new ≡ F.faults files.old }
     {

@@ -403,6 +403,7 @@ impl<F: Files> KeptFiles<F> {
         requires store { AreOfStore (F.store files.old) self.places }
         ensures at_rest { WhereTold (ArePutBack (names_at self.places)) (F.at_rest files.old) (F.at_rest files.new) }
         ensures rising { AreRising self.places }
+        ensures kept { AreKept self }
         ensures same_store { F.store files.new ≡ F.store files.old }
         ensures faults { F.faults files.new ≡ F.faults files.old }
     {

@@ -22,7 +22,5 @@ pub fn close<J: Journal, F: Files>(core: Core<J, F>, files: &mut F) -> J
     ensures same_store { F.store files.new ≡ F.store files.old }
     ensures faults { F.faults files.new ≡ F.faults files.old }
 {
-    // (it tells that what is kept is listed or on its way out)
-    let _ = core.outgoing();
     core.close(files)
 }

@@ -103,7 +103,6 @@ impl<F: Files> Adopting<F> {
         ensures same_store { F.store files.new ≡ F.store files.old }
         ensures faults { F.faults files.new ≡ F.faults files.old }
     {
-        self.tell_kept();
         let Adopting {
             alloc: _,
             opening: _,
