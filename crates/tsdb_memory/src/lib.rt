@@ -50,7 +50,6 @@ mod store;
 
 pub use cells::cells_of;
 pub use fitting::fits;
-pub use framing::frame_record;
 pub use freezing::Freezing;
 pub use logged::Logged;
 pub use map_laws::{

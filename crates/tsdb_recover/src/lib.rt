@@ -40,12 +40,9 @@ mod strays;
 mod summary;
 mod taking;
 
-pub use adopting::{AdoptRefused, Adopting};
 pub use adopting_laws::what_is_read_of_a_whole_file_is_of_its_points;
-pub use described::{Described, describe};
 pub use described_laws::the_entry_of_a_file_says_its_points;
 pub use fault::{OpenFault, OpenRefused, Part};
-pub use files::fetch_whole;
 pub use log::read_log;
 pub use opening::recover;
 pub use tsdb_core::{Core, Options};

@@ -39,7 +39,7 @@ pub use flush_laws::{
     a_flush_whose_files_are_told_can_be_committed, a_pair_that_is_frozen_is_the_oldest,
     the_files_of_a_flush_join_those_of_the_state,
 };
-pub use inputs::{give_back_inputs, take_inputs};
+pub use inputs::take_inputs;
 pub use output_laws::{
     a_built_output_can_be_told, a_file_built_for_a_job_is_its_output,
     a_job_may_end_without_its_record, a_job_with_its_output_can_be_committed,
