@@ -8,7 +8,7 @@ use Rattle.std.proofs.lemmas.List.Elements.{All-cons, All-nil}
 use Rattle.std.proofs.lemmas.List.Kept.{AllPairs-filter}
 use Rattle.tsdb_base.specs.declared.point.Point.{Point}
 use Rattle.tsdb_base.specs.declared.point.Range.{Range}
-use Rattle.tsdb_streams.specs.Kept as columns
+use Rattle.tsdb_streams.specs.Kept.{is_kept}
 use Rattle.tsdb_streams.specs.Lanes.{IsSourceOf, IsToldSource, IsTrueSource, source_all, source_left}
 use Rattle.tsdb_streams.specs.declared.source.Source.{Source}
 use Rattle.tsdb_streams.specs.declared.source.Source.TheVariants as lent
@@ -17,7 +17,7 @@ use Rattle.tsdb_marks.specs.declared.marks.Mark.{Mark}
 use Rattle.tsdb_base.specs.Points.{IsRising}
 use Rattle.tsdb_outside.specs.Files.{NamedFile, Store}
 use Rattle.tsdb_path.specs.Nodes.{device_of, measurement_of}
-use Rattle.tsdb_pins.specs.Worlds.{born_of, is_kept, kept_of}
+use Rattle.tsdb_pins.specs.Worlds.{born_of, kept_of}
 use Rattle.tsdb_pin.specs.declared.pin.PinnedSource.{PinnedSource}
 use Rattle.tsdb_pin.specs.declared.pin.PinnedSource.TheVariants.{File, Part}
 use Rattle.tsdb_pins.specs.Reading.{HasTold, IsLentAs, IsOfStore, IsToldIn, IsTrueIn, SeriesPages}
@@ -92,7 +92,7 @@ module _ {F S R P : Type 0} (name : R → NamedFile) (pages : SeriesPages) (path
   module _ (range : Range) (marks : List Mark) where
     -- what a stream has of a lent source at first are the points of the source that are kept
     one_left : (source : PinnedSource F S R P) (other : Source R) (points : List Point) → IsLentAs source other → HasTold name pages path source points
-        → source_left name (pages path) (columns.is_kept path range marks) other ≡ Some (filter (is_kept path range marks (born_of source)) points)
+        → source_left name (pages path) (is_kept path range marks) other ≡ Some (filter (is_kept path range marks (born_of source)) points)
     one_left (File number born right) (lent.File read stamp) points is has =
         ap (λ r. option_map (λ (list : List (List Point)). filter (is_kept path range marks stamp.0) (joined list)) (pages path (name r).number)) is.0
         ∙ ap (option_map (λ (list : List (List Point)). filter (is_kept path range marks stamp.0) (joined list))) has.1
@@ -105,14 +105,14 @@ module _ {F S R P : Type 0} (name : R → NamedFile) (pages : SeriesPages) (path
         ∙ ap (λ b. Some (filter (is_kept path range marks b) points)) (ap (λ s. s.0) is.1)
 
     pub all_left : (sources : List (PinnedSource F S R P)) (list : List (Source R)) (lists : List (List Point)) → AllZip IsLentAs sources list → AllZip (HasTold name pages path) sources lists
-        → map (source_left name (pages path) (columns.is_kept path range marks)) list ≡ map (λ (l : List Point). Some l) (kept_of path range marks sources lists)
+        → map (source_left name (pages path) (is_kept path range marks)) list ≡ map (λ (l : List Point). Some l) (kept_of path range marks sources lists)
     all_left [] [] [] zip has = refl
     all_left [] [] (points ∷ lists) zip has = absurd has
     all_left [] (other ∷ list) lists zip has = absurd zip
     all_left (source ∷ sources) [] lists zip has = absurd zip
     all_left (source ∷ sources) (other ∷ list) [] zip has = absurd has
     all_left (source ∷ sources) (other ∷ list) (points ∷ lists) zip has =
-        ap (λ o. o ∷ map (source_left name (pages path) (columns.is_kept path range marks)) list) (one_left source other points zip.0 has.0)
+        ap (λ o. o ∷ map (source_left name (pages path) (is_kept path range marks)) list) (one_left source other points zip.0 has.0)
         ∙ ap (λ l. Some (filter (is_kept path range marks (born_of source)) points) ∷ l) (all_left sources list lists zip.1 has.1)
 
     pub kept_rising : (sources : List (PinnedSource F S R P)) (lists : List (List Point)) → Each IsRising lists → All IsRising (kept_of path range marks sources lists)

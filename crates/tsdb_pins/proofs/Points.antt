@@ -27,7 +27,8 @@ use Rattle.tsdb_memory.specs.Shown.{value_at}
 use Rattle.tsdb_merge.proofs.MergeLemmas.{AllPairs-head, AllPairs-tail, Contains-cases, Contains-head, Contains-nil, Contains-tail, same_points}
 use Rattle.tsdb_base.specs.Points.{IsRising}
 use Rattle.tsdb_merge.specs.Winners.{IsMergeOf}
-use Rattle.tsdb_pins.specs.Worlds.{HasPointsOf, IsSourceOf, born_of, is_kept, kept_of, series_points}
+use Rattle.tsdb_pins.specs.Worlds.{HasPointsOf, IsSourceOf, born_of, kept_of, series_points}
+use Rattle.tsdb_streams.specs.Kept.{is_kept}
 use Rattle.tsdb_pin.specs.Shown.{ArePointsOf, IsColumnOf, IsPinOf, IsShownAs}
 use Rattle.tsdb_pin.specs.declared.pin.Column.{Column}
 use Rattle.tsdb_pin.specs.declared.pin.Pin.{Pin}

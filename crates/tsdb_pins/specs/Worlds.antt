@@ -1,30 +1,25 @@
 -- What a pin answers in a world, and what its sources have.
-use Rattle.std.specs.Prelude.{◌≡◌, ℕ, Bool, ◌&&◌, List, [], ◌∷◌, map, filter, Option}
+use Rattle.std.specs.Prelude.{◌≡◌, ℕ, List, [], ◌∷◌, map, filter, Option}
 use Rattle.std.specs.FinMap.{get}
 use Rattle.std.specs.List.{AllZip}
 use Rattle.tsdb_base.specs.declared.point.Point.{Point}
 use Rattle.tsdb_base.specs.declared.point.Range.{Range}
 use Rattle.tsdb_base.specs.declared.value.Value.{Value}
-use Rattle.tsdb_state.specs.Marks.{survives}
 use Rattle.tsdb_model.specs.Apply.{item_value}
 use Rattle.tsdb_model.specs.Folds.{in_order, within}
-use Rattle.tsdb_model.specs.World.{Points, World, is_in, points_of}
+use Rattle.tsdb_model.specs.World.{Points, World, points_of}
 use Rattle.tsdb_marks.specs.declared.marks.Mark.{Mark}
 use Rattle.tsdb_merge.specs.Winners.{IsMergeOf}
 use Rattle.tsdb_pin.specs.Shown.{ArePointsOf}
 use Rattle.tsdb_pin.specs.declared.pin.Column.{Column}
 use Rattle.tsdb_pin.specs.declared.pin.PinnedSource.{PinnedSource}
 use Rattle.tsdb_pin.specs.declared.pin.PinnedSource.TheVariants.{File, Part}
-use Rattle.tsdb_streams.specs.Survivors.{place_at}
+use Rattle.tsdb_streams.specs.Kept.{is_kept}
 use Rattle.tsdb_state.specs.State.{Told}
 
 -- the points that a series has in a range, in order of time
 abbrev pub series_points : World → Range → List ℕ → Points
 series_points world range path = within range (points_of (get world path))
-
--- whether a point of a source that was born so is kept: it is in the range, and no mark deletes it
-abbrev pub is_kept : List ℕ → Range → List Mark → ℕ → Point → Bool
-is_kept path range marks born point = is_in range point.time && survives marks (place_at path point.time) born
 
 module _ {F S R P : Type 0} where
   -- the points in the range that each column has in the world
