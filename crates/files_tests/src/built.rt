@@ -2,7 +2,7 @@
 ghost use Rattle.std.specs.Prelude.{◌≡◌, ◌<◌, ◌≤◌, ◌↔◌, All, IsTrue, IfOk, List, OnOk, [], length, ℕ};
 ghost use Rattle.tsdb_base.specs.Values.{type_of};
 ghost use Rattle.tsdb_base.specs.Points.{IsRising};
-ghost use Rattle.tsdb_index.specs.Entries as index;
+ghost use Rattle.tsdb_path.specs.Order.{AreNamesBefore};
 ghost use Rattle.tsdb_path.specs.Nodes.{device_of, measurement_of, node_count};
 ghost use Rattle.tsfile_writer.specs.Building.{WasGiven};
 ghost use Rattle.tsfile_writer.specs.Driving.{HasLast, IsBare};
@@ -49,7 +49,7 @@ fn points_of(alloc: Global, chunk: &Chunk) -> Result<Vec<Point>, Memory> {
 fn may_follow(last: &Path, next: &Path) -> Result<bool, Memory>
     requires last { 2 ≤ node_count last.now }
     requires next { 2 ≤ node_count next.now }
-    ensures { IfOk result (λ may. IsTrue may → index.AreNamesBefore
+    ensures { IfOk result (λ may. IsTrue may → AreNamesBefore
         (device_of last.now, measurement_of last.now) (device_of next.now, measurement_of next.now)) }
 {
     let before = last.device()?;

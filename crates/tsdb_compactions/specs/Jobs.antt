@@ -6,7 +6,7 @@ use Rattle.tsdb_base.specs.declared.ids.Space.{Space}
 use Rattle.tsdb_base.specs.declared.ids.Space.TheVariants.{Sequence, Unsequence}
 use Rattle.tsdb_compactions.specs.declared.job.Input.{Input}
 use Rattle.tsdb_compactions.specs.declared.job.Job.{Job}
-use Rattle.tsdb_index.specs.Entries.{AreNamesBefore}
+use Rattle.tsdb_flush.specs.Order.{AreNamesBefore}
 use Rattle.tsdb_flush.specs.Parts.{names_of}
 use Rattle.tsdb_base.specs.Lists.{EachPair}
 use Rattle.tsdb_model.specs.Commands.{IsSchema}

@@ -1,5 +1,5 @@
 //! Compactions that are out, and when a file is the output of one. Depends on tsdb_base, tsdb_model, tsdb_outside,
-//! tsdb_index, tsdb_marks, tsdb_plan, tsdb_state and tsdb_flush.
+//! tsdb_marks, tsdb_plan, tsdb_state and tsdb_flush.
 //!
 //! `specs/Outputs.antt` says when a file is the output of a job, `specs/Jobs.antt` which compaction of the engine
 //! state a job is, and `specs/Plans.antt` which one a plan begins.

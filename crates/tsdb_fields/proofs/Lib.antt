@@ -3,3 +3,4 @@ pub mod Appending
 pub mod Laws
 pub mod Parts
 pub mod Taken
+pub use Rattle.tsdb_path.proofs.Order

@@ -15,5 +15,5 @@ pub use many::{FieldReader, read_fields};
 pub use reading::{read_field, read_name, read_path, read_value};
 pub use rest::Rest;
 pub use statistics::{read_stats, write_stats};
-pub use tsdb_path::{Name, Path};
+pub use tsdb_path::{Name, Path, compare_names};
 pub use writing::{write_name, write_path, write_value};

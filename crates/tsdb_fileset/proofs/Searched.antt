@@ -15,7 +15,7 @@ use Rattle.std.proofs.lemmas.List.Folds.{list_any_at, list_any_none}
 use Rattle.std.proofs.lemmas.List.Sorted.{searchable_from_sorted}
 use Rattle.tsdb_flush.proofs.Found.{pairs_in_order}
 use Rattle.tsdb_flush.proofs.Orders.{in_order}
-use Rattle.tsdb_fileset.specs.Order.{AreInTreeOrder, tree_cmp, tree_names}
+use Rattle.tsdb_path.specs.Order.{AreInTreeOrder, tree_cmp, tree_names}
 use Rattle.tsdb_flush.proofs.LayerLemmas.Places.{is_path_same, path_itself}
 use Rattle.tsdb_flush.specs.Places.{is_path}
 

@@ -2,7 +2,6 @@ pub mod Closing
 pub mod Files
 pub mod Growth
 pub mod Kept
-pub mod Order
 pub mod Places
 pub mod Replacing
 pub mod Rights

@@ -1,40 +1,18 @@
 //! The series of a kept file, and the search for one of them. Depends on tsdb_base and tsdb_path.
 ghost use Rattle.std.specs.Prelude.{◌≡◌, ◌↔◌, IsTrue};
 ghost use Rattle.std.specs.List.{list_any};
-ghost use Rattle.tsdb_fileset.specs.Order.{AreInTreeOrder, tree_cmp, tree_names};
+ghost use Rattle.tsdb_path.specs.Order.{AreInTreeOrder};
 ghost use Rattle.tsdb_flush.specs.Places.{is_path};
 
-use std::cmp::Ordering;
 use std::marker::Model;
 use tsdb_base::List;
-use tsdb_path::Path;
-
-/// The bytes of the device, and the measurement. A path of one node, which no series has, is a device by itself.
-fn names(path: &Path) -> (&[u8], &[u8])
-    ensures device { result.0.now ≡ (tree_names path.now).0 }
-    ensures measurement { result.1.now ≡ (tree_names path.now).1 }
-{
-    let bytes = path.bytes();
-    if path.nodes() < 2 {
-        return (bytes, &bytes[..0]);
-    }
-    let measurement = path.measurement();
-    // (a dot stands between them)
-    (&bytes[..bytes.len() - measurement.len() - 1], measurement)
-}
-
-/// How the path stands to the other in the order of a tree.
-fn compare(path: &Path, other: &Path) -> Ordering
-    ensures { result ≡ tree_cmp path.now other.now }
-{
-    names(path).cmp(&names(other))
-}
+use tsdb_path::{Path, compare_in_tree};
 
 /// Whether each of the paths comes before the next in the order of a tree.
 fn are_in_order(paths: &[Path]) -> bool
     ensures { IsTrue result ↔ AreInTreeOrder paths.now }
 {
-    paths.is_sorted_by(|path, next| compare(path, next).is_lt())
+    paths.is_sorted_by(|path, next| compare_in_tree(path, next).is_lt())
 }
 
 /// Whether the path is one of those, by a binary search.
@@ -42,7 +20,7 @@ fn has_among_rising(paths: &[Path], path: &Path) -> bool
     requires { AreInTreeOrder paths.now }
     ensures { result ≡ list_any (is_path path.now) paths.now }
 {
-    match paths.binary_search_by(|other| compare(other, path)) {
+    match paths.binary_search_by(|other| compare_in_tree(other, path)) {
         Ok(at) => path.cmp(&paths[at]).is_eq(),
         Err(_) => false,
     }
@@ -65,7 +43,7 @@ pub(crate) struct SeriesPaths {
 
 impl Model for SeriesPaths {
     ghost use Rattle.std.specs.Prelude.{ℕ, List, IsTrue, ◌↔◌};
-    ghost use Rattle.tsdb_fileset.specs.Order.{AreInTreeOrder};
+    ghost use Rattle.tsdb_path.specs.Order.{AreInTreeOrder};
 
     ghost Value = { List (List ℕ) };
 

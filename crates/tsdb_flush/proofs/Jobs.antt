@@ -11,10 +11,10 @@ use Rattle.tsdb_base.specs.declared.ids.Space.TheVariants.{Sequence, Unsequence}
 use Rattle.tsdb_base.specs.declared.point.Point.{Point}
 use Rattle.tsdb_flush.specs.BuiltParts.{IsJobOf}
 use Rattle.tsdb_flush.proofs.TakenParts.{none_part, some_part}
-use Rattle.tsdb_flush.specs.TakingSteps.{AreInTreeOrder, AreSeriesOf, HasNumbers, IsDraw, IsSeriesOf, names_in, schema_in}
+use Rattle.tsdb_flush.specs.TakingSteps.{AreSeriesOf, HasNumbers, IsDraw, IsSeriesOf, names_in, schema_in}
 use Rattle.tsdb_flush.specs.Taking.{HasPoint, IsTaken}
 use Rattle.tsdb_flush.specs.declared.series.PairSeries.{PairSeries}
-use Rattle.tsdb_index.specs.Entries.{AreNamesBefore}
+use Rattle.tsdb_path.specs.Order.{AreInNameOrder, AreNamesBefore}
 use Rattle.tsdb_flush.specs.Jobs.{IsJob}
 use Rattle.tsdb_flush.specs.Parts.{HasPointsOf, IsDrawnFor, IsFlushOf, names_of, part_of}
 use Rattle.tsdb_flush.specs.declared.job.FlushJob.{FlushJob}
@@ -52,7 +52,7 @@ names_before all pair a (b ∷ series) of each less = (
   names_before all pair a series of each.1 less.1,
 )
 
-rises : (all : List Schema) (pair : Pair) (series : List PairSeries) → Each (IsSeriesOf all pair) series → AreInTreeOrder series → EachPair (λ a b. AreNamesBefore (names_of a) (names_of b)) (map schema_in series)
+rises : (all : List Schema) (pair : Pair) (series : List PairSeries) → Each (IsSeriesOf all pair) series → AreInNameOrder names_in series → EachPair (λ a b. AreNamesBefore (names_of a) (names_of b)) (map schema_in series)
 rises all pair [] each order = tt
 rises all pair (one ∷ series) each order = (names_before all pair one series each.0 each.1 order.0, rises all pair series each.1 order.1)
 
@@ -94,7 +94,7 @@ module _ (all : List Schema) (pair : Pair) (series : List PairSeries) (are : Are
     rising = rising;
   }
 
-  flush_of : (next mid end : ℕ) (sequence unsequence : Option FileNumber) → All IsFormed all → HasTypedPoints all pair → AreInTreeOrder series → IsDraw Sequence series next mid sequence → IsDraw Unsequence series mid end unsequence
+  flush_of : (next mid end : ℕ) (sequence unsequence : Option FileNumber) → All IsFormed all → HasTypedPoints all pair → AreInNameOrder names_in series → IsDraw Sequence series next mid sequence → IsDraw Unsequence series mid end unsequence
       → IsFlushOf pair schemas numbers sequence unsequence
   flush_of next mid end sequence unsequence formed typed order first second = record {
     formed = mapped all pair IsSchema (λ one of. (all_at IsFormed all one.id.0 (schema_in one) formed of.schema).suits) series are.each;
@@ -109,7 +109,7 @@ pub record IsFound (store : memory.Store) (next : ℕ) (oldest : memory.FrozenPa
   pub newer : List memory.FrozenPair
   pub are : store.frozen ≡ oldest ∷ newer
   pub all : AreSeriesOf store.series oldest.pair series
-  pub order : AreInTreeOrder series
+  pub order : AreInNameOrder names_in series
   pub mid : ℕ
   pub end : ℕ
   pub first : IsDraw Sequence series next mid sequence

@@ -15,7 +15,7 @@ use Rattle.tsdb_base.specs.declared.point.Point.{Point}
 use Rattle.tsdb_flush.specs.Making.{IsOpen, IsPart, MayAdd}
 use Rattle.tsdb_flush.specs.MakingSteps.{AreFrom, ComeBefore, filled_with}
 use Rattle.tsdb_flush.specs.declared.part.Part.{Part}
-use Rattle.tsdb_index.specs.Entries.{AreNamesBefore}
+use Rattle.tsdb_path.specs.Order.{AreNamesBefore}
 use Rattle.tsdb_flush.specs.Parts.{Filled, HasPointsOf, if_any, names_of, part_of, series_of}
 use Rattle.tsdb_base.proofs.Lists.{each_append, each_middle}
 use Rattle.tsdb_base.specs.Lists.{Among, EachPair}

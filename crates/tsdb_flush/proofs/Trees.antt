@@ -4,7 +4,7 @@ use Rattle.std.specs.Prelude.{◌⊎◌, All}
 use Rattle.std.specs.List.{AllByRecursion as Each}
 use Rattle.std.proofs.lemmas.List.Elements.{All-from_recursion, recursion_from_All}
 use Rattle.tsdb_flush.specs.MakingSteps.{ComeBefore, IsSound}
-use Rattle.tsdb_index.specs.Entries.{AreNamesBefore}
+use Rattle.tsdb_path.specs.Order.{AreNamesBefore}
 use Rattle.tsdb_flush.specs.Built.{IsFileOf}
 use Rattle.tsdb_flush.specs.Parts.{Filled, names_of, series_of}
 use Rattle.tsdb_base.proofs.Lists.{each_append, each_left, each_middle, each_of_map, each_right, each_weaker}

@@ -25,3 +25,4 @@ pub use Rattle.tsdb_memory.specs.Worlds
 pub use Rattle.tsdb_memory.specs.Marks
 pub use Rattle.tsdb_memory.specs.Layers
 pub use Rattle.tsdb_memory.specs.Views
+pub use Rattle.tsdb_path.specs.Order

@@ -9,9 +9,8 @@ use Rattle.tsdb_base.specs.declared.ids.Space.TheVariants.{Sequence, Unsequence}
 use Rattle.tsdb_base.specs.declared.point.Point.{Point}
 use Rattle.tsdb_flush.specs.Taking.{HasPoint}
 use Rattle.tsdb_flush.specs.declared.series.PairSeries.{PairSeries}
-use Rattle.tsdb_index.specs.Entries.{AreNamesBefore}
 use Rattle.tsdb_flush.specs.Parts.{names_of}
-use Rattle.tsdb_base.specs.Lists.{Among, EachPair}
+use Rattle.tsdb_base.specs.Lists.{Among}
 use Rattle.tsdb_model.specs.declared.command.Schema.{Schema}
 use Rattle.tsdb_memory.specs.Model.{frozen_in}
 use Rattle.tsdb_memory.specs.Shown.{number_of}
@@ -61,10 +60,6 @@ pub record AreNumbersOf (pair : Pair) (numbers : List SeriesId) : Type 0 where
 pub record AreSeriesOf (all : List Schema) (pair : Pair) (series : List PairSeries) : Type 0 where
   pub each : Each (IsSeriesOf all pair) series
   pub numbers : AreNumbersOf pair (map (λ one. one.id) series)
-
--- they stand in the order of a tree
-abbrev pub AreInTreeOrder : List PairSeries → Type 0
-AreInTreeOrder series = EachPair (λ a b. AreNamesBefore (names_in a) (names_in b)) series
 
 -- a number is drawn exactly where one of the series has a point in the space: the next one, which rises then
 abbrev pub IsDraw : Space → List PairSeries → ℕ → ℕ → Option FileNumber → Type 0

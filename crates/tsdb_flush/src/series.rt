@@ -1,17 +1,17 @@
 //! The series that have a point in a pair, in the order of a tree. Depends on tsdb_memory and tsdb_memtable.
-ghost use Rattle.std.specs.Prelude.{◌≡◌, ◌<◌, ◌≤◌, All, IfOk, length, map};
+ghost use Rattle.std.specs.Prelude.{◌≡◌, ◌<◌, All, IfOk, length, map};
 ghost use Rattle.std.specs.List.{list_any};
-ghost use Rattle.tsdb_flush.specs.TakingSteps.{AreInTreeOrder, AreNumbersOf, AreSeriesOf, HasNumbers, IsSeriesOf};
+ghost use Rattle.tsdb_flush.specs.TakingSteps.{AreNumbersOf, AreSeriesOf, HasNumbers, IsSeriesOf, names_in};
 ghost use Rattle.tsdb_flush.specs.TakingSteps.{has_points, points_in, schema_in};
 ghost use Rattle.tsdb_memory.specs.Model.{HasKnownSeries, IsFormed};
-ghost use Rattle.tsdb_path.specs.Nodes.{device_of, measurement_of, node_count};
+ghost use Rattle.tsdb_path.specs.Order.{AreInNameOrder};
 
 use std::alloc::Global;
 use tsdb_base::{DataType, Encoding, List, Memory, Point, SeriesId, Space};
 use tsdb_memory::MemoryStore;
 use tsdb_memtable::Pair;
 use tsdb_model::Schema;
-use tsdb_path::Path;
+use tsdb_path::{Path, series_names};
 
 /// A series that has a point in a pair: its number, its schema, its names, by which a tree is ordered (the bytes of the
 /// device, and the measurement), and its points in both spaces.
@@ -45,18 +45,6 @@ pub(crate) fn has_point(series: &[PairSeries<'_>], space: Space) -> bool
     series.iter().any(|one| !one.points(space).is_empty())
 }
 
-/// The bytes of the device, and the measurement.
-fn names(path: &Path) -> (&[u8], &[u8])
-    requires { 2 ≤ node_count path.now }
-    ensures device { result.0.now ≡ device_of path.now }
-    ensures measurement { result.1.now ≡ measurement_of path.now }
-{
-    let measurement = path.measurement();
-    let bytes = path.bytes();
-    // (a dot stands between them)
-    (&bytes[..bytes.len() - measurement.len() - 1], measurement)
-}
-
 /// The series with this number.
 fn series_at<'a>(memory: &'a MemoryStore, pair: &'a Pair, id: SeriesId) -> PairSeries<'a>
     requires formed { All IsFormed memory.now.series }
@@ -72,7 +60,7 @@ fn series_at<'a>(memory: &'a MemoryStore, pair: &'a Pair, id: SeriesId) -> PairS
         path,
         data_type,
         encoding,
-        names: names(path),
+        names: series_names(path),
         sequence: pair.points_of(Space::Sequence, id),
         unsequence: pair.points_of(Space::Unsequence, id),
     }
@@ -113,7 +101,7 @@ pub(crate) fn series_in_order<'a>(
     requires known { HasKnownSeries memory.now.series pair.now }
     requires once { HasNumbers memory.now.series }
     ensures all { IfOk result (λ all. AreSeriesOf memory.now.series pair.now all.items) }
-    ensures order { IfOk result (λ all. AreInTreeOrder all.items) }
+    ensures order { IfOk result (λ all. AreInNameOrder names_in all.items) }
 {
     let mut all = series(memory, pair)?;
     all.sort_unstable_by_key(|series| series.names);

@@ -1,78 +1,25 @@
 -- Finding the entry of one series: by names in order, and one leaf among all.
-use Rattle.std.proofs.Common.{◌≡◌, ◌⊎◌, inl, inr, ℕ, zero, suc, ◌+◌, ◌-◌, ◌<◌, ◌≤◌, List, [], ◌∷◌, ◌++◌, length, get_or, map, take, drop, ⊎_elim, Result, Ok, Err, Option, None, Some, refl, sym, ap, subst, ◌∙◌, length-append, length-drop, arith}
-use Rattle.std.specs.Prelude.{All, Contains, MatchOption, SomeIff}
-use Rattle.std.specs.List.{AllByRecursion}
-use Rattle.std.specs.List.Sorted.{IsBinarySearchResult, IsNonDecreasingBy, IsSearchInRange}
-use Rattle.std.specs.Cmp.Lexicographic.{slice_cmp}
+use Rattle.std.proofs.Common.{◌≡◌, ◌⊎◌, ℕ, zero, suc, ◌+◌, ◌-◌, ◌<◌, ◌≤◌, List, [], ◌∷◌, ◌++◌, length, get_or, map, take, drop, ⊎_elim, Ok, Err, Option, None, Some, refl, sym, ap, subst, ◌∙◌, length-drop, arith}
+use Rattle.std.specs.Prelude.{All, MatchOption, SomeIff}
+use Rattle.std.specs.List.Sorted.{IsBinarySearchResult, IsNonDecreasingBy}
 use Rattle.std.specs.declared.cmp.Ordering.{Ordering}
 use Rattle.std.specs.declared.cmp.Ordering.TheVariants.{Less, Equal, Greater}
-use Rattle.std.specs.Ordering.{nat_cmp, ordering_index, ordering_reverse, ordering_then}
-use Rattle.std.proofs.lemmas.Cmp.{nat_list_cmp_total, tied_itself}
+use Rattle.std.specs.Ordering.{ordering_index}
 use Rattle.std.proofs.lemmas.Bool.{cases_lt}
-use Rattle.std.proofs.lemmas.List.{drop-drop, get_or-drop, map-append, take-append-drop}
-use Rattle.std.proofs.lemmas.List.Elements.{All-contains, All-from_recursion, Contains-append_cases, Contains-append_left, Contains-append_right}
+use Rattle.std.proofs.lemmas.List.{get_or-drop, take-append-drop}
+use Rattle.std.proofs.lemmas.List.Elements.{All-from_recursion}
 use Rattle.tsdb_index.specs.declared.index.IndexEntry.{IndexEntry}
 use Rattle.tsdb_index.specs.declared.pointer.Pointer.{Pointer}
-use Rattle.tsdb_index.specs.Entries.{AreInOrder, AreNamesBefore, names_of}
+use Rattle.tsdb_index.specs.Entries.{AreInOrder, names_of}
+use Rattle.tsdb_fields.specs.Order.{AreNamesBefore, names_cmp}
 use Rattle.tsdb_index.specs.Finding.{AreBehind, IsEntryFor, IsLeafFor}
-use Rattle.tsdb_index.specs.Parts.{AreLeavesAt, BeginAt, BeginWith, IsLeaf, IsPointerBefore, end_of, next_names, pointer_names}
-use Rattle.tsdb_index.specs.Steps.{AreSpread, IsLastFor, names_cmp}
-use Rattle.tsdb_index.proofs.Orders.{before_trans, order_of_map, order_tail, same_list}
-use Rattle.tsdb_index.proofs.Whole.{all_of}
-
-abbrev pub Names : Type 0
-Names = List ℕ × List ℕ
+use Rattle.tsdb_index.specs.Parts.{IsPointerBefore, next_names, pointer_names}
+use Rattle.tsdb_index.specs.Steps.{IsLastFor}
+use Rattle.tsdb_index.proofs.Orders.{order_of_map, order_tail}
+use Rattle.tsdb_fields.proofs.Order.{Names, before_trans, behind_before, cmp_before, cmp_same, not_itself}
 
 abbrev Leaf : Type 0
 Leaf = List IndexEntry
-
--- ---- names by their order
-
-cmp_before : (a b : Names) → names_cmp a b ≡ Less → AreNamesBefore a b
-cmp_before a b less = by_device (slice_cmp nat_cmp a.0 b.0) refl less
-  where
-    by_device : (o : Ordering) → slice_cmp nat_cmp a.0 b.0 ≡ o → ordering_then o (slice_cmp nat_cmp a.1 b.1) ≡ Less → AreNamesBefore a b
-    by_device Less is h = inl is
-    by_device Equal is h = inr (same_list a.0 b.0 is, h)
-    by_device Greater is h = absurd cc
-
-before_cmp : (a b : Names) → AreNamesBefore a b → names_cmp a b ≡ Less
-before_cmp a b (inl less) = ap (λ (o : Ordering). ordering_then o (slice_cmp nat_cmp a.1 b.1)) less
-before_cmp a b (inr less) =
-    let tie : slice_cmp nat_cmp a.0 b.0 ≡ Equal = subst (λ (n : List ℕ). slice_cmp nat_cmp a.0 n ≡ Equal) less.0 (tied_itself nat_list_cmp_total a.0) in
-    ap (λ (o : Ordering). ordering_then o (slice_cmp nat_cmp a.1 b.1)) tie ∙ less.1
-
-cmp_same : (a b : Names) → names_cmp a b ≡ Equal → a ≡ b
-cmp_same a b equal = by_device (slice_cmp nat_cmp a.0 b.0) refl equal
-  where
-    pair : List ℕ → List ℕ → Names
-    pair d m = (d, m)
-
-    both : (d e m n : List ℕ) → d ≡ e → m ≡ n → pair d m ≡ pair e n
-    both d e m n p q = ap (λ (x : List ℕ). pair x m) p ∙ ap (λ (x : List ℕ). pair e x) q
-
-    by_device : (o : Ordering) → slice_cmp nat_cmp a.0 b.0 ≡ o → ordering_then o (slice_cmp nat_cmp a.1 b.1) ≡ Equal → a ≡ b
-    by_device Less is h = absurd cc
-    by_device Equal is h = both a.0 b.0 a.1 b.1 (same_list a.0 b.0 is) (same_list a.1 b.1 h)
-    by_device Greater is h = absurd cc
-
-same_cmp : (a : Names) → names_cmp a a ≡ Equal
-same_cmp a = ap (λ (o : Ordering). ordering_then o (slice_cmp nat_cmp a.1 a.1)) (tied_itself nat_list_cmp_total a.0) ∙ tied_itself nat_list_cmp_total a.1
-
-pub not_itself : (a : Names) → AreNamesBefore a a → ⊥
-not_itself a less = let both : Less ≡ Equal = sym (before_cmp a a less) ∙ same_cmp a in absurd cc
-
--- names that come behind have these before them
-behind_before : (a b : Names) → names_cmp a b ≡ Greater → AreNamesBefore b a
-behind_before a b greater = by_device (slice_cmp nat_cmp a.0 b.0) refl greater
-  where
-    turned : (x y : List ℕ) → slice_cmp nat_cmp x y ≡ Greater → slice_cmp nat_cmp y x ≡ Less
-    turned x y h = nat_list_cmp_total.antisymm y x ∙ ap ordering_reverse h
-
-    by_device : (o : Ordering) → slice_cmp nat_cmp a.0 b.0 ≡ o → ordering_then o (slice_cmp nat_cmp a.1 b.1) ≡ Greater → AreNamesBefore b a
-    by_device Less is h = absurd cc
-    by_device Equal is h = inr (sym (same_list a.0 b.0 is), turned a.1 b.1 h)
-    by_device Greater is h = inl (turned a.0 b.0 is)
 
 -- ---- a binary search by names
 

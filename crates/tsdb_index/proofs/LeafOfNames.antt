@@ -1,20 +1,21 @@
 -- One leaf among all: what it has of names is what all leaves have.
-use Rattle.std.proofs.Common.{◌≡◌, ◌⊎◌, inl, inr, ℕ, ◌+◌, ◌-◌, ◌<◌, ◌≤◌, List, [], ◌∷◌, ◌++◌, length, map, take, drop, ⊎_elim, Option, None, Some, refl, sym, ap, subst, ◌∙◌, length-drop, arith}
+use Rattle.std.proofs.Common.{◌≡◌, ◌⊎◌, ℕ, ◌+◌, ◌-◌, ◌≤◌, List, [], ◌∷◌, ◌++◌, length, map, take, drop, ⊎_elim, Option, None, Some, refl, sym, ap, subst, ◌∙◌, length-drop, arith}
 use Rattle.std.specs.Prelude.{All, Contains}
-use Rattle.std.specs.List.{flat_map, AllByRecursion}
+use Rattle.std.specs.List.{AllByRecursion}
 use Rattle.std.proofs.lemmas.Grind.{flat_map-append}
 use Rattle.std.proofs.lemmas.List.{drop-drop, map-append}
 use Rattle.std.proofs.lemmas.List.Elements.{All-contains, All-from_recursion, All-head, Contains-append_cases, Contains-append_left, Contains-append_right}
 use Rattle.tsdb_index.specs.declared.index.IndexEntry.{IndexEntry}
 use Rattle.tsdb_index.specs.declared.pointer.Pointer.{Pointer}
-use Rattle.tsdb_index.specs.Entries.{AreInOrder, AreNamesBefore, names_of}
-use Rattle.tsdb_index.specs.Finding.{AreBehind, IsEntryFor, IsLeafFor}
+use Rattle.tsdb_index.specs.Entries.{AreInOrder, names_of}
+use Rattle.tsdb_fields.specs.Order.{AreNamesBefore}
+use Rattle.tsdb_index.specs.Finding.{AreBehind, IsEntryFor}
 use Rattle.tsdb_index.specs.Parts.{AreLeavesAt, BeginAt, BeginWith, IsLeaf, end_of, next_names, pointer_names}
 use Rattle.tsdb_index.specs.Steps.{AreSpread}
-use Rattle.tsdb_index.proofs.Orders.{before_trans, order_back, order_tail}
+use Rattle.tsdb_index.proofs.Orders.{order_back}
+use Rattle.tsdb_fields.proofs.Order.{Names, before_trans, not_itself}
 use Rattle.tsdb_index.proofs.Roots.{leaf_same}
 use Rattle.tsdb_index.proofs.Whole.{all_of}
-use Rattle.tsdb_index.proofs.Found.{Names, not_itself}
 
 abbrev Leaf : Type 0
 Leaf = List IndexEntry

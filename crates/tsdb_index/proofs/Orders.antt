@@ -5,25 +5,13 @@ use Rattle.std.specs.Cmp.Lexicographic.{slice_cmp}
 use Rattle.std.specs.declared.cmp.Ordering.{Ordering}
 use Rattle.std.specs.declared.cmp.Ordering.TheVariants.{Less, Equal, Greater}
 use Rattle.std.specs.List.{AllAdjacentBelow}
-use Rattle.std.specs.Ordering.{is_lt, nat_cmp, ordering_then}
-use Rattle.std.proofs.lemmas.Cmp.{nat_list_cmp_total, ranked, tied_itself}
+use Rattle.std.specs.Ordering.{is_lt, nat_cmp}
+use Rattle.std.proofs.lemmas.Cmp.{nat_list_cmp_total, tied_itself}
+use Rattle.tsdb_fields.proofs.Order.{same_list}
 use Rattle.tsdb_index.specs.declared.pointer.Pointer.{Pointer}
-use Rattle.tsdb_index.specs.Entries.{AreInOrder, AreNamesBefore}
+use Rattle.tsdb_index.specs.Entries.{AreInOrder}
+use Rattle.tsdb_fields.specs.Order.{AreNamesBefore}
 use Rattle.tsdb_index.specs.Parts.{next_names}
-
-pub same_list : (xs ys : List ℕ) → slice_cmp nat_cmp xs ys ≡ Equal → xs ≡ ys
-same_list [] [] e = refl
-same_list [] (y ∷ ys) e = absurd cc
-same_list (x ∷ xs) [] e = absurd cc
-same_list (x ∷ xs) (y ∷ ys) e = step (nat_cmp x y) refl (λ h. same_list xs ys h) e
-  where
-    step : (o : Ordering) → nat_cmp x y ≡ o → (slice_cmp nat_cmp xs ys ≡ Equal → xs ≡ ys) → ordering_then o (slice_cmp nat_cmp xs ys) ≡ Equal → x ∷ xs ≡ y ∷ ys
-    step Less is rest h = absurd cc
-    step Greater is rest h = absurd cc
-    step Equal is rest h =
-        let head : x ≡ y = ranked x y Equal (sym is) in
-        let tail : xs ≡ ys = rest h in
-        cc
 
 less_tested : (o : Ordering) (r : Bool) → r ≡ is_lt o → (IsTrue r → o ≡ Less) × (o ≡ Less → IsTrue r)
 less_tested Less r is = (λ _. refl, λ _. is)
@@ -47,12 +35,6 @@ not_before a b c d greater (inr less) =
     let tie : slice_cmp nat_cmp a b ≡ Equal = subst (λ (n : List ℕ). slice_cmp nat_cmp a n ≡ Equal) less.0 (tied_itself nat_list_cmp_total a) in
     let no_way : Greater ≡ Equal = greater ∙ tie in
     absurd cc
-
-pub before_trans : (a b c : List ℕ × List ℕ) → AreNamesBefore a b → AreNamesBefore b c → AreNamesBefore a c
-before_trans a b c (inl x) (inl y) = inl (nat_list_cmp_total.trans a.0 b.0 c.0 x y)
-before_trans a b c (inl x) (inr y) = inl (subst (λ (n : List ℕ). slice_cmp nat_cmp a.0 n ≡ Less) y.0 x)
-before_trans a b c (inr x) (inl y) = inl (subst (λ (n : List ℕ). slice_cmp nat_cmp n c.0 ≡ Less) (sym x.0) y)
-before_trans a b c (inr x) (inr y) = inr (x.0 ∙ y.0, nat_list_cmp_total.trans a.1 b.1 c.1 x.1 y.1)
 
 -- ---- by places and by neighbours
 

@@ -8,7 +8,8 @@ use Rattle.tsdb_base.specs.Fields.{number16, number32}
 use Rattle.tsdb_base.proofs.PlainLists.{same_values}
 use Rattle.tsdb_index.specs.declared.index.IndexEntry.{IndexEntry}
 use Rattle.tsdb_index.specs.declared.pointer.Pointer.{Pointer}
-use Rattle.tsdb_index.specs.Entries.{AreInOrder, AreNamesBefore, IsEntry, names_of}
+use Rattle.tsdb_index.specs.Entries.{AreInOrder, IsEntry, names_of}
+use Rattle.tsdb_fields.specs.Order.{AreNamesBefore}
 use Rattle.tsdb_index.specs.Parts.{BeginAt, BeginWith, IsLeaf, IsLeafSize, IsPointer, IsPointerBefore, IsRoot, next_names, pointer_bytes}
 use Rattle.tsdb_index.specs.Spelling.{entry_field}
 use Rattle.tsdb_index.specs.Steps.{IsCounted}

@@ -8,7 +8,8 @@ use Rattle.tsdb_base.specs.Fields.{number32, number64}
 use Rattle.tsdb_base.specs.Plain.{plain_text}
 use Rattle.tsdb_index.specs.declared.index.IndexEntry.{IndexEntry}
 use Rattle.tsdb_index.specs.declared.pointer.Pointer.{Pointer}
-use Rattle.tsdb_index.specs.Entries.{AreInOrder, AreNamesBefore, IsEntry, names_of}
+use Rattle.tsdb_index.specs.Entries.{AreInOrder, IsEntry, names_of}
+use Rattle.tsdb_fields.specs.Order.{AreNamesBefore}
 use Rattle.tsdb_fields.specs.declared.fault.FieldFault.{FieldFault}
 use Rattle.tsdb_fields.specs.declared.fault.FieldFault.TheVariants as field
 use Rattle.tsdb_index.specs.declared.fault.IndexFault.{IndexFault}
@@ -18,7 +19,8 @@ use Rattle.tsdb_index.specs.Parts.{AreLeavesAt, BeginAt, BeginWith, IsFirstBadLe
 use Rattle.tsdb_index.specs.Spelling.{AreLeaves, leaf_field, pointer_field, pointers, root_field}
 use Rattle.tsdb_index.specs.Steps.{AreSpread, ReadsLeaves}
 use Rattle.tsdb_index.proofs.Roots.{pointers_same, root_counted}
-use Rattle.tsdb_index.proofs.Orders.{before_trans, first_before, order_back, order_front, order_join}
+use Rattle.tsdb_index.proofs.Orders.{first_before, order_back, order_front, order_join}
+use Rattle.tsdb_fields.proofs.Order.{before_trans}
 
 abbrev Leaf : Type 0
 Leaf = List IndexEntry

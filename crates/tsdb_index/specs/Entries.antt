@@ -1,11 +1,9 @@
 -- The entries that an index may have.
-use Rattle.std.specs.Prelude.{◌≡◌, ◌⊎◌, ℕ, ◌<◌, ◌≤◌, ◌^◌, true, List, [], ◌∷◌, length, map, All}
-use Rattle.std.specs.Cmp.Lexicographic.{slice_cmp}
-use Rattle.std.specs.declared.cmp.Ordering.TheVariants.{Less}
-use Rattle.std.specs.Ordering.{nat_cmp}
+use Rattle.std.specs.Prelude.{◌≡◌, ℕ, ◌<◌, ◌≤◌, ◌^◌, true, List, [], ◌∷◌, length, map, All}
 use Rattle.tsdb_base.specs.Values.{is_suitable}
 use Rattle.tsdb_fields.specs.Statistics.{IsStatsOf}
 use Rattle.tsdb_fields.specs.Nodes.{IsName, IsPath}
+use Rattle.tsdb_fields.specs.Order.{AreNamesBefore}
 use Rattle.tsdb_base.specs.declared.value.DataType.{DataType}
 use Rattle.tsdb_index.specs.declared.index.IndexEntry.{IndexEntry}
 use Rattle.tsdb_index.specs.declared.index.PageEntry.{PageEntry}
@@ -29,10 +27,6 @@ pub record IsEntry (entry : IndexEntry) : Type 0 where
 -- the device and the measurement of an entry
 abbrev pub names_of : IndexEntry → List ℕ × List ℕ
 names_of entry = (entry.device, entry.measurement)
-
--- the device comes first in the order of bytes, and for one device the measurement does
-abbrev pub AreNamesBefore : List ℕ × List ℕ → List ℕ × List ℕ → Type 0
-AreNamesBefore a b = (slice_cmp nat_cmp a.0 b.0 ≡ Less) ⊎ ((a.0 ≡ b.0) × (slice_cmp nat_cmp a.1 b.1 ≡ Less))
 
 -- each item stands so to the next
 abbrev pub AreInOrder : {A : Type 0} → (A → A → Type 0) → List A → Type 0

@@ -7,7 +7,8 @@ use Rattle.tsdb_fields.specs.Nodes.{IsName, IsPath}
 use Rattle.tsdb_index.specs.declared.marks.TheConstants.{ROOT}
 use Rattle.tsdb_index.specs.declared.index.IndexEntry.{IndexEntry}
 use Rattle.tsdb_index.specs.declared.pointer.Pointer.{Pointer}
-use Rattle.tsdb_index.specs.Entries.{AreInOrder, AreNamesBefore, IsEntry, names_of}
+use Rattle.tsdb_index.specs.Entries.{AreInOrder, IsEntry, names_of}
+use Rattle.tsdb_fields.specs.Order.{AreNamesBefore}
 use Rattle.tsdb_base.specs.Limits.{max_leaf_entries}
 use Rattle.tsdb_index.specs.Spelling.{leaf_field}
 

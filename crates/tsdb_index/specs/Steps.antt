@@ -1,15 +1,12 @@
 -- How the leaves are written and read one by one. No public clause speaks of these.
 use Rattle.std.specs.Prelude.{◌≡◌, ℕ, ◌+◌, ◌-◌, ◌<◌, ◌≤◌, List, [], ◌∷◌, ◌++◌, length, get_or, All, Result, Ok, Err}
-use Rattle.std.specs.Cmp.Lexicographic.{slice_cmp}
-use Rattle.std.specs.declared.cmp.Ordering.{Ordering}
-use Rattle.std.specs.Ordering.{nat_cmp, ordering_then}
 use Rattle.std.specs.List.{flat_map}
 use Rattle.tsdb_index.specs.declared.index.IndexEntry.{IndexEntry}
 use Rattle.tsdb_index.specs.declared.writing.Leaves.{Leaves}
 use Rattle.tsdb_index.specs.declared.fault.IndexFault.{IndexFault}
 use Rattle.tsdb_index.specs.declared.fault.IndexFault.TheVariants as fault
 use Rattle.tsdb_index.specs.declared.pointer.Pointer.{Pointer}
-use Rattle.tsdb_index.specs.Entries.{AreNamesBefore}
+use Rattle.tsdb_fields.specs.Order.{AreNamesBefore}
 use Rattle.tsdb_index.specs.Parts.{AreLeavesAt, IsFirstBadLeaf, end_of, pointer_names}
 use Rattle.tsdb_base.specs.Limits.{max_leaf_entries}
 use Rattle.tsdb_index.specs.Spelling.{leaf_field, pointer_field, pointers, AreLeaves, StandIn}
@@ -67,10 +64,6 @@ ReadsLeaves root pointers bytes view (Ok found) =
     × (view found ≡ flat_map (λ leaf. leaf) leaves)
 ReadsLeaves root pointers bytes view (Err (fault.Bad at)) = IsFirstBadLeaf root pointers bytes at
 ReadsLeaves root pointers bytes view (Err fault.Memory) = Unit {0}
-
--- how names stand to other names, the devices first
-abbrev pub names_cmp : List ℕ × List ℕ → List ℕ × List ℕ → Ordering
-names_cmp a b = ordering_then (slice_cmp nat_cmp a.0 b.0) (slice_cmp nat_cmp a.1 b.1)
 
 -- the pointer at this place is the last one whose names do not come behind these
 pub record IsLastFor (names : List ℕ × List ℕ) (pointers : List Pointer) (at : ℕ) : Type 0 where

@@ -1,25 +1,15 @@
 //! Finding one series by binary search: its leaf among the pointers of a root, and its entry in the leaf. Depends on
 //! `index` and `pointer`.
-ghost use Rattle.std.specs.Prelude.{◌≡◌, map, MatchOption};
-ghost use Rattle.tsdb_index.specs.Entries.{AreInOrder, AreNamesBefore, names_of};
+ghost use Rattle.std.specs.Prelude.{map, MatchOption};
+ghost use Rattle.tsdb_index.specs.Entries.{AreInOrder, names_of};
+ghost use Rattle.tsdb_fields.specs.Order.{AreNamesBefore};
 ghost use Rattle.tsdb_index.specs.Finding.{AreBehind, IsEntryFor, IsLeafFor};
 ghost use Rattle.tsdb_index.specs.Parts.{IsPointerBefore};
-ghost use Rattle.tsdb_index.specs.Steps.{IsLastFor, names_cmp};
+ghost use Rattle.tsdb_index.specs.Steps.{IsLastFor};
 
 use crate::index::IndexEntry;
 use crate::pointer::Pointer;
-use std::cmp::Ordering;
-use tsdb_fields::{Name, Path};
-
-/// How names stand to other names, the devices first.
-fn compare(device: &Path, measurement: &Name, other_device: &Path, other: &Name) -> Ordering
-    ensures { result ≡ names_cmp (device.now, measurement.now) (other_device.now, other.now) }
-{
-    match device.cmp(other_device) {
-        Ordering::Equal => measurement.cmp(other),
-        unequal => unequal,
-    }
-}
+use tsdb_fields::{Name, Path, compare_names};
 
 /// The place of the last pointer whose names do not come behind these.
 fn last_for(pointers: &[Pointer], device: &Path, measurement: &Name) -> Option<usize>
@@ -28,7 +18,7 @@ fn last_for(pointers: &[Pointer], device: &Path, measurement: &Name) -> Option<u
         (IsLastFor (device.now, measurement.now) pointers.now) }
 {
     let found = pointers.binary_search_by(|pointer| {
-        compare(&pointer.device, &pointer.measurement, device, measurement)
+        compare_names(&pointer.device, &pointer.measurement, device, measurement)
     });
     match found {
         Ok(at) => Some(at),
@@ -65,7 +55,7 @@ pub fn entry_for(
     ensures { IsEntryFor (device.now, measurement.now) entries.items result }
 {
     let found = entries.binary_search_by(|entry| {
-        compare(&entry.device, &entry.measurement, device, measurement)
+        compare_names(&entry.device, &entry.measurement, device, measurement)
     });
     match found {
         Ok(at) => Some(entries.swap_remove(at)),

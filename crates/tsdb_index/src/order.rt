@@ -1,6 +1,7 @@
 //! The order of entries and of pointers, by their names. Depends on `index` and `pointer`.
 ghost use Rattle.std.specs.Prelude.{◌<◌, ◌-◌, ◌↔◌, ◌++◌, All, IsTrue, drop, length, map};
-ghost use Rattle.tsdb_index.specs.Entries.{AreInOrder, AreNamesBefore, names_of};
+ghost use Rattle.tsdb_index.specs.Entries.{AreInOrder, names_of};
+ghost use Rattle.tsdb_fields.specs.Order.{AreNamesBefore};
 ghost use Rattle.tsdb_index.specs.Parts.{BeginAt, BeginWith, IsLeafSize, IsPointerBefore, next_names};
 
 use crate::index::IndexEntry;

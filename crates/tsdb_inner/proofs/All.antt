@@ -14,8 +14,8 @@ use Rattle.tsdb_flush.proofs.PartsInMaking.{before_middle}
 use Rattle.tsdb_flush.specs.Making.{IsPart, MayAdd}
 use Rattle.tsdb_flush.specs.MakingSteps.{ComeBefore, filled_with}
 use Rattle.tsdb_flush.specs.declared.part.Part.{Part}
-use Rattle.tsdb_index.proofs.Found.{not_itself}
-use Rattle.tsdb_index.specs.Entries.{AreNamesBefore}
+use Rattle.tsdb_path.proofs.Order.{not_itself}
+use Rattle.tsdb_path.specs.Order.{AreNamesBefore}
 use Rattle.tsdb_inner.proofs.Lists.{next_taken}
 use Rattle.tsdb_inner.specs.Winners.{AreSeries, CopiesSeries}
 use Rattle.tsdb_flush.specs.Parts.{Filled, if_any, names_of}

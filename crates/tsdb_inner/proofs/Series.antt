@@ -17,8 +17,8 @@ use Rattle.tsdb_compactions.specs.Outputs.{TellsInputs, TellsTruth, winner}
 use Rattle.tsdb_compactions.specs.declared.job.Input.{Input}
 use Rattle.tsdb_compactions.specs.declared.job.Job.{Job}
 use Rattle.tsdb_flush.specs.declared.part.Part.{Part}
-use Rattle.tsdb_index.proofs.Found.{not_itself}
-use Rattle.tsdb_index.specs.Entries.{AreNamesBefore}
+use Rattle.tsdb_path.proofs.Order.{not_itself}
+use Rattle.tsdb_path.specs.Order.{AreNamesBefore}
 use Rattle.tsdb_inner.proofs.Sources.{all_survivors, owns, pages_of, told_sources, true_sources}
 use Rattle.tsdb_inner.specs.Copies.{Copies, AreDamaged, Survive}
 use Rattle.tsdb_inner.specs.Inputs.{IsInputOf, IsLentAs, TellsBytes}

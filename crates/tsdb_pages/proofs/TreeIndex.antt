@@ -15,7 +15,8 @@ use Rattle.tsdb_stats.specs.Nodes.{IsName, IsPath}
 use Rattle.tsdb_index.specs.Statistics.{IsStatsOf}
 use Rattle.tsdb_index.specs.declared.index.IndexEntry.{IndexEntry}
 use Rattle.tsdb_index.specs.declared.index.PageEntry.{PageEntry}
-use Rattle.tsdb_index.specs.Entries.{AreInOrder, AreNamesBefore, IsIndex, IsPageOf, names_of}
+use Rattle.tsdb_index.specs.Entries.{AreInOrder, IsIndex, IsPageOf, names_of}
+use Rattle.tsdb_index.specs.Order.{AreNamesBefore}
 use Rattle.tsdb_index.specs.Entries as entries
 use Rattle.tsdb_index.specs.Faults.{IsRead}
 use Rattle.tsdb_index.proofs.OneSpelling.{one_index}

@@ -3,3 +3,4 @@ pub mod Parts
 pub mod Dots
 pub mod Walk
 pub mod Reasons
+pub mod Order

@@ -1,3 +1,4 @@
 pub mod Nodes
 pub mod Refusals
 pub mod Steps
+pub mod Order

@@ -9,8 +9,8 @@ use Rattle.tsdb_flush.proofs.Entries.{described}
 use Rattle.tsdb_flush.specs.BuiltParts.{HasPartPoint, IsContentOfPart, IsPart, IsSeries, entry_of}
 use Rattle.tsdb_recover.proofs.Order.{Comes, in_tree, is_in_part, chunk_among, tree_rises}
 use Rattle.tsdb_recover.specs.DescribedTrees.{filled_of, group_part, tree_part}
-use Rattle.tsdb_index.proofs.Found.{not_itself}
-use Rattle.tsdb_index.specs.Entries.{AreNamesBefore}
+use Rattle.tsdb_path.proofs.Order.{not_itself}
+use Rattle.tsdb_path.specs.Order.{AreNamesBefore}
 use Rattle.tsdb_flush.specs.Built.{IsEntryOf, paths_of}
 use Rattle.tsdb_flush.specs.Parts.{Filled, names_of}
 use Rattle.tsdb_base.proofs.Lists.{each_among, each_from_among, each_weaker}

@@ -5,7 +5,7 @@ use Rattle.std.specs.List.{AllByRecursion as Each, flat_map}
 use Rattle.std.proofs.lemmas.List.Elements.{recursion_from_All}
 use Rattle.tsdb_recover.proofs.Says.{device_of_filled}
 use Rattle.tsdb_recover.specs.DescribedTrees.{filled_of, group_part, tree_part}
-use Rattle.tsdb_index.specs.Entries.{AreNamesBefore}
+use Rattle.tsdb_path.specs.Order.{AreNamesBefore}
 use Rattle.tsdb_flush.specs.Parts.{Filled, names_of}
 use Rattle.tsdb_base.proofs.Lists.{among_left, among_map, among_right, each_among, each_both, each_left, each_map, each_right}
 use Rattle.tsdb_base.specs.Lists.{Among, EachPair}

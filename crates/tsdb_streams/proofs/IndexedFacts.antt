@@ -10,7 +10,8 @@ use Rattle.tsdb_streams.specs.declared.lane.Lane.{Lane}
 use Rattle.tsdb_streams.specs.declared.lane.Lane.TheVariants.{Pages, Part}
 use Rattle.tsdb_streams.specs.declared.source.Source.{Source}
 use Rattle.tsdb_streams.specs.declared.source.Source.TheVariants as source
-use Rattle.tsdb_index.specs.Entries.{AreInOrder, AreNamesBefore, names_of}
+use Rattle.tsdb_index.specs.Entries.{AreInOrder, names_of}
+use Rattle.tsdb_path.specs.Order.{AreNamesBefore}
 use Rattle.tsdb_index.specs.Finding.{IsEntryFor}
 use Rattle.tsdb_index.specs.declared.index.FileMeta.{FileMeta}
 use Rattle.tsdb_index.specs.declared.index.IndexEntry.{IndexEntry}

@@ -6,7 +6,7 @@ use Rattle.std.proofs.lemmas.Bool.{false≢true}
 use Rattle.std.proofs.lemmas.List.Elements.{recursion_from_All}
 use Rattle.tsdb_base.specs.declared.point.Point.{Point}
 use Rattle.tsdb_streams.specs.Files.{ArePagesIn, IsChunkOf}
-use Rattle.tsdb_index.proofs.Found.{not_itself}
+use Rattle.tsdb_path.proofs.Order.{not_itself}
 use Rattle.tsdb_base.proofs.Lists.{each_among}
 use Rattle.tsdb_state.proofs.LayerLemmas.Places.{is_path_same, path_itself}
 use Rattle.tsdb_base.specs.Lists.{Among, EachPair}

@@ -3,7 +3,8 @@ use Rattle.std.specs.Prelude.{ℕ, List, IfSome, Option, map}
 use Rattle.tsdb_streams.specs.declared.source.IndexedFile.{IndexedFile}
 use Rattle.tsdb_streams.specs.declared.source.Source.{Source}
 use Rattle.tsdb_streams.specs.declared.source.Source.TheVariants as source
-use Rattle.tsdb_index.specs.Entries.{AreInOrder, AreNamesBefore, names_of}
+use Rattle.tsdb_index.specs.Entries.{AreInOrder, names_of}
+use Rattle.tsdb_path.specs.Order.{AreNamesBefore}
 use Rattle.tsdb_index.specs.declared.index.IndexEntry.{IndexEntry}
 use Rattle.tsdb_outside.specs.Files.{NamedFile}
 use Rattle.tsdb_pages.specs.File.{AreEntriesIn, IsFile}

@@ -10,9 +10,9 @@ ghost use Rattle.tsdb_streams.specs.Kept.{is_kept};
 ghost use Rattle.tsdb_streams.specs.Lanes.{IsSourceOf, OpensAs, source_left};
 ghost use Rattle.tsdb_streams.specs.Streams.{AreToldSources, AreTrueSources, IsStreamOfStore, IsToldStream};
 ghost use Rattle.tsdb_streams.specs.Streams.{IsTrueStream, stream_held, stream_left};
-ghost use Rattle.tsdb_index.specs.Entries.{AreInOrder, AreNamesBefore, names_of};
+ghost use Rattle.tsdb_index.specs.Entries.{AreInOrder, names_of};
+ghost use Rattle.tsdb_path.specs.Order.{AreNamesBefore};
 ghost use Rattle.tsdb_index.specs.Finding.{IsEntryFor};
-ghost use Rattle.tsdb_index.specs.Steps.{names_cmp};
 ghost use Rattle.tsdb_merge.specs.Winners.{IsToldMergeOf};
 ghost use Rattle.tsdb_outside.specs.Files.{Store};
 ghost use Rattle.tsdb_path.specs.Nodes.{node_count};
@@ -24,13 +24,12 @@ use crate::opening::{lane_of, names_of as names_in};
 use crate::source::IndexedFile;
 use crate::stream::Stream;
 use std::alloc::Global;
-use std::cmp::Ordering;
 use tsdb_base::{List as ListOf, Memory, Range, Stamp};
 use tsdb_index::{FileMeta, IndexEntry, PageEntry};
 use tsdb_marks::Marks;
 use tsdb_merge::LazyMerge;
 use tsdb_outside::{Port, ReadRight, StoreFault};
-use tsdb_path::{Name, Path};
+use tsdb_path::{Name, Path, compare_names};
 use tsfile_reader::read_meta;
 
 /// Reads the index of a file, and no page. Streams of all of its series can be opened over what was read.
@@ -53,16 +52,6 @@ pub fn open_index<'a, P: Port>(
     }
 }
 
-/// How names stand to other names, the devices first.
-fn compare(device: &Path, measurement: &Name, other_device: &Path, other: &Name) -> Ordering
-    ensures { result ≡ names_cmp (device.now, measurement.now) (other_device.now, other.now) }
-{
-    match device.cmp(other_device) {
-        Ordering::Equal => measurement.cmp(other),
-        unequal => unequal,
-    }
-}
-
 /// The entry of these names among entries in order, if one has them.
 fn entry_in<'a>(
     entries: &'a [IndexEntry],
@@ -74,7 +63,7 @@ fn entry_in<'a>(
         (λ entry. IsEntryFor (device.now, measurement.now) entries.now (Some entry.now)) }
 {
     let found = entries.binary_search_by(|entry| {
-        compare(&entry.device, &entry.measurement, device, measurement)
+        compare_names(&entry.device, &entry.measurement, device, measurement)
     });
     match found {
         Ok(at) => Some(&entries[at]),

@@ -8,7 +8,7 @@ use Rattle.std.proofs.lemmas.List.Folds.{flat_map-map}
 use Rattle.std.specs.Prelude.{slice_range}
 use Rattle.std.specs.List.{AllByRecursion as Each, flat_map}
 use Rattle.std.specs.Option.{option_and_then, option_map}
-use Rattle.tsdb_tasks.specs.Series.{AreOfPaths, IsNamed, joined_names, path_in, run_paths, schemas_at}
+use Rattle.tsdb_tasks.specs.Series.{AreOfPaths, IsNamed, path_in, run_paths, schemas_at}
 use Rattle.tsdb_tasks.specs.Series.{series_in}
 use Rattle.tsdb_tasks.specs.declared.finishing.InputRuns.{InputRuns}
 use Rattle.tsdb_tasks.specs.declared.series.InputSeries.{InputSeries}
@@ -20,16 +20,8 @@ use Rattle.tsdb_base.specs.Lists.{if_some}
 use Rattle.tsdb_model.specs.declared.command.Schema.{Schema}
 use Rattle.tsdb_memory.proofs.Numbers.{some_same}
 use Rattle.tsdb_memory.specs.Shown.{number_of}
-use Rattle.tsdb_path.specs.Nodes.{IsName, child_of, device_of}
 use Rattle.tsdb_plan.specs.declared.entry.FileEntry.{FileEntry}
 use Rattle.tsdb_state.specs.State.{File}
-
--- ---- names
-
-pub joined_is : (path device name : List ℕ) → device ≡ device_of path → child_of (device_of path) name ≡ path
-    → IsName name → joined_names device name ≡ path
-joined_is path device [] is again good = let some = good.node.some in absurd (omega (arith, some))
-joined_is path device (byte ∷ name) is again good = ap (λ (d : List ℕ). child_of d (byte ∷ name)) is ∙ again
 
 -- ---- paths
 

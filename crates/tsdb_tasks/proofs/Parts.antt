@@ -5,8 +5,8 @@ use Rattle.tsdb_base.specs.declared.ids.SeriesId.{SeriesId}
 use Rattle.tsdb_base.specs.declared.ids.Space.{Space}
 use Rattle.tsdb_base.specs.declared.point.Point.{Point}
 use Rattle.tsdb_compactions.specs.BuiltParts.{IsPart, IsSeries}
-use Rattle.tsdb_index.proofs.Found.{not_itself}
-use Rattle.tsdb_index.specs.Entries.{AreNamesBefore}
+use Rattle.tsdb_path.proofs.Order.{not_itself}
+use Rattle.tsdb_path.specs.Order.{AreNamesBefore}
 use Rattle.tsdb_compactions.specs.Parts.{Filled, if_any, names_of, part_of}
 use Rattle.tsdb_base.proofs.Lists.{each_among, each_append, each_from_among, each_weaker}
 use Rattle.tsdb_base.specs.Lists.{Among, EachPair}

@@ -5,12 +5,12 @@ use Rattle.std.specs.Prelude.{◌↔◌, ◌||◌, ◌≤◌, All, nat_eq}
 use Rattle.std.specs.Cmp.Lexicographic.{pointwise, texts_ties}
 use Rattle.std.specs.List.{AllByRecursion as Each, filter, flat_map, list_any}
 use Rattle.std.specs.Option.{option_and_then}
-use Rattle.tsdb_tasks.proofs.Ordered.{text_same}
-use Rattle.tsdb_tasks.specs.Series.{AreInTreeOrder, AreOfJob, HavePaths, IsNamed, names_in, path_in, schemas_at}
+use Rattle.tsdb_path.proofs.Order.{text_same}
+use Rattle.tsdb_tasks.specs.Series.{AreOfJob, HavePaths, IsNamed, names_in, path_in, schemas_at}
 use Rattle.tsdb_tasks.specs.declared.series.InputSeries.{InputSeries}
 use Rattle.tsdb_tasks.specs.declared.series.JobSeries.{JobSeries}
 use Rattle.tsdb_compactions.specs.TakingSteps.{HasNumbers}
-use Rattle.tsdb_index.specs.Entries.{AreNamesBefore}
+use Rattle.tsdb_path.specs.Order.{AreInNameOrder, AreNamesBefore}
 use Rattle.tsdb_compactions.specs.Parts.{names_of}
 use Rattle.tsdb_base.proofs.Lists.{among_left, among_map, among_right, any_among, each_among, each_from_among}
 use Rattle.tsdb_state.proofs.LayerLemmas.Places.{path_itself}
@@ -150,7 +150,7 @@ module _ (all : List Schema) (formed : All IsFormed all) where
       ∙ ap (λ (m : List ℕ). (device_of (path_in one), m)) (named.measurement of_path)
       ∙ ap (λ (p : List ℕ). (device_of p, measurement_of p)) (sym is.of_path)
 
-  rising : (series : List InputSeries) → Each IsNamed series → AreInTreeOrder series
+  rising : (series : List InputSeries) → Each IsNamed series → AreInNameOrder names_in series
       → EachPair (λ a b. AreNamesBefore (names_of a) (names_of b)) (flat_map (λ one. schemas_at all (path_in one)) series)
   rising [] named order = tt
   rising (one ∷ series) named order =
@@ -177,7 +177,7 @@ module _ (all : List Schema) (formed : All IsFormed all) where
       by (Some schema) names others = (later schema (names schema (inl refl)), others)
 
 pub of_job : (paths : List (List ℕ)) (store : Store) (series : List InputSeries) (job : JobSeries) → IsSound store
-    → HavePaths paths series → AreInTreeOrder series
+    → HavePaths paths series → AreInNameOrder names_in series
     → job.marks.marks ≡ filter (is_of (map path_in series)) store.marks.marks
     → job.schemas ≡ flat_map (λ (one : InputSeries). schemas_at store.series (path_in one)) series
     → AreOfJob paths store job

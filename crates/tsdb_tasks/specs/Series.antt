@@ -1,12 +1,12 @@
 -- What a job has of memory: the marks and the schemas of the series of its inputs.
-use Rattle.std.specs.Prelude.{◌≡◌, ◌↔◌, ℕ, ◌≤◌, List, [], ◌∷◌, map, slice_get}
+use Rattle.std.specs.Prelude.{◌≡◌, ◌↔◌, ℕ, ◌≤◌, List, map, slice_get}
 use Rattle.std.specs.List.{AllByRecursion as Each, filter, flat_map}
 use Rattle.std.specs.Option.{option_and_then}
 use Rattle.tsdb_tasks.specs.Beginning.{run_files}
 use Rattle.tsdb_tasks.specs.declared.finishing.InputRuns.{InputRuns}
 use Rattle.tsdb_tasks.specs.declared.series.InputSeries.{InputSeries}
 use Rattle.tsdb_tasks.specs.declared.series.JobSeries.{JobSeries}
-use Rattle.tsdb_index.specs.Entries.{AreNamesBefore}
+use Rattle.tsdb_path.specs.Order.{AreNamesBefore, joined_names}
 use Rattle.tsdb_compactions.specs.Parts.{names_of}
 use Rattle.tsdb_fileset.specs.Files.{KeptFiles, kept_file}
 use Rattle.tsdb_base.specs.Lists.{Among, EachPair, if_some}
@@ -15,7 +15,7 @@ use Rattle.tsdb_model.specs.declared.command.Schema.{Schema}
 use Rattle.tsdb_marks.specs.Lists.{is_of}
 use Rattle.tsdb_memory.specs.Shown.{number_of}
 use Rattle.tsdb_memory.specs.Store.{Store}
-use Rattle.tsdb_path.specs.Nodes.{child_of, device_of, measurement_of, node_count}
+use Rattle.tsdb_path.specs.Nodes.{device_of, measurement_of, node_count}
 
 -- the paths of the series of the file with the number, where it is kept
 abbrev pub series_in : KeptFiles → ℕ → List (List ℕ)
@@ -37,11 +37,6 @@ pub record AreOfJob (paths : List (List ℕ)) (store : Store) (series : JobSerie
 -- the schema of the series with the path, where it is there
 abbrev pub schemas_at : List Schema → List ℕ → List Schema
 schemas_at series path = if_some (option_and_then (slice_get series) (number_of series path))
-
--- the path with these names: a device alone, where the measurement is empty
-abbrev pub joined_names : List ℕ → List ℕ → List ℕ
-joined_names device [] = device
-joined_names device (byte ∷ name) = child_of device (byte ∷ name)
 
 -- the path of a series, and the names by which a tree is ordered, as they lie in the path
 abbrev pub path_in : InputSeries → List ℕ
@@ -65,7 +60,3 @@ pub record AreOfPaths (paths : List (List ℕ)) (series : List InputSeries) : Ty
 pub record HavePaths (paths : List (List ℕ)) (series : List InputSeries) : Type 0 where
   pub same : (path : List ℕ) → Among path (map path_in series) ↔ Among path paths
   pub named : Each IsNamed series
-
--- they stand in the order of a tree
-abbrev pub AreInTreeOrder : List InputSeries → Type 0
-AreInTreeOrder series = EachPair (λ a b. AreNamesBefore (names_in a) (names_in b)) series

@@ -1,12 +1,12 @@
 //! The marks and the schemas of a job, from the series of its inputs. Depends on `finishing`, tsdb_fileset, tsdb_marks
 //! and tsdb_memory.
-ghost use Rattle.std.specs.Prelude.{◌≡◌, ◌++◌, ◌≤◌, All, IfOk, OnOk, map};
+ghost use Rattle.std.specs.Prelude.{◌≡◌, ◌++◌, IfOk, OnOk, map};
 ghost use Rattle.std.specs.List.{AllByRecursion as Each, flat_map};
-ghost use Rattle.tsdb_tasks.specs.Series.{AreInTreeOrder, AreOfJob, AreOfPaths, HavePaths, IsNamed, joined_names};
+ghost use Rattle.tsdb_tasks.specs.Series.{AreOfJob, AreOfPaths, HavePaths, IsNamed, names_in};
 ghost use Rattle.tsdb_tasks.specs.Series.{path_in, run_paths, schemas_at, series_in};
 ghost use Rattle.tsdb_fileset.specs.Replacing.{IsWithin};
 ghost use Rattle.tsdb_base.specs.Lists.{if_some};
-ghost use Rattle.tsdb_path.specs.Nodes.{device_of, measurement_of, node_count};
+ghost use Rattle.tsdb_path.specs.Order.{AreInNameOrder};
 
 use crate::finishing::InputRuns;
 use std::alloc::Global;
@@ -16,7 +16,7 @@ use tsdb_marks::Marks;
 use tsdb_memory::MemoryStore;
 use tsdb_model::Schema;
 use tsdb_outside::Files;
-use tsdb_path::Path;
+use tsdb_path::{Path, names_in_tree};
 use tsdb_plan::FileEntry;
 
 /// A series of an input: its path, and its names, by which a tree is ordered (the bytes of the device, and the
@@ -27,22 +27,6 @@ struct InputSeries<'a> {
     names: (&'a [u8], &'a [u8]),
 }
 
-#[tactic(auto, using(crate::proofs::Gathering::joined_is))]
-/// The bytes of the device, and the measurement. A path of one node, which no series has, is a device by itself.
-fn names(path: &Path) -> (&[u8], &[u8])
-    ensures device { 2 ≤ node_count path.now → result.0.now ≡ device_of path.now }
-    ensures measurement { 2 ≤ node_count path.now → result.1.now ≡ measurement_of path.now }
-    ensures joined { joined_names result.0.now result.1.now ≡ path.now }
-{
-    let bytes = path.bytes();
-    if path.nodes() < 2 {
-        return (bytes, &bytes[..0]);
-    }
-    let measurement = path.measurement();
-    // (a dot stands between them)
-    (&bytes[..bytes.len() - measurement.len() - 1], measurement)
-}
-
 /// Adds the series with these paths.
 fn add_paths<'a>(all: &mut Vec<InputSeries<'a>>, paths: &'a [Path]) -> Result<(), Memory>
     requires { Each IsNamed all.old.items }
@@ -51,7 +35,7 @@ fn add_paths<'a>(all: &mut Vec<InputSeries<'a>>, paths: &'a [Path]) -> Result<()
     for path in paths {
         all.push(InputSeries {
             path,
-            names: names(path),
+            names: names_in_tree(path),
         })?;
     }
     Ok(())
@@ -84,7 +68,7 @@ fn series_in_order<'a, F: Files>(
     requires sequence { IsWithin runs.sequence files.now.sequence }
     requires unsequence { IsWithin runs.unsequence files.now.unsequence }
     ensures all { IfOk result (λ all. HavePaths (run_paths runs files.now) all.items) }
-    ensures order { IfOk result (λ all. AreInTreeOrder all.items) }
+    ensures order { IfOk result (λ all. AreInNameOrder names_in all.items) }
 {
     let mut all = Vec::new(alloc);
     let sequence = files.entries(Space::Sequence);

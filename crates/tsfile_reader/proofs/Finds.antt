@@ -7,7 +7,8 @@ use Rattle.tsdb_fields.specs.declared.fault.FieldFault.{FieldFault}
 use Rattle.tsdb_fields.specs.declared.fault.FieldFault.TheVariants as field
 use Rattle.tsdb_index.specs.declared.index.IndexEntry.{IndexEntry}
 use Rattle.tsdb_index.specs.declared.pointer.Pointer.{Pointer}
-use Rattle.tsdb_index.specs.Entries.{AreInOrder, AreNamesBefore, IsEntry, names_of}
+use Rattle.tsdb_index.specs.Entries.{AreInOrder, IsEntry, names_of}
+use Rattle.tsdb_path.specs.Order.{AreNamesBefore}
 use Rattle.tsdb_index.specs.Faults.{ReadsWhole}
 use Rattle.tsdb_index.specs.Finding.{AreBehind, IsEntryFor, IsLeafFor}
 use Rattle.tsdb_index.specs.Parts.{AreLeavesAt, BeginAt, IsLeaf, IsPointerBefore, end_of, next_names}

@@ -2,7 +2,8 @@
 //! tsdb_index and tsdb_path.
 ghost use Rattle.std.specs.Prelude.{◌≡◌, ◌<◌, ◌≤◌, ◌^◌, List, All, length, map, IfOk, IfSome};
 ghost use Rattle.tsdb_index.specs.declared.index.IndexEntry.{IndexEntry as Entry};
-ghost use Rattle.tsdb_index.specs.Entries.{AreInOrder, AreNamesBefore, IsEntry, names_of};
+ghost use Rattle.tsdb_index.specs.Entries.{AreInOrder, IsEntry, names_of};
+ghost use Rattle.tsdb_path.specs.Order.{AreNamesBefore};
 ghost use Rattle.tsdb_index.specs.Parts.{IsLeaf, end_of as leaf_end};
 ghost use Rattle.tsdb_pages.specs.declared.tree.Tree.{Tree as TreeIn};
 ghost use Rattle.tsdb_pages.specs.File.{IsFile};

@@ -16,7 +16,7 @@ use Rattle.tsdb_base.specs.Values.{is_suitable, type_of}
 use Rattle.tsdb_path.specs.Nodes.{IsPath, device_of, measurement_of, node_count}
 use Rattle.tsdb_path.proofs.Parts.{IsName-measurement_of, IsPath-device_of}
 use Rattle.tsdb_index.specs.declared.index.IndexEntry.{IndexEntry}
-use Rattle.tsdb_index.specs.Entries as index
+use Rattle.tsdb_path.specs.Order.{AreNamesBefore}
 use Rattle.tsdb_index.specs.Spelling.{IsSpelling}
 use Rattle.tsdb_pages.specs.declared.tree.Page.{Page}
 use Rattle.tsdb_pages.specs.declared.tree.Chunk.{Chunk}
@@ -205,7 +205,7 @@ first_begun bytes entries path data_type encoding is none nodes suits path_is = 
         absurd (omega (arith, n, m))
 
 pub next_begun : (given : List Series) (device measurement : List ℕ) (bytes : List ℕ) (entries : List IndexEntry) (path : List ℕ) (data_type : DataType) (encoding : Encoding) → AreClosed given device measurement bytes entries
-    → 2 ≤ node_count path → is_suitable data_type encoding ≡ true → IsPath path → index.AreNamesBefore (device, measurement) (device_of path, measurement_of path) → BuildState (given ++ series_at path data_type encoding ∷ []) bytes entries path data_type encoding None []
+    → 2 ≤ node_count path → is_suitable data_type encoding ≡ true → IsPath path → AreNamesBefore (device, measurement) (device_of path, measurement_of path) → BuildState (given ++ series_at path data_type encoding ∷ []) bytes entries path data_type encoding None []
 next_begun given device measurement bytes entries path data_type encoding closed nodes suits path_is (inl less) =
     let all = all_groups given device measurement bytes entries closed in
     let groups = closed.groups ++ group_of device closed.chunks ∷ [] in
@@ -262,15 +262,15 @@ next_begun given device measurement bytes entries path data_type encoding closed
 -- the names of the last series come before those that may follow it
 pub names_before : (bytes : List ℕ) (entries : List IndexEntry) (path : List ℕ) (data_type : DataType) (encoding : Encoding) (chunk : Option OpenChunk) (points : List Point) (device measurement : List ℕ)
     → BuildState [] bytes entries path data_type encoding chunk points ⊎ ((front : List Series) × (last : Series) × BuildState (front ++ last ∷ []) bytes entries path data_type encoding chunk points × MayBeFollowedBy device measurement last)
-    → index.AreNamesBefore (device_of path, measurement_of path) (device, measurement)
+    → AreNamesBefore (device_of path, measurement_of path) (device, measurement)
 names_before bytes entries path data_type encoding chunk points device measurement (inl state) =
     let n : 0 ≡ length state.front + 1 = ap length state.all ∙ length-append state.front (state.last ∷ []) in
     absurd (omega (arith, n))
 names_before bytes entries path data_type encoding chunk points device measurement (inr given) =
     let state = given.2 in
     let same : given.1 ≡ state.last = (same_ends given.0 state.front given.1 state.last state.all).1 in
-    subst (λ (d : List ℕ). index.AreNamesBefore (d, measurement_of path) (device, measurement)) (ap (λ (s : Series). s.device) same ∙ state.is.device_is)
-    (subst (λ (m : List ℕ). index.AreNamesBefore (given.1.device, m) (device, measurement)) (ap (λ (s : Series). s.measurement) same ∙ state.is.measurement_is) given.3.before)
+    subst (λ (d : List ℕ). AreNamesBefore (d, measurement_of path) (device, measurement)) (ap (λ (s : Series). s.device) same ∙ state.is.device_is)
+    (subst (λ (m : List ℕ). AreNamesBefore (given.1.device, m) (device, measurement)) (ap (λ (s : Series). s.measurement) same ∙ state.is.measurement_is) given.3.before)
 
 -- ---- the file
 

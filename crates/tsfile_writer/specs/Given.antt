@@ -7,7 +7,7 @@ use Rattle.tsdb_base.specs.declared.value.Encoding.{Encoding}
 use Rattle.tsdb_base.specs.Limits.{max_values}
 use Rattle.tsdb_base.specs.Values.{type_of}
 use Rattle.tsdb_path.specs.Nodes.{IsName, IsPath, device_of, measurement_of}
-use Rattle.tsdb_index.specs.Entries as index
+use Rattle.tsdb_path.specs.Order.{AreNamesBefore}
 use Rattle.tsdb_pages.specs.declared.tree.Page.{Page}
 use Rattle.tsdb_pages.specs.declared.tree.Chunk.{Chunk}
 use Rattle.tsdb_pages.specs.declared.tree.Group.{Group}
@@ -52,7 +52,7 @@ with_last_point point series = record {
 -- the series has a point, and its device comes before this one, or is this one and its measurement comes before
 pub record MayBeFollowedBy (device measurement : List ℕ) (series : Series) : Type 0 where
   pub some : 0 < length series.points
-  pub before : index.AreNamesBefore (series.device, series.measurement) (device, measurement)
+  pub before : AreNamesBefore (series.device, series.measurement) (device, measurement)
 
 -- the point is of the series' type and later than its points
 pub record MayTake (point : Point) (series : Series) : Type 0 where

@@ -1,7 +1,7 @@
 use Rattle.std.proofs.Common.{rules, List, ℕ}
 use Rattle.std.proofs.lemmas.Fn.{always_returns_same}
 use Rattle.std.specs.Ordering.{is_lt}
-use Rattle.tsdb_fileset.specs.Order.{tree_cmp}
+use Rattle.tsdb_path.specs.Order.{tree_cmp}
 use Rattle.tsdb_fileset.proofs.Searched.{order_tested}
 use Rattle.tsdb_fileset.proofs.series.are_in_order.Goals as goal
 

@@ -1,7 +1,7 @@
 use Rattle.std.proofs.Common.{List, ap, rules, ℕ, ◌∙◌}
 use Rattle.std.proofs.lemmas.Fn.{always_returns_same}
 use Rattle.std.specs.Ordering.{is_eq}
-use Rattle.tsdb_fileset.specs.Order.{tree_cmp}
+use Rattle.tsdb_path.specs.Order.{tree_cmp}
 use Rattle.tsdb_fileset.proofs.Searched.{path_absent, path_met}
 use Rattle.tsdb_fileset.proofs.series.has_among_rising.Goals as goal
 

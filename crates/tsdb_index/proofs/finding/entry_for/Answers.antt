@@ -2,7 +2,7 @@ use Rattle.std.proofs.Common.{rules}
 use Rattle.std.proofs.lemmas.Fn.{always_returns_same}
 use Rattle.tsdb_index.specs.declared.index.IndexEntry.{IndexEntry}
 use Rattle.tsdb_index.specs.Entries.{names_of}
-use Rattle.tsdb_index.specs.Steps.{names_cmp}
+use Rattle.tsdb_fields.specs.Order.{names_cmp}
 use Rattle.tsdb_index.proofs.Found.{entry_absent, entry_there}
 use Rattle.tsdb_index.proofs.finding.entry_for.Goals as goal
 

@@ -2,7 +2,7 @@ use Rattle.std.proofs.Common.{rules}
 use Rattle.std.proofs.lemmas.Fn.{always_returns_same}
 use Rattle.tsdb_index.specs.declared.pointer.Pointer.{Pointer}
 use Rattle.tsdb_index.specs.Parts.{pointer_names}
-use Rattle.tsdb_index.specs.Steps.{names_cmp}
+use Rattle.tsdb_fields.specs.Order.{names_cmp}
 use Rattle.tsdb_index.proofs.Found.{last_before, last_there}
 use Rattle.tsdb_index.proofs.finding.last_for.Goals as goal
 

@@ -1,5 +1,6 @@
 use Rattle.std.proofs.Common.{refl}
-use Rattle.tsdb_index.specs.Entries.{AreNamesBefore, names_of}
+use Rattle.tsdb_index.specs.Entries.{names_of}
+use Rattle.tsdb_fields.specs.Order.{AreNamesBefore}
 use Rattle.tsdb_index.specs.Parts.{next_names}
 use Rattle.tsdb_index.proofs.Orders.{lone_last, no_next}
 use Rattle.tsdb_index.proofs.order.end_before.Goals as goal

@@ -1,7 +1,8 @@
 use Rattle.std.proofs.Common.{refl, arith, rules}
 use Rattle.std.proofs.lemmas.Bool.{false≢true}
 use Rattle.tsdb_index.specs.declared.index.IndexEntry.{IndexEntry}
-use Rattle.tsdb_index.specs.Entries.{AreNamesBefore, names_of}
+use Rattle.tsdb_index.specs.Entries.{names_of}
+use Rattle.tsdb_fields.specs.Order.{AreNamesBefore}
 use Rattle.tsdb_index.proofs.Orders.{in_order, not_neighbours, order_map, order_of_map}
 use Rattle.tsdb_index.proofs.order.entries_rise.Goals as goal
 

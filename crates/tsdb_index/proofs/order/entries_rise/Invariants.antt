@@ -1,5 +1,6 @@
 use Rattle.std.specs.List.{AllAdjacentBelow}
-use Rattle.tsdb_index.specs.Entries.{AreNamesBefore, names_of}
+use Rattle.tsdb_index.specs.Entries.{names_of}
+use Rattle.tsdb_fields.specs.Order.{AreNamesBefore}
 use Rattle.tsdb_index.proofs.order.entries_rise.Given as goal
 
 abbrev pub invariant-loop-i : goal.invariant-loop-i

@@ -1,5 +1,6 @@
 use Rattle.std.proofs.lemmas.Bool.{false≢true}
-use Rattle.tsdb_index.specs.Entries.{AreNamesBefore, names_of}
+use Rattle.tsdb_index.specs.Entries.{names_of}
+use Rattle.tsdb_fields.specs.Order.{AreNamesBefore}
 use Rattle.tsdb_index.specs.Parts.{next_names}
 use Rattle.tsdb_index.proofs.Orders.{end_in_order, order_from_end, order_left}
 use Rattle.std.proofs.Common.{map, sym, ◌∙◌}

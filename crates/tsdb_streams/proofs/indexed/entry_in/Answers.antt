@@ -2,7 +2,7 @@ use Rattle.std.proofs.Common.{refl, rules}
 use Rattle.std.proofs.lemmas.Fn.{always_returns_same}
 use Rattle.tsdb_index.proofs.Found.{entry_absent, entry_there}
 use Rattle.tsdb_index.specs.Entries.{names_of}
-use Rattle.tsdb_index.specs.Steps.{names_cmp}
+use Rattle.tsdb_path.specs.Order.{names_cmp}
 use Rattle.tsdb_index.specs.declared.index.IndexEntry.{IndexEntry}
 use Rattle.tsdb_streams.proofs.indexed.entry_in.Goals as goal
 

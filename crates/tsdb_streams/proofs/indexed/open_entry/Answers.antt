@@ -1,7 +1,8 @@
 use Rattle.std.proofs.Common.{subst}
 use Rattle.std.specs.Prelude.{ℕ, List, map}
 use Rattle.tsdb_streams.proofs.IndexedFacts.{found_in}
-use Rattle.tsdb_index.specs.Entries.{AreInOrder, AreNamesBefore, names_of}
+use Rattle.tsdb_index.specs.Entries.{AreInOrder, names_of}
+use Rattle.tsdb_path.specs.Order.{AreNamesBefore}
 use Rattle.tsdb_index.specs.Finding.{IsEntryFor}
 use Rattle.tsdb_streams.proofs.indexed.open_entry.Goals as goal
 

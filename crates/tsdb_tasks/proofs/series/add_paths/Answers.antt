@@ -13,7 +13,7 @@ loop-path-preserved c =
     subst (λ (items : List InputSeries). AreOfPaths (before ++ take (c.loop-path.path-index + 1) c.args.paths.now) items)
     (sym c.in_ok-push.ensures.items) (path_added before c.args.paths.now c.loop-path.path-index _ c.loop-path.all.items _
     c.loop-path-test.true c.loop-path.invariant c.path-item.is (record {
-      device = c.names.ensures.device;
-      measurement = c.names.ensures.measurement;
-      joined = c.names.ensures.joined;
+      device = c.names_in_tree.ensures.device_of_series;
+      measurement = c.names_in_tree.ensures.measurement_of_series;
+      joined = c.names_in_tree.ensures.joined;
     }))
