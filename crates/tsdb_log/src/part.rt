@@ -22,7 +22,10 @@ ghost use Rattle.tsdb_log.specs.Steps.{IsMissing, ReadsFields};
 use crate::record::CellRecord;
 use std::alloc::Global;
 use std::marker::PhantomData;
-use tsdb_base::{DataType, Encoding, FileNumber, List, Memory, SeriesId, Space, Time, Value, encoding_byte, type_byte};
+use tsdb_base::{
+    DataType, Encoding, FileNumber, List, Memory, SeriesId, Space, Time, Value, encoding_byte,
+    type_byte,
+};
 use tsdb_fields::{FieldFault, FieldReader, Rest, read_field, read_fields, read_path, read_value};
 use tsdb_path::Path;
 

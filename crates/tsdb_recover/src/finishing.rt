@@ -31,10 +31,10 @@ ghost use Rattle.tsdb_state.specs.StoreOrder.{StoreInOrder};
 
 use crate::adopting::Adopting;
 use tsdb_base::FileNumber;
+use tsdb_core::{Core, Options};
 use tsdb_frames::Frames;
 use tsdb_memory::Logged;
 use tsdb_outside::{Files, Journal};
-use tsdb_core::{Core, Options};
 
 impl<F: Files> Adopting<F> {
     ghost use Rattle.tsdb_recover.specs.Adopting.{HasAdoptedAll, IsAdoptingOf, files_of, opening_of};

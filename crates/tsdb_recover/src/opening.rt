@@ -36,10 +36,10 @@ use crate::strays::remove_strays;
 use crate::taking::adopt_all;
 use std::alloc::Global;
 use tsdb_base::{FileNumber, Memory};
+use tsdb_core::{Core, Options};
 use tsdb_frames::Frames;
 use tsdb_outside::{Files, Journal, Port, StoreFault};
 use tsdb_redo::Opening;
-use tsdb_core::{Core, Options};
 
 /// Opens the store of a journal and its files: replays the log, takes up each listed file, and removes all others. It
 /// writes nothing to the journal. A store that is not opened is left as it was, but for files that no list has; one that
