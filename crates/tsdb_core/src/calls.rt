@@ -94,8 +94,8 @@ impl<J: Journal, F: Files> Core<J, F> {
     }
 
     /// Removes from the store each file on its way out of which no right is out, and that no record in doubt names, in
-    /// their order, and returns how many. After `Ok` no removal has failed. After `Failed` the file that could not be removed is spent too, and those behind
-    /// it were not tried.
+    /// their order, and returns how many. After `Ok` no removal has failed. After `Failed` the file that could not be
+    /// removed is spent too, and those behind it were not tried.
     pub fn sweep(&mut self, port: &mut F::Port) -> Result<u64, Failed>
         requires store { AreOfStore (F.Port.store port.old) (files_of self.old).places }
         ensures swept { IsSwept self.old self.new result }

@@ -329,8 +329,8 @@ impl<F: Files> KeptFiles<F> {
     }
 
     /// Removes from the store each outgoing file of which no right is out, and that is none of those in doubt, in their
-    /// order, and returns how many. After `Ok` no removal has failed. After `Failed` the file that could not be removed is spent too, and those behind it
-    /// were not tried.
+    /// order, and returns how many. After `Ok` no removal has failed. After `Failed` the file that could not be removed is
+    /// spent too, and those behind it were not tried.
     pub fn sweep(
         &mut self,
         port: &mut F::Port,
