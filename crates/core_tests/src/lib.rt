@@ -1,4 +1,4 @@
-//! Tests of the core: answers and counts, limits of a pair at their edges, flushes with their listings, calls of the
+//! Tests of one core: answers and counts, limits of a pair at their edges, flushes with their listings, calls of the
 //! journal and of the files that fail, and what a stop at each moment leaves of the log. Depends on `tsdb_core`,
 //! `tsdb_memory` and `tsdb_fileset`, and for what these are given and leave on `tsdb_base`, `tsdb_path`, `tsdb_model`,
 //! `tsdb_outside`, `mem_outside`, `tsdb_frames`, `tsdb_log`, `tsdb_flush`, `tsdb_print` and `tests_support`. The specs

@@ -1,7 +1,6 @@
-//! Tests of files, by the public items of their crates alone: statistics, fields, the index, pages and trees; and whole
-//! files, as `write_tree` and a builder write them, and as they are read, checked and looked up, in memory and on a
-//! disk. The library itself is empty. Depends on these crates, tsdb_base, tsdb_path, tsdb_outside, mem_outside and
-//! fs_outside.
+//! Tests of statistics, fields, the index and whole TsFiles: as they are written, read, checked and looked up, in
+//! memory and on a disk. The library itself is empty. Depends on these crates, tsdb_base, tsdb_path, tsdb_outside,
+//! mem_outside and fs_outside.
 #![tactic(auto)]
 
 #[cfg(test)]

@@ -1,5 +1,5 @@
-//! What no clause says of the parts that work in memory: worked marks, memtables, plans and merges, their limits, and
-//! sources that fail. Depends on `tsdb_marks`, `tsdb_memtable`, `tsdb_plan`, `tsdb_merge`, `tsdb_path` and `tsdb_base`.
+//! Tests of marks, memtables, plans and merges: worked examples, their limits, and sources that fail. Depends on
+//! `tsdb_marks`, `tsdb_memtable`, `tsdb_plan`, `tsdb_merge`, `tsdb_path` and `tsdb_base`.
 #![tactic(auto)]
 
 #[cfg(test)]

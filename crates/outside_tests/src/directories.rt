@@ -158,10 +158,10 @@ fn one_program_has_a_store_at_a_time(rt: HostRuntime) {
 // A copy of a store by hard links has its first slot, and another one by a symbolic link.
 static SHARED: [Item; 6] = [
     Item::Folder("copied"),
-    Item::Same("copied/slot0", "shared/slot0"),
+    Item::Same("copied/slot0", "first/slot0"),
     Item::File("copied/slot1", "\0"),
     Item::Folder("led"),
-    Item::Link("led/slot0", "../shared/slot0"),
+    Item::Link("led/slot0", "../first/slot0"),
     Item::File("led/slot1", "\0"),
 ];
 
@@ -169,8 +169,8 @@ static SHARED_WITH: [Look; 2] = [Look::SharedWith(b"copied"), Look::SharedWith(b
 
 #[test]
 fn stores_that_share_a_slot_are_not_open_at_once(rt: HostRuntime) {
-    assert!(rt; matches!(opened(&rt, b"shared"), Ok(true)) && are_made(&rt, &SHARED));
-    assert!(rt; matches!(store_has(&rt, b"shared", &SHARED_WITH), Ok(true)));
+    assert!(rt; matches!(opened(&rt, b"first"), Ok(true)) && are_made(&rt, &SHARED));
+    assert!(rt; matches!(store_has(&rt, b"first", &SHARED_WITH), Ok(true)));
     assert_eq!(rt; first_other(&rt, &[b"copied", b"led"], Ok(true)), None);
 }
 

@@ -1,6 +1,6 @@
-//! Tests of what is outside the engine, through its public items: sources, sinks and places in memory, and those of the
-//! system. `copying` copies a small file from one store into another. Depends on `mem_outside`, `fs_outside`,
-//! `tsdb_outside` and `tsdb_base`.
+//! Tests of sources, sinks and places, those in memory and those of the system: streams that end or fail, odd
+//! directories, locks and full disks. `copying` copies a small file from one store into another. Depends on
+//! `mem_outside`, `fs_outside`, `tsdb_outside` and `tsdb_base`.
 #![tactic(auto)]
 
 pub mod copying;

@@ -1,7 +1,7 @@
-//! Tests of the text that goes in and out of a run, by public items alone. Of the reading of scripts: a table of lines
-//! for each kind of fault, whole scripts, what commands say, and the limits; of the text of replies: texts worked out
-//! by hand. It has no code of its own. Depends on `tsdb_script` and `tsdb_print`, and on `tsdb_base`, `tsdb_path` and
-//! `tsdb_model` for what commands and replies say.
+//! Tests of scripts that are read and replies that are printed. Of scripts: a table of lines for each kind of fault,
+//! whole scripts, what commands say, and the limits; of the text of replies: texts worked out by hand. It has no code
+//! of its own. Depends on `tsdb_script` and `tsdb_print`, and on `tsdb_base`, `tsdb_path` and `tsdb_model` for what
+//! commands and replies say.
 #![tactic(auto)]
 
 #[cfg(test)]

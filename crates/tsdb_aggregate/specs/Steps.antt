@@ -2,8 +2,6 @@
 use Rattle.std.specs.Prelude.{◌≡◌, ◌⊎◌, ℕ, ◌<◌, ◌≤◌, ◌≤ℤ◌, ◌<ℤ◌, pos, Bool, true, false, List, [], All, AllPairs, Contains}
 use Rattle.std.specs.Prelude.{filter, Option, Some, None, Ok, ⊤, length, map, sum_by, ◌||◌, ◌∷◌, ◌++◌, if◌then◌else◌, IsTrue}
 use Rattle.std.specs.Prelude.{take, drop}
-use Rattle.std.specs.declared.alloc.Global.{Global}
-use Rattle.std.specs.declared.vec.Vec.{Vec}
 use Rattle.tsdb_base.specs.declared.answers.Aggregate.{Aggregate}
 use Rattle.tsdb_base.specs.declared.answers.Aggregate.TheVariants.{Count, FirstValue, LastValue, MinValue, MaxValue}
 use Rattle.tsdb_base.specs.declared.answers.Aggregate.TheVariants.{MinTime, MaxTime}
@@ -131,7 +129,3 @@ pub record HasWalked (range : Range) (name : Aggregate) (before now : LoaderStat
       → HasTally before.held range name (take m entries) tally × IsCut m entries
   pub spends : Spends {T = ⊤} (sum_by cost_of (held_parts before.held (take m entries))) before now pages pages_now
       (Ok tt)
-
--- lists in memory, whose loads cost nothing
-abbrev pub held_of : List (Vec Point Global) → List Held
-held_of lists = map (λ list. record { points = Some list.items; cost = 0 }) lists

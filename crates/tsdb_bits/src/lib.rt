@@ -1,6 +1,5 @@
-//! LEB128, zigzag, packing at a width, and what the encodings of lists share. Depends on tsdb_base.
-//!
-//! LEB128, zigzag and packing at a width: the parts of which TsFile's encodings are made.
+//! Numbers as LEB128 and zigzag, values packed at a width, and the form that the encodings of lists share. Depends on
+//! tsdb_base.
 //!
 //! What the four encodings of lists share: the limit of 1,000 values, the number of values, what an encoder leaves, and
 //! the form of a decoder's answer.

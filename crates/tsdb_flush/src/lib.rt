@@ -1,14 +1,9 @@
-//! The job of a flush: taken and run, and what its files are to the engine state. Depends on tsdb_base, tsdb_path,
-//! tsdb_model, tsdb_outside, tsdb_index, tsfile_writer, tsdb_memtable, tsdb_plan and tsdb_memory.
-//!
-//! The jobs that a core hands out, and the files that come of them.
+//! Flushes: the files that are built from a frozen pair, and what these are to the engine state. Depends on tsdb_base,
+//! tsdb_path, tsdb_model, tsdb_outside, tsdb_index, tsfile_writer, tsdb_memtable, tsdb_plan and tsdb_memory.
 //!
 //! `specs/Parts.antt` says which series a part of a pair has, and `specs/Built.antt` when a file is that of a part.
 //!
-//! The engine over a core.
-//!
-//! It has the running of a flush: the files of the two parts of a pair. `Part` is a file in the making, for whoever
-//! writes one series by series, or point by point.
+//! `Part` is a file in the making, for whoever writes one series by series, or point by point.
 //!
 //! What a file that a flush built is to the engine state: the points of its tree are those of the part, and what is
 //! kept of it says so.

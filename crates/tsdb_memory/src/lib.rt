@@ -1,5 +1,6 @@
-//! What an engine holds in memory, behind its log. Depends on tsdb_base, tsdb_path, tsdb_model, tsdb_outside,
-//! tsdb_frames, tsdb_log, tsdb_marks, tsdb_memtable, tsdb_state and indexmap.
+//! What a store has in memory: its series, its pairs of points and its marks. Each change is a record of the log before
+//! it takes effect. Depends on tsdb_base, tsdb_path, tsdb_model, tsdb_outside, tsdb_frames, tsdb_log, tsdb_marks,
+//! tsdb_memtable, tsdb_state and indexmap.
 //!
 //! What an engine holds in memory, and what each record of the log does to it, in two phases: `prepare` takes all the
 //! memory that the effect needs, and `finish` takes none. So a running engine writes the record in between, and a

@@ -1,6 +1,6 @@
-//! What a query reads of its pin: rows, aggregates and streams, and that these are those of its worlds. Depends on
-//! tsdb_base, tsdb_path, tsdb_model, tsdb_outside, tsdb_stats, tsdb_pages, tsdb_marks, tsdb_merge, tsdb_aggregate,
-//! tsdb_state, tsdb_streams, tsdb_memory and tsdb_pin.
+//! Queries over a pin: rows, aggregates and streams, from its files and its copies, and the law that the plain model
+//! has the same. Depends on tsdb_base, tsdb_path, tsdb_model, tsdb_outside, tsdb_stats, tsdb_pages, tsdb_marks,
+//! tsdb_merge, tsdb_aggregate, tsdb_state, tsdb_streams, tsdb_memory and tsdb_pin.
 //!
 //! What a pin has in the worlds that it stands for.
 //!

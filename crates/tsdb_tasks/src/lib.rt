@@ -1,6 +1,6 @@
-//! How flushes and compactions begin and end in a core. Depends on tsdb_base, tsdb_path, tsdb_model, tsdb_outside,
-//! tsdb_log, tsdb_pages, tsdb_marks, tsdb_memtable, tsdb_plan, tsdb_state, tsdb_memory, tsdb_compactions, tsdb_fileset
-//! and tsdb_pin.
+//! Flushes and compactions at their beginning and their end: what they take of memory and of the listed files, and what
+//! they put in its place. Depends on tsdb_base, tsdb_path, tsdb_model, tsdb_outside, tsdb_log, tsdb_pages, tsdb_marks,
+//! tsdb_memtable, tsdb_plan, tsdb_state, tsdb_memory, tsdb_compactions, tsdb_fileset and tsdb_pin.
 //!
 //! What the end of a flush is to the engine state: the files that were built for it are told, the flush can be
 //! committed with them, and they join the files that a core keeps.
