@@ -8,16 +8,16 @@ use Rattle.std.specs.Prelude.{IfSome, ◌≤◌}
 use Rattle.core_tests.specs.Ready.{IsReady, IsReadyWith, IsTakenOut, flush_of}
 use Rattle.tsdb_base.specs.declared.ids.FileNumber.{FileNumber}
 use Rattle.tsdb_tasks.proofs.Coming.{of_each}
-use Rattle.tsdb_tasks.specs.Files.{NewFile, all_of, new_file, new_files}
+use Rattle.tsdb_tasks.specs.Files.{NewFile, all_of, file_built, new_files}
 use Rattle.tsdb_core.specs.Commands.{KeepsFiles}
-use Rattle.tsdb_core.specs.Core.{IsAbove, KeepsJobs, files_of}
+use Rattle.tsdb_core.specs.Core.{IsAboveNumbers, KeepsJobs, files_of}
 use Rattle.tsdb_core.specs.Ending.{drawn_for}
-use Rattle.tsdb_core.specs.Flushes.{EndsFlush, HasNumbersOf, IsOut, IsTakenOrNot, TakesMemory}
+use Rattle.tsdb_core.specs.Flushes.{HasEndedFlush, HasNumbersOf, IsOut, IsFlushTakenOrNot, TakesMemory}
 use Rattle.tsdb_core.specs.Sweeps.{IsSwept}
 use Rattle.tsdb_core.specs.declared.commit.Commit.{Commit}
 use Rattle.tsdb_core.specs.declared.commit.CoreFault.{CoreFault}
 use Rattle.tsdb_core.specs.declared.engine.Core.{Core}
-use Rattle.tsdb_flush.specs.Built.{IsDone}
+use Rattle.tsdb_flush.specs.Built.{IsPartDone}
 use Rattle.tsdb_flush.specs.Jobs.{IsJob}
 use Rattle.tsdb_flush.specs.Parts.{Filled}
 use Rattle.tsdb_flush.specs.declared.job.Built.{Built}
@@ -46,22 +46,22 @@ IsIn store new = new.token.name.store ≡ store
 
 module _ {F S R P : Type 0} (file : S → NamedFile) (rights : S → ℕ) (store : Store) where
   of_part : (born : ℕ) (part : List Filled) (number : Option FileNumber) (built : Option (Built F S R P))
-      → IsDone file rights store born part number built → IfSome (option_map (new_file file) built) (IsIn store)
+      → IsPartDone file rights store born part number built → IfSome (option_map (file_built file) built) (IsIn store)
   of_part born part None None done = tt
   of_part born part None (Some built) done = absurd done
   of_part born part (Some number) None done = absurd done
   of_part born part (Some number) (Some built) done = done.in_store
 
   of_part_so_far : (born : ℕ) (part : List Filled) (number : Option FileNumber) (built : Option (Built F S R P))
-      → (built ≡ None) ⊎ IsDone file rights store born part number built
-      → IfSome (option_map (new_file file) built) (IsIn store)
+      → (built ≡ None) ⊎ IsPartDone file rights store born part number built
+      → IfSome (option_map (file_built file) built) (IsIn store)
   of_part_so_far born part number built (inl none) =
-      subst (λ (b : Option (Built F S R P)). IfSome (option_map (new_file file) b) (IsIn store)) (sym none) tt
+      subst (λ (b : Option (Built F S R P)). IfSome (option_map (file_built file) b) (IsIn store)) (sym none) tt
   of_part_so_far born part number built (inr done) = of_part born part number built done
 
 -- no right to read a new file is out
 unread_part : {F S R P : Type 0} (file : S → NamedFile) (built : Option (Built F S R P))
-    → IfSome (option_map (new_file file) built) (λ f. f.token.rights ≡ 0)
+    → IfSome (option_map (file_built file) built) (λ f. f.token.rights ≡ 0)
 unread_part file None = tt
 unread_part file (Some built) = refl
 
@@ -96,7 +96,7 @@ module _ {J F S R P : Type 0} {means : disk.Ghosts J} {counts : counted.Ghosts J
   }
 
   pub take_ready : (old new : Core J F S R P means counts) (result : Result (Option FlushJob) CoreFault)
-      → TakesMemory old new → IsTakenOrNot old new result → (store : Store) (jobs : List FlushJob)
+      → TakesMemory old new → IsFlushTakenOrNot old new result → (store : Store) (jobs : List FlushJob)
       → IsReady store old jobs → IsReadyWith store new jobs result
   take_ready old new (Ok None) takes taken store jobs ready = record {
     keeps = taken.jobs (map flush_of jobs) [] ready.keeps;
@@ -115,7 +115,7 @@ module _ {J F S R P : Type 0} {means : disk.Ghosts J} {counts : counted.Ghosts J
   }
 
   pub take_out : (old new : Core J F S R P means counts) (result : Result (Option FlushJob) CoreFault)
-      → TakesMemory old new → IsTakenOrNot old new result → (store : Store) (jobs : List FlushJob)
+      → TakesMemory old new → IsFlushTakenOrNot old new result → (store : Store) (jobs : List FlushJob)
       → IsReady store old jobs → IsTakenOut new result
   take_out old new (Ok None) takes taken store jobs ready = tt
   take_out old new (Ok (Some job)) takes taken store jobs ready = (
@@ -128,10 +128,10 @@ module _ {J F S R P : Type 0} {means : disk.Ghosts J} {counts : counted.Ghosts J
   -- the core after the end of a job, of whose files these are there
   module _ (file : S → NamedFile) (rights : S → ℕ) (store : Store) (old new : Core J F S R P means counts)
       (job : FlushJob) (given files : Flushed F S R P) (same : given ≡ files) (commit : Commit)
-      (ends : EndsFlush old new job (new_files file files) commit)
+      (ends : HasEndedFlush old new job (new_files file files) commit)
       (first second : List Filled)
-      (sequence : (given.sequence ≡ None) ⊎ IsDone file rights store job.born.0 first job.sequence given.sequence)
-      (unsequence : (given.unsequence ≡ None) ⊎ IsDone file rights store job.born.0 second job.unsequence given.unsequence)
+      (sequence : (given.sequence ≡ None) ⊎ IsPartDone file rights store job.born.0 first job.sequence given.sequence)
+      (unsequence : (given.unsequence ≡ None) ⊎ IsPartDone file rights store job.born.0 second job.unsequence given.unsequence)
       (others jobs : List FlushJob) (one : IsWithOne job others jobs) (ready : IsReady store old jobs) where
     pub ended : IsReady store new others
     ended = record {
@@ -139,12 +139,12 @@ module _ {J F S R P : Type 0} {means : disk.Ghosts J} {counts : counted.Ghosts J
           (mapped job others jobs one) ready.keeps;
       unread = of_each (drawn_for job) (new_files file files) old.files new.files ends.come (λ n kept. kept.rights ≡ 0)
           (λ n never. ready.unread n)
-          (each_of (λ f. f.token.rights ≡ 0) (option_map (new_file file) files.sequence)
-          (option_map (new_file file) files.unsequence) (unread_part file files.sequence)
+          (each_of (λ f. f.token.rights ≡ 0) (option_map (file_built file) files.sequence)
+          (option_map (file_built file) files.unsequence) (unread_part file files.sequence)
           (unread_part file files.unsequence));
       of_store = ends.of_store store ready.of_store
           (subst (λ (f : Flushed F S R P). Each (IsIn store) (all_of (new_files file f))) same
-          (each_of (IsIn store) (option_map (new_file file) given.sequence) (option_map (new_file file) given.unsequence)
+          (each_of (IsIn store) (option_map (file_built file) given.sequence) (option_map (file_built file) given.unsequence)
           (of_part_so_far file rights store job.born.0 first job.sequence given.sequence sequence)
           (of_part_so_far file rights store job.born.0 second job.unsequence given.unsequence unsequence)));
     }
@@ -209,7 +209,7 @@ module _ {J F S R P : Type 0} {means : disk.Ghosts J} {counts : counted.Ghosts J
     of_store = subst (λ (files : KeptFiles). AllFiles (λ file. file.name.store ≡ store) files.places) (sym none) (λ n. tt);
   }
 
-pub none_above : (next : ℕ) → 1 ≤ next → IsAbove next none_kept
+pub none_above : (next : ℕ) → 1 ≤ next → IsAboveNumbers next none_kept
 none_above next some = record { from_one = some; below = λ n. tt }
 
 pub first_of : (job : FlushJob) (jobs : List FlushJob) → IsWithOne job jobs (job ∷ jobs)

@@ -17,7 +17,7 @@ use Rattle.tsdb_outside.specs.declared.faults.Counted as counted
 use Rattle.tsdb_state.specs.State as state
 
 -- a flush with the numbers of the job, and no point
-abbrev pub flush_of : FlushJob → state.FlushJob
+abbrev pub flush_of : FlushJob → state.FlushState
 flush_of job = record {
   born = job.born.0;
   pair = record { sequence = empty; unsequence = empty };

@@ -2,7 +2,7 @@
 ghost use Rattle.std.specs.Prelude.{[], ◌≤◌, List};
 ghost use Rattle.core_tests.specs.Ready.{IsReady, IsReadyWith, IsTakenOut};
 ghost use Rattle.tsdb_tasks.specs.Files.{AreDone, new_files};
-ghost use Rattle.tsdb_core.specs.Flushes.{EndsFlush, IsOut};
+ghost use Rattle.tsdb_core.specs.Flushes.{HasEndedFlush, IsOut};
 ghost use Rattle.tsdb_core.specs.Limits.{IsPairLimit};
 ghost use Rattle.tsdb_core.specs.declared.commit.Commit.{Commit as HowEnded};
 ghost use Rattle.tsdb_flush.specs.declared.job.FlushJob.{FlushJob as JobOf};
@@ -14,7 +14,7 @@ use tsdb_base::{Answer, FileNumber, Stamp};
 use tsdb_core::{Commit, Core, CoreFault, Options};
 use tsdb_fileset::KeptFiles;
 use tsdb_flush::{FlushJob, Flushed};
-use tsdb_memory::Logged;
+use tsdb_memory::LoggedMemory;
 use tsdb_model::Command;
 use tsdb_outside::{Files, Journal};
 
@@ -39,7 +39,7 @@ pub fn end<J: Journal, F: Files>(
 ) -> Option<Commit>
     requires out { IsOut core.old job }
     requires done { AreDone F.Sealed.file F.Sealed.rights job files }
-    ensures { (commit : HowEnded) × EndsFlush core.old core.new job (new_files F.Sealed.file files) commit }
+    ensures { (commit : HowEnded) × HasEndedFlush core.old core.new job (new_files F.Sealed.file files) commit }
 {
     if commits {
         return Some(core.commit_flush(job, files));
@@ -74,7 +74,7 @@ pub fn freeze<J: Journal, F: Files>(core: &mut Core<J, F>) -> Option<Answer>
 /// A core over a log and memory that are new, the next file of which gets this number.
 pub fn new_core<J: Journal, F: Files>(
     alloc: Global,
-    logged: Logged<J>,
+    logged: LoggedMemory<J>,
     pair_points: u64,
     next: u64,
 ) -> Core<J, F>

@@ -19,7 +19,7 @@ use tsdb_base::{Answer, Space, Stamp, Time};
 use tsdb_core::{Commit, Core, CoreFault};
 use tsdb_flush::{FlushJob, FlushRefused, run_flush};
 use tsdb_frames::Frames;
-use tsdb_memory::{Logged, MemoryStore};
+use tsdb_memory::{LoggedMemory, MemoryStore};
 use tsdb_model::{Command, Reply};
 use tsdb_outside::{Failed, Files, Journal, Place, Slot};
 use tsdb_print::print_reply;
@@ -323,7 +323,7 @@ pub fn open_stored(
     let Ok((frames, _)) = Frames::scan(alloc, journal, Slot::A) else {
         return Err(Fail::from("a log"));
     };
-    let logged = Logged::new(alloc, frames, MemoryStore::new(alloc));
+    let logged = LoggedMemory::new(alloc, frames, MemoryStore::new(alloc));
     let core = new_core(alloc, logged, pair_points, next);
     Ok(Stored { core, port, files })
 }

@@ -10,7 +10,7 @@ use Rattle.std.proofs.lemmas.List.{get_or-map, get_or-take, length-take, length-
 use Rattle.std.proofs.lemmas.List.Elements.{All-from_recursion}
 use Rattle.std.proofs.lemmas.Map.Text.{btree_map_updates_str}
 use Rattle.enc_dict.specs.Spelling.{first_uses, place_in}
-use Rattle.enc_dict.specs.Steps.{place_among, IsDictionary, IsPlaceOf, IsKnown, Enters}
+use Rattle.enc_dict.specs.Steps.{place_among, IsDictionary, IsTextPlace, IsKnown, Enters}
 use Rattle.enc_dict.proofs.FirstUses.{cases, same_text, text_itself, apart_back, all_used, place_before, place_last}
 
 -- one test more at the end of a list
@@ -64,7 +64,7 @@ enters_new texts text place old new is absent place_e size updates =
     }
 
 -- the map with a text that was there, at its old place again
-pub enters_again : (texts : List (List ℕ)) (text : List ℕ) (other place : ℕ) (old middle new : BTreeMap (Bor (List ℕ)) ℕ) → IsDictionary texts old → IsPlaceOf texts text place → btree_map_len new ≡ btree_map_len old
+pub enters_again : (texts : List (List ℕ)) (text : List ℕ) (other place : ℕ) (old middle new : BTreeMap (Bor (List ℕ)) ℕ) → IsDictionary texts old → IsTextPlace texts text place → btree_map_len new ≡ btree_map_len old
     → UpdatesBy (λ x y. slice_cmp nat_cmp x.now y.now) (λ key. slice_cmp nat_cmp text key.now) old middle (Some other) → UpdatesBy (λ x y. slice_cmp nat_cmp x.now y.now) (λ key. slice_cmp nat_cmp text key.now) middle new (Some place)
     → Enters texts text place false new
 enters_again texts text other place old middle new is at size away back = record {
@@ -90,7 +90,7 @@ enters_again texts text other place old middle new is at size away back = record
 }
 
 -- what the map has for a text is the text's place
-pub some_place : (texts : List (List ℕ)) (text : List ℕ) (place : ℕ) → place_among texts text ≡ Some place → IsPlaceOf texts text place
+pub some_place : (texts : List (List ℕ)) (text : List ℕ) (place : ℕ) → place_among texts text ≡ Some place → IsTextPlace texts text place
 some_place texts text place e = elim (cases (list_any (bytes_eq text) texts)) [
   | inl among ↦
       let found : Some (place_in texts text) ≡ Some place = rw among at e in
@@ -111,7 +111,7 @@ empty_dictionary m empty size = record { size = size; places = λ text. rw empty
 
 -- a value so far that is the text tells the text's place
 pub known_is_place : (values : List (List ℕ)) (i : ℕ) (places : List ℕ) (text : List ℕ) (place : ℕ) → i ≤ length values → places ≡ map (place_in (first_uses (take i values))) (take i values) → IsKnown values places text place
-    → IsPlaceOf (first_uses (take i values)) text place
+    → IsTextPlace (first_uses (take i values)) text place
 known_is_place values i places text place le are known =
     let xs = take i values in
     let among_xs : known.index < length xs = omega (arith, known.within, length-map xs (place_in (first_uses xs)), ap length are) in

@@ -14,8 +14,8 @@ use Rattle.tsdb_base.specs.Plain.{plain_text, IsText}
 use Rattle.tsdb_base.specs.PlainLaws.{plain_text-prefix_free}
 use Rattle.tsdb_base.proofs.PlainLists.{same_values}
 use Rattle.tsdb_bits.specs.Lists.{IsListOf, IsSpelling, HasOneSpelling}
-use Rattle.enc_dict.specs.Steps.{AreParts, AreUses}
-use Rattle.enc_dict.specs.Spelling.{first_uses, place_in, place_width, parts, spelling}
+use Rattle.enc_dict.specs.Steps.{AreDictionaryParts, AreUses}
+use Rattle.enc_dict.specs.Spelling.{first_uses, place_in, place_width, dictionary_parts, spelling}
 use Rattle.enc_dict.proofs.FirstUses.{AreAmong, all_used, place_within, places_within, length-first_uses, texts_back}
 
 pub spelling-none : (values : List (List ℕ)) → length values ≡ 0 → spelling values ≡ leb (length values)
@@ -23,7 +23,7 @@ unfolding spelling
 spelling-none [] none = refl
 spelling-none (x ∷ xs) none = absurd (omega arith)
 
-pub spelling-some : (values : List (List ℕ)) → 0 < length values → spelling values ≡ leb (length values) ++ parts (first_uses values) (map (place_in (first_uses values)) values)
+pub spelling-some : (values : List (List ℕ)) → 0 < length values → spelling values ≡ leb (length values) ++ dictionary_parts (first_uses values) (map (place_in (first_uses values)) values)
 unfolding spelling
 spelling-some [] some = absurd (omega arith)
 spelling-some (x ∷ xs) some = refl
@@ -48,14 +48,14 @@ put_together out count texts places front = simp append_assoc
 -- what stands behind the number of values
 pub tail_of : List (List ℕ) → List ℕ
 tail_of [] = []
-tail_of (x ∷ xs) = parts (first_uses (x ∷ xs)) (map (place_in (first_uses (x ∷ xs))) (x ∷ xs))
+tail_of (x ∷ xs) = dictionary_parts (first_uses (x ∷ xs)) (map (place_in (first_uses (x ∷ xs))) (x ∷ xs))
 
 pub spelling-tail : (values : List (List ℕ)) → spelling values ≡ leb (length values) ++ tail_of values
 unfolding spelling tail_of
 spelling-tail [] = sym (append-nil (leb 0))
 spelling-tail (x ∷ xs) = refl
 
-tail-some : (values : List (List ℕ)) → 0 < length values → tail_of values ≡ parts (first_uses values) (map (place_in (first_uses values)) values)
+tail-some : (values : List (List ℕ)) → 0 < length values → tail_of values ≡ dictionary_parts (first_uses values) (map (place_in (first_uses values)) values)
 unfolding tail_of
 tail-some [] some = absurd (omega arith)
 tail-some (x ∷ xs) some = refl
@@ -73,7 +73,7 @@ nothing_behind values count bytes rest zero e has =
     same.1 ∙ ap tail_of none
 
 -- behind the number of values stand their parts
-pub parts_behind : (values : List (List ℕ)) (count : ℕ) (bytes rest : List ℕ) → 0 < count → bytes ≡ leb count ++ rest → bytes ≡ spelling values → rest ≡ parts (first_uses values) (map (place_in (first_uses values)) values)
+pub parts_behind : (values : List (List ℕ)) (count : ℕ) (bytes rest : List ℕ) → 0 < count → bytes ≡ leb count ++ rest → bytes ≡ spelling values → rest ≡ dictionary_parts (first_uses values) (map (place_in (first_uses values)) values)
 parts_behind values count bytes rest some e spelled =
     let same = leb_prefix_free count (length values) rest (tail_of values) (sym e ∙ spelled ∙ spelling-tail values) in
     same.1 ∙ tail-some values (omega (arith, same.0))
@@ -94,7 +94,7 @@ uses_are_texts xs h = All-from_recursion IsText (first_uses xs) (uses_by_recursi
 
 -- two pairs of texts and places with the same bytes are equal
 pub same_parts : (texts others : List (List ℕ)) (places other_places : List ℕ) → All IsText texts → All IsText others → length places ≡ length other_places
-    → All (λ place. place < 2 ^ place_width (length texts)) places → All (λ place. place < 2 ^ place_width (length others)) other_places → parts texts places ≡ parts others other_places → (texts ≡ others) × (places ≡ other_places)
+    → All (λ place. place < 2 ^ place_width (length texts)) places → All (λ place. place < 2 ^ place_width (length others)) other_places → dictionary_parts texts places ≡ dictionary_parts others other_places → (texts ≡ others) × (places ≡ other_places)
 same_parts texts others places other_places is_t is_o len fit_t fit_o e =
     let lengths = leb_prefix_free (length texts) (length others) (flat_map plain_text texts ++ pack_bytes (place_width (length texts)) places) (flat_map plain_text others ++ pack_bytes (place_width (length others)) other_places) e in
     let both = same_values plain_text IsText plain_text-prefix_free texts others (pack_bytes (place_width (length texts)) places) (pack_bytes (place_width (length others)) other_places) lengths.0 is_t is_o lengths.1 in
@@ -108,7 +108,7 @@ length-places : (values : List (List ℕ)) → length (map (place_in (first_uses
 length-places values = length-map values (place_in (first_uses values))
 
 -- a list's parts are the texts and places that were read, and at these places stand its values
-pub read_back : (values texts : List (List ℕ)) (places : List ℕ) (count : ℕ) (bytes rest : List ℕ) → 0 < count → bytes ≡ leb count ++ rest → rest ≡ parts texts places → length places ≡ count → All IsText texts → All (λ place. place < 2 ^ place_width (length texts)) places
+pub read_back : (values texts : List (List ℕ)) (places : List ℕ) (count : ℕ) (bytes rest : List ℕ) → 0 < count → bytes ≡ leb count ++ rest → rest ≡ dictionary_parts texts places → length places ≡ count → All IsText texts → All (λ place. place < 2 ^ place_width (length texts)) places
     → All IsText values → bytes ≡ spelling values → (texts ≡ first_uses values) × (places ≡ map (place_in (first_uses values)) values)
 read_back values texts places count bytes rest some e read len is_t fit is_v spelled =
     let mine = parts_behind values count bytes rest some e spelled in
@@ -121,17 +121,17 @@ pub values_back : (values texts : List (List ℕ)) (places : List ℕ) → (text
 values_back values texts places same = rw (same.0, same.1) (sym (texts_back values []))
 
 -- the texts and places that were read are those of a list with the bytes
-pub uses_back : (values texts : List (List ℕ)) (places : List ℕ) (count : ℕ) (bytes rest : List ℕ) → 0 < count → bytes ≡ leb count ++ rest → rest ≡ parts texts places → AreParts count texts places → IsSpelling spelling IsText bytes values → AreUses texts places values
+pub uses_back : (values texts : List (List ℕ)) (places : List ℕ) (count : ℕ) (bytes rest : List ℕ) → 0 < count → bytes ≡ leb count ++ rest → rest ≡ dictionary_parts texts places → AreDictionaryParts count texts places → IsSpelling spelling IsText bytes values → AreUses texts places values
 uses_back values texts places count bytes rest some e read are is =
     let same = read_back values texts places count bytes rest some e read are.size are.typed are.fit is.list.typed is.bytes_are in
     record { texts_are = sym same.0; places_are = sym same.1 }
 
 -- where no parts were read, no list is spelled
 pub no_parts : (values : List (List ℕ)) (count : ℕ) (bytes rest : List ℕ) → IsSpelling spelling IsText bytes values → 0 < count → bytes ≡ leb count ++ rest
-    → ((texts : List (List ℕ)) (places : List ℕ) → AreParts count texts places → rest ≡ parts texts places → ⊥) → ⊥
+    → ((texts : List (List ℕ)) (places : List ℕ) → AreDictionaryParts count texts places → rest ≡ dictionary_parts texts places → ⊥) → ⊥
 no_parts values count bytes rest is some e none =
     let number = count_is_length values count bytes rest e is.bytes_are in
-    let are : AreParts count (first_uses values) (map (place_in (first_uses values)) values) = record {
+    let are : AreDictionaryParts count (first_uses values) (map (place_in (first_uses values)) values) = record {
       few = omega (arith, number, length-first_uses values);
       size = length-places values ∙ number;
       typed = uses_are_texts values is.list.typed;
@@ -140,14 +140,14 @@ no_parts values count bytes rest is some e none =
     none (first_uses values) (map (place_in (first_uses values)) values) are (parts_behind values count bytes rest some e is.bytes_are)
 
 -- behind texts that were read stands what is packed
-pub packed_behind : (texts read : List (List ℕ)) (places : List ℕ) (different : ℕ) (bytes middle rest : List ℕ) → bytes ≡ leb different ++ middle → middle ≡ flat_map plain_text read ++ rest → length read ≡ different → All IsText read → All IsText texts → bytes ≡ parts texts places
+pub packed_behind : (texts read : List (List ℕ)) (places : List ℕ) (different : ℕ) (bytes middle rest : List ℕ) → bytes ≡ leb different ++ middle → middle ≡ flat_map plain_text read ++ rest → length read ≡ different → All IsText read → All IsText texts → bytes ≡ dictionary_parts texts places
     → rest ≡ pack_bytes (place_width (length texts)) places
 packed_behind texts read places different bytes middle rest e parted len is_r is_t whole =
     let front = leb_prefix_free different (length texts) middle (flat_map plain_text texts ++ pack_bytes (place_width (length texts)) places) (sym e ∙ whole) in
     (same_values plain_text IsText plain_text-prefix_free read texts rest (pack_bytes (place_width (length texts)) places) (len ∙ front.0) is_r is_t (sym parted ∙ front.1)).1
 
 -- behind the number of texts stand these
-pub texts_behind : (texts : List (List ℕ)) (places : List ℕ) (different : ℕ) (bytes middle : List ℕ) → bytes ≡ leb different ++ middle → bytes ≡ parts texts places
+pub texts_behind : (texts : List (List ℕ)) (places : List ℕ) (different : ℕ) (bytes middle : List ℕ) → bytes ≡ leb different ++ middle → bytes ≡ dictionary_parts texts places
     → (length texts ≡ different) × (middle ≡ flat_map plain_text texts ++ pack_bytes (place_width (length texts)) places)
 texts_behind texts places different bytes middle e whole =
     let front = leb_prefix_free different (length texts) middle (flat_map plain_text texts ++ pack_bytes (place_width (length texts)) places) (sym e ∙ whole) in
@@ -175,7 +175,7 @@ typed_by_recursion ks (u ∷ us) typed h =
     (subst IsText at.1 (typed (place_in ks u) [] at.0), typed_by_recursion ks us typed h.1)
 
 -- the list whose texts and places were read has the bytes
-pub is_spelling : (values texts : List (List ℕ)) (places : List ℕ) (count : ℕ) (bytes rest : List ℕ) → 0 < count → count ≤ 1000 → bytes ≡ leb count ++ rest → rest ≡ parts texts places → AreParts count texts places → AreUses texts places values
+pub is_spelling : (values texts : List (List ℕ)) (places : List ℕ) (count : ℕ) (bytes rest : List ℕ) → 0 < count → count ≤ 1000 → bytes ≡ leb count ++ rest → rest ≡ dictionary_parts texts places → AreDictionaryParts count texts places → AreUses texts places values
     → IsSpelling spelling IsText bytes values
 is_spelling values texts places count bytes rest some few e read are is =
     let number : length values ≡ count = sym (length-places values) ∙ ap length is.places_are ∙ are.size in
@@ -183,7 +183,7 @@ is_spelling values texts places count bytes rest some few e read are is =
     record {
       list = record { few = omega (arith, number, few); typed = All-from_recursion IsText values (typed_by_recursion (first_uses values) values typed (all_used values)) };
       bytes_are = e ∙ ap (λ (n : ℕ). leb n ++ rest) (sym number)
-          ∙ ap (λ (t : List ℕ). leb (length values) ++ t) (read ∙ ap (λ (ts : List (List ℕ)). parts ts places) (sym is.texts_are) ∙ ap (parts (first_uses values)) (sym is.places_are))
+          ∙ ap (λ (t : List ℕ). leb (length values) ++ t) (read ∙ ap (λ (ts : List (List ℕ)). dictionary_parts ts places) (sym is.texts_are) ∙ ap (dictionary_parts (first_uses values)) (sym is.places_are))
           ∙ sym (spelling-some values (omega (arith, number, some)));
     }
 

@@ -26,10 +26,11 @@ abbrev pub place_width : ℕ → ℕ
 place_width count = binary_digits (count - 1)
 
 -- what stands behind the number of values: the texts, and a place among them for each value
-abbrev pub parts : List (List ℕ) → List ℕ → List ℕ
-parts texts places = leb (length texts) ++ (flat_map plain_text texts ++ pack_bytes (place_width (length texts)) places)
+abbrev pub dictionary_parts : List (List ℕ) → List ℕ → List ℕ
+dictionary_parts texts places =
+    leb (length texts) ++ (flat_map plain_text texts ++ pack_bytes (place_width (length texts)) places)
 
 unfoldable pub spelling : List (List ℕ) → List ℕ
 spelling [] = leb 0
 spelling (text ∷ texts) = leb (length (text ∷ texts))
-    ++ parts (first_uses (text ∷ texts)) (map (place_in (first_uses (text ∷ texts))) (text ∷ texts))
+    ++ dictionary_parts (first_uses (text ∷ texts)) (map (place_in (first_uses (text ∷ texts))) (text ∷ texts))

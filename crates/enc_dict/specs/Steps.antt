@@ -8,10 +8,10 @@ use Rattle.std.specs.List.{list_any}
 use Rattle.std.specs.Ordering.{nat_cmp}
 use Rattle.std.specs.Str.{bytes_eq}
 use Rattle.tsdb_base.specs.Plain.{IsText}
-use Rattle.enc_dict.specs.Spelling.{first_uses, place_in, place_width, parts}
+use Rattle.enc_dict.specs.Spelling.{first_uses, place_in, place_width, dictionary_parts}
 
 -- at most so many texts, and so many places of the width
-pub record AreParts (count : ℕ) (texts : List (List ℕ)) (places : List ℕ) : Type 0 where
+pub record AreDictionaryParts (count : ℕ) (texts : List (List ℕ)) (places : List ℕ) : Type 0 where
   pub few : length texts ≤ count
   pub size : length places ≡ count
   pub typed : All IsText texts
@@ -24,8 +24,8 @@ pub record AreUses (texts : List (List ℕ)) (places : List ℕ) (values : List 
 
 -- the bytes are the parts of no list of so many values
 abbrev pub HaveNoParts : ℕ → List ℕ → Type 0
-HaveNoParts count bytes = (texts : List (List ℕ)) (places : List ℕ) → AreParts count texts places
-    → bytes ≡ parts texts places → ⊥
+HaveNoParts count bytes = (texts : List (List ℕ)) (places : List ℕ) → AreDictionaryParts count texts places
+    → bytes ≡ dictionary_parts texts places → ⊥
 
 -- the texts, and this one behind them where it is none of them
 abbrev pub with_text : List (List ℕ) → List ℕ → List (List ℕ)
@@ -41,7 +41,7 @@ pub record IsDictionary (texts : List (List ℕ)) (dictionary : BTreeMap (Bor (L
   pub places : (text : List ℕ) → get_by (λ key. slice_cmp nat_cmp text key.now) dictionary ≡ place_among texts text
 
 -- the text is one of the texts, at this place
-pub record IsPlaceOf (texts : List (List ℕ)) (text : List ℕ) (place : ℕ) : Type 0 where
+pub record IsTextPlace (texts : List (List ℕ)) (text : List ℕ) (place : ℕ) : Type 0 where
   pub among : list_any (bytes_eq text) texts ≡ true
   pub place_is : place ≡ place_in texts text
 

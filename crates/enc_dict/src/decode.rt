@@ -3,8 +3,8 @@ ghost use Rattle.std.specs.Prelude.{◌≡◌, ℕ, ◌^◌, ◌<◌, ◌≤◌,
 ghost use Rattle.tsdb_base.specs.Limits.{max_values};
 ghost use Rattle.tsdb_base.specs.Plain.{IsText};
 ghost use Rattle.tsdb_bits.specs.Lists.{HasNone, IsSpelling, IsOnly, SpellNone};
-ghost use Rattle.enc_dict.specs.Spelling.{parts, spelling};
-ghost use Rattle.enc_dict.specs.Steps.{AreParts, AreUses, HaveNoParts};
+ghost use Rattle.enc_dict.specs.Spelling.{dictionary_parts, spelling};
+ghost use Rattle.enc_dict.specs.Steps.{AreDictionaryParts, AreUses, HaveNoParts};
 
 use crate::encode::{lend, uses_of};
 use std::alloc::Global;
@@ -38,8 +38,8 @@ pub fn decode_text(alloc: Global, bytes: &[u8]) -> Result<Vec<Text>, DecodeFault
 /// The texts and places that the bytes are. It is `Bad` where they are none.
 fn parts_of(alloc: Global, count: u64, bytes: &[u8]) -> Result<Parts, DecodeFault>
     requires { count ≤ max_values }
-    ensures found { IfOk result (λ read. bytes.now ≡ parts read.texts.items read.places.items) }
-    ensures are { IfOk result (λ read. AreParts count read.texts.items read.places.items) }
+    ensures found { IfOk result (λ read. bytes.now ≡ dictionary_parts read.texts.items read.places.items) }
+    ensures are { IfOk result (λ read. AreDictionaryParts count read.texts.items read.places.items) }
     ensures bad { IsErrOf result DecodeFault.Bad → HaveNoParts count bytes.now }
 {
     let (different, rest) = take_number(bytes)?;

@@ -3,7 +3,7 @@
 //! are found in the map, so no list of texts costs a comparison of all pairs. It depends on `tsdb_base`.
 ghost use Rattle.std.specs.Prelude.{◌≡◌, ◌<◌, length, List, ℕ, IfOk, IfSome};
 ghost use Rattle.enc_dict.specs.Spelling.{lent};
-ghost use Rattle.enc_dict.specs.Steps.{Enters, IsDictionary, IsKnown, IsPlaceOf};
+ghost use Rattle.enc_dict.specs.Steps.{Enters, IsDictionary, IsKnown, IsTextPlace};
 
 use std::collections::BTreeMap;
 use tsdb_base::{Memory, Text};
@@ -60,7 +60,7 @@ pub fn place_of<'a>(
     dictionary: &mut BTreeMap<&'a Text, u64>,
 ) -> Result<(u64, bool), Memory>
     ensures { IfOk result (λ r. (texts : List (List ℕ)) →
-        IsDictionary texts dictionary.old → IfSome known (IsPlaceOf texts text.now) →
+        IsDictionary texts dictionary.old → IfSome known (IsTextPlace texts text.now) →
         Enters texts text.now r.0 r.1 dictionary.new) }
 {
     if let Some(place) = known {

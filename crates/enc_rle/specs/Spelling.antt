@@ -7,33 +7,33 @@ use Rattle.std.specs.List.{flat_map}
 use Rattle.tsdb_bits.specs.Leb.{leb}
 
 -- equal neighbours: how many, and what
-pub record Run : Type 0 where
+pub record ValueRun : Type 0 where
   pub count : ℕ
   pub code : ℕ
 
 -- one more value in front of runs: it joins the first one where that is its own
-abbrev pub before : ℕ → List Run → List Run
-before code [] = record { count = 1; code = code } ∷ []
-before code (run ∷ runs) = if code == run.code then record { count = run.count + 1; code = code } ∷ runs
+abbrev pub put_before : ℕ → List ValueRun → List ValueRun
+put_before code [] = record { count = 1; code = code } ∷ []
+put_before code (run ∷ runs) = if code == run.code then record { count = run.count + 1; code = code } ∷ runs
     else record { count = 1; code = code } ∷ run ∷ runs
 
 -- the runs of a list, each as long as it can be
-unfoldable pub runs_of : List ℕ → List Run
-runs_of [] = []
-runs_of (code ∷ codes) = before code (runs_of codes)
+unfoldable pub maximal_runs : List ℕ → List ValueRun
+maximal_runs [] = []
+maximal_runs (code ∷ codes) = put_before code (maximal_runs codes)
 
 -- the list that runs stand for
-unfoldable pub expand_runs : List Run → List ℕ
+unfoldable pub expand_runs : List ValueRun → List ℕ
 expand_runs [] = []
 expand_runs (run ∷ runs) = replicate run.count run.code ++ expand_runs runs
 
 -- a run's length and value
-abbrev pub run_bytes : Run → List ℕ
+abbrev pub run_bytes : ValueRun → List ℕ
 run_bytes run = leb run.count ++ leb run.code
 
 -- the bytes of a list of codes
 unfoldable pub codes_spelling : List ℕ → List ℕ
-codes_spelling codes = leb (length codes) ++ flat_map run_bytes (runs_of codes)
+codes_spelling codes = leb (length codes) ++ flat_map run_bytes (maximal_runs codes)
 
 -- the spelling of a list of values, where `code` gives the code of one
 abbrev pub spelling : {A : Type 0} → (A → ℕ) → List A → List ℕ
@@ -45,7 +45,7 @@ bool_code true = 1
 bool_code false = 0
 
 -- each run has a value, and neighbours differ
-abbrev pub IsJoined : List Run → Type 0
-IsJoined [] = Unit {0}
-IsJoined (run ∷ []) = 1 ≤ run.count
-IsJoined (run ∷ next ∷ runs) = (1 ≤ run.count) × (run.code ≡ next.code → ⊥) × IsJoined (next ∷ runs)
+abbrev pub AreMaximalRuns : List ValueRun → Type 0
+AreMaximalRuns [] = Unit {0}
+AreMaximalRuns (run ∷ []) = 1 ≤ run.count
+AreMaximalRuns (run ∷ next ∷ runs) = (1 ≤ run.count) × (run.code ≡ next.code → ⊥) × AreMaximalRuns (next ∷ runs)

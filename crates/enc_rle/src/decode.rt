@@ -6,7 +6,7 @@ ghost use Rattle.tsdb_base.specs.Plain.{BeginsWithNone};
 ghost use Rattle.tsdb_bits.specs.Zigzag.{zigzag};
 ghost use Rattle.tsdb_bits.specs.Lists.{IsSpelling, IsOnly, SpellNone};
 ghost use Rattle.enc_rle.specs.Spelling.{bool_code, run_bytes, spelling};
-ghost use Rattle.enc_rle.specs.Steps.{MayFollow};
+ghost use Rattle.enc_rle.specs.Steps.{MayFollowRun};
 
 use crate::coded::Coded;
 use std::alloc::Global;
@@ -76,9 +76,9 @@ fn next_run(
     last: u64,
 ) -> Result<(u64, u64, &[u8]), DecodeFault>
     ensures found { IfOk result (λ r. bytes.now ≡ run_bytes (record { count = r.0; code = r.1 }) ++ r.2.now) }
-    ensures follows { IfOk result (λ r. MayFollow room is_first last (record { count = r.0; code = r.1 })) }
+    ensures follows { IfOk result (λ r. MayFollowRun room is_first last (record { count = r.0; code = r.1 })) }
     ensures bad { OnErr result (result ≡ Err DecodeFault.Bad) }
-    ensures none { OnErr result (BeginsWithNone run_bytes (MayFollow room is_first last) bytes.now) }
+    ensures none { OnErr result (BeginsWithNone run_bytes (MayFollowRun room is_first last) bytes.now) }
 {
     let (count, rest) = take_number(bytes)?;
     let (code, rest) = take_number(rest)?;

@@ -4,13 +4,13 @@ ghost use Rattle.std.specs.Prelude.{◌≡◌, ℕ, ℤ, Bool, List, FitsSigned}
 ghost use Rattle.std.specs.Int.{w64};
 ghost use Rattle.tsdb_bits.specs.Zigzag.{zigzag};
 ghost use Rattle.tsdb_bits.specs.Lists.{IsShort};
-ghost use Rattle.enc_rle.specs.Spelling.{Run, runs_of, expand_runs, spelling, bool_code, IsJoined};
+ghost use Rattle.enc_rle.specs.Spelling.{ValueRun, maximal_runs, expand_runs, spelling, bool_code, AreMaximalRuns};
 
 /// The runs of a list expand to it, have at least one value each, and neighbours differ; no other runs do.
 pub fn runs_are_joined()
-    ensures expand { (codes : List ℕ) → expand_runs (runs_of codes) ≡ codes }
-    ensures neighbours { (codes : List ℕ) → IsJoined (runs_of codes) }
-    ensures only { (runs : List Run) → IsJoined runs → runs_of (expand_runs runs) ≡ runs }
+    ensures expand { (codes : List ℕ) → expand_runs (maximal_runs codes) ≡ codes }
+    ensures neighbours { (codes : List ℕ) → AreMaximalRuns (maximal_runs codes) }
+    ensures only { (runs : List ValueRun) → AreMaximalRuns runs → maximal_runs (expand_runs runs) ≡ runs }
 {}
 
 /// Two lists with the same bytes are equal.

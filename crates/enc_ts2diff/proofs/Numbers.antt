@@ -9,7 +9,7 @@ use Rattle.std.proofs.lemmas.List.Elements.{All-head, All-tail, All-nil, All-con
 use Rattle.tsdb_bits.specs.Zigzag.{zigzag}
 use Rattle.tsdb_bits.proofs.PackingLaws.{digits_of_number, digits_least}
 use Rattle.tsdb_bits.specs.Lists.{IsListOf}
-use Rattle.enc_ts2diff.specs.Spelling.{differences, least, offsets, width_of}
+use Rattle.enc_ts2diff.specs.Spelling.{differences, least, offsets, offset_width}
 use Rattle.enc_ts2diff.specs.Steps.{Continues}
 
 -- ---- the greatest of numbers
@@ -30,14 +30,14 @@ fold_max_below a b (x ∷ xs) lt h =
     fold_max_below (max a x) b xs (omega arith) (All-tail (λ (y : ℕ). y < b) x xs h)
 
 -- the width holds each of the numbers
-pub fits_width : (xs : List ℕ) → All (λ x. x < 2 ^ width_of xs) xs
+pub fits_width : (xs : List ℕ) → All (λ x. x < 2 ^ offset_width xs) xs
 fits_width xs =
     let d = (digits_of_number (fold max 0 xs)).below in
-    All-weaker (λ (x : ℕ). x ≤ fold max 0 xs) (λ (x : ℕ). x < 2 ^ width_of xs) (λ x le. omega (arith, d)) xs (fold_max_bounds 0 xs)
+    All-weaker (λ (x : ℕ). x ≤ fold max 0 xs) (λ (x : ℕ). x < 2 ^ offset_width xs) (λ x le. omega (arith, d)) xs (fold_max_bounds 0 xs)
 
-pub width_within : (xs : List ℕ) → All (λ x. x < 2 ^ 64) xs → width_of xs ≤ 64
+pub width_within : (xs : List ℕ) → All (λ x. x < 2 ^ 64) xs → offset_width xs ≤ 64
 width_within xs h =
-    digits_least (fold max 0 xs) (width_of xs) 64 (digits_of_number (fold max 0 xs)) (fold_max_below 0 (2 ^ 64) xs (omega arith) h)
+    digits_least (fold max 0 xs) (offset_width xs) 64 (digits_of_number (fold max 0 xs)) (fold_max_below 0 (2 ^ 64) xs (omega arith) h)
 
 -- ---- signed numbers
 

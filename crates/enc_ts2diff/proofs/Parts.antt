@@ -12,19 +12,19 @@ use Rattle.tsdb_bits.proofs.LebLaws.{leb_prefix_free}
 use Rattle.tsdb_bits.proofs.ZigzagLaws.{same_from_zigzag}
 use Rattle.tsdb_bits.proofs.PackingLaws.{same_from_packed}
 use Rattle.tsdb_bits.specs.Lists.{IsListOf}
-use Rattle.enc_ts2diff.specs.Spelling.{differences, least, offsets, width_of, at_width, block, content, spelling}
+use Rattle.enc_ts2diff.specs.Spelling.{differences, least, offsets, offset_width, at_width, block, values_content, spelling}
 use Rattle.enc_ts2diff.specs.Steps.{IsBlockOf, Continues}
 use Rattle.enc_ts2diff.proofs.Numbers.{fits_width, width_within, least_of_fits, least_bounds, length-differences, offsets-lt, same_values}
 
 -- ---- the whole
 
 -- the number of values, and what stands behind it
-pub spelling_parts : (xs : List ℤ) (bytes rest : List ℕ) (n : ℕ) → spelling xs ≡ bytes → bytes ≡ leb n ++ rest → (length xs ≡ n) × (content xs ≡ rest)
+pub spelling_parts : (xs : List ℤ) (bytes rest : List ℕ) (n : ℕ) → spelling xs ≡ bytes → bytes ≡ leb n ++ rest → (length xs ≡ n) × (values_content xs ≡ rest)
 unfolding spelling
-spelling_parts xs bytes rest n e f = leb_prefix_free (length xs) n (content xs) rest (e ∙ f)
+spelling_parts xs bytes rest n e f = leb_prefix_free (length xs) n (values_content xs) rest (e ∙ f)
 
-pub content_parts : (x : ℤ) (xs : List ℤ) (bytes rest : List ℕ) (n : ℕ) → content (x ∷ xs) ≡ bytes → bytes ≡ leb n ++ rest → (zigzag x ≡ n) × (block (differences x xs) ≡ rest)
-unfolding content
+pub content_parts : (x : ℤ) (xs : List ℤ) (bytes rest : List ℕ) (n : ℕ) → values_content (x ∷ xs) ≡ bytes → bytes ≡ leb n ++ rest → (zigzag x ≡ n) × (block (differences x xs) ≡ rest)
+unfolding values_content
 content_parts x xs bytes rest n e f = leb_prefix_free (zigzag x) n (block (differences x xs)) rest (e ∙ f)
 
 pub block_parts : (d : ℤ) (ds : List ℤ) (bytes rest : List ℕ) (n : ℕ) → block (d ∷ ds) ≡ bytes → bytes ≡ leb n ++ rest → (zigzag (least d ds) ≡ n) × (at_width (offsets (least d ds) (d ∷ ds)) ≡ rest)
@@ -34,8 +34,8 @@ block_parts d ds bytes rest n e f = leb_prefix_free (zigzag (least d ds)) n (at_
 -- the numbers behind a width are a packing at it
 pub numbers_packed : (above : List ℕ) (digits : ℕ) (rest : List ℕ) → at_width above ≡ digits ∷ rest → IsPacking digits (length above) rest above
 numbers_packed above digits rest e =
-    let w : width_of above ≡ digits = cc in
-    let r : pack_bytes (width_of above) above ≡ rest = cc in
+    let w : offset_width above ≡ digits = cc in
+    let r : pack_bytes (offset_width above) above ≡ rest = cc in
     record {
       size = refl;
       below = subst (λ (t : ℕ). All (λ x. x < 2 ^ t) above) w (fits_width above);
@@ -44,7 +44,7 @@ numbers_packed above digits rest e =
 
 pub digits_within_64 : (d : ℤ) (ds : List ℤ) (digits : ℕ) (rest : List ℕ) → All (FitsSigned w64) (d ∷ ds) → at_width (offsets (least d ds) (d ∷ ds)) ≡ digits ∷ rest → digits ≤ 64
 digits_within_64 d ds digits rest h e =
-    let w : width_of (offsets (least d ds) (d ∷ ds)) ≡ digits = cc in
+    let w : offset_width (offsets (least d ds) (d ∷ ds)) ≡ digits = cc in
     subst (λ (t : ℕ). t ≤ 64) w (width_within (offsets (least d ds) (d ∷ ds)) (offsets-lt (least d ds) (d ∷ ds) (least_of_fits d ds h) h))
 
 -- one packing, one list
@@ -74,19 +74,19 @@ same_block (d ∷ ds) (f ∷ fs) l e =
     let b : least d ds ≡ least f fs = same_from_zigzag (least d ds) (least f fs) p.0 in
     let os = offsets (least d ds) (d ∷ ds) in
     let ps = offsets (least f fs) (f ∷ fs) in
-    let j = numbers_packed os (width_of ps) (pack_bytes (width_of ps) ps) p.1 in
-    let k = numbers_packed ps (width_of ps) (pack_bytes (width_of ps) ps) refl in
+    let j = numbers_packed os (offset_width ps) (pack_bytes (offset_width ps) ps) p.1 in
+    let k = numbers_packed ps (offset_width ps) (pack_bytes (offset_width ps) ps) refl in
     let n : length ps ≡ length os = omega (arith, length-map (f ∷ fs) (λ t. unsigned_abs (t -ℤ least f fs)), length-map (d ∷ ds) (λ t. unsigned_abs (t -ℤ least d ds))) in
-    let s : os ≡ ps = same_packing (width_of ps) (length os) (pack_bytes (width_of ps) ps) os ps j (subst (λ (t : ℕ). IsPacking (width_of ps) t (pack_bytes (width_of ps) ps) ps) n k) in
+    let s : os ≡ ps = same_packing (offset_width ps) (length os) (pack_bytes (offset_width ps) ps) os ps j (subst (λ (t : ℕ). IsPacking (offset_width ps) t (pack_bytes (offset_width ps) ps) ps) n k) in
     (least d ds, os, (refl, refl), (b, s ∙ ap (λ (t : ℤ). offsets t (f ∷ fs)) (sym b)))
 
 pub same_from_spelling : (xs ys : List ℤ) → IsListOf (FitsSigned w64) xs → IsListOf (FitsSigned w64) ys → spelling xs ≡ spelling ys → xs ≡ ys
-unfolding spelling content
+unfolding spelling values_content
 same_from_spelling [] [] p q e = refl
-same_from_spelling [] (y ∷ ys) p q e = let k = leb_prefix_free 0 (length (y ∷ ys)) [] (content (y ∷ ys)) e in absurd (omega (arith, k.0))
-same_from_spelling (x ∷ xs) [] p q e = let k = leb_prefix_free (length (x ∷ xs)) 0 (content (x ∷ xs)) [] e in absurd (omega (arith, k.0))
+same_from_spelling [] (y ∷ ys) p q e = let k = leb_prefix_free 0 (length (y ∷ ys)) [] (values_content (y ∷ ys)) e in absurd (omega (arith, k.0))
+same_from_spelling (x ∷ xs) [] p q e = let k = leb_prefix_free (length (x ∷ xs)) 0 (values_content (x ∷ xs)) [] e in absurd (omega (arith, k.0))
 same_from_spelling (x ∷ xs) (y ∷ ys) p q e =
-    let k = leb_prefix_free (length (x ∷ xs)) (length (y ∷ ys)) (content (x ∷ xs)) (content (y ∷ ys)) e in
+    let k = leb_prefix_free (length (x ∷ xs)) (length (y ∷ ys)) (values_content (x ∷ xs)) (values_content (y ∷ ys)) e in
     let t = leb_prefix_free (zigzag x) (zigzag y) (block (differences x xs)) (block (differences y ys)) k.1 in
     let first : x ≡ y = same_from_zigzag x y t.0 in
     let len : length (differences x xs) ≡ length (differences y ys) = omega (arith, k.0, length-differences x xs, length-differences y ys) in

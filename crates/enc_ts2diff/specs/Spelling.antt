@@ -21,12 +21,12 @@ abbrev pub offsets : ℤ → List ℤ → List ℕ
 offsets base ds = map (λ d. unsigned_abs (d -ℤ base)) ds
 
 -- the binary digits of the greatest of numbers
-abbrev pub width_of : List ℕ → ℕ
-width_of numbers = binary_digits (fold max 0 numbers)
+abbrev pub offset_width : List ℕ → ℕ
+offset_width numbers = binary_digits (fold max 0 numbers)
 
 -- numbers behind their width
 abbrev pub at_width : List ℕ → List ℕ
-at_width numbers = width_of numbers ∷ pack_bytes (width_of numbers) numbers
+at_width numbers = offset_width numbers ∷ pack_bytes (offset_width numbers) numbers
 
 -- the least difference and the offsets; nothing where there is no difference
 unfoldable pub block : List ℤ → List ℕ
@@ -34,10 +34,10 @@ block [] = []
 block (d ∷ ds) = leb (zigzag (least d ds)) ++ at_width (offsets (least d ds) (d ∷ ds))
 
 -- what stands behind the number of values
-unfoldable pub content : List ℤ → List ℕ
-content [] = []
-content (value ∷ values) = leb (zigzag value) ++ block (differences value values)
+unfoldable pub values_content : List ℤ → List ℕ
+values_content [] = []
+values_content (value ∷ values) = leb (zigzag value) ++ block (differences value values)
 
 -- the spelling of a list
 unfoldable pub spelling : List ℤ → List ℕ
-spelling values = leb (length values) ++ content values
+spelling values = leb (length values) ++ values_content values

@@ -4,7 +4,7 @@ use Rattle.std.specs.Prelude.{All, FitsSigned}
 use Rattle.std.specs.Global.{Global}
 use Rattle.std.specs.Int.{w64}
 use Rattle.tsdb_bits.specs.Lists.{IsListOf}
-use Rattle.enc_ts2diff.specs.Spelling.{differences, least, offsets, width_of, block, spelling}
+use Rattle.enc_ts2diff.specs.Spelling.{differences, least, offsets, offset_width, block, spelling}
 use Rattle.tsdb_base.specs.declared.fault.DecodeFault.{DecodeFault}
 use Rattle.tsdb_base.specs.declared.fault.DecodeFault.TheVariants as fault
 
@@ -43,25 +43,25 @@ pub record Continues (base previous : ℤ) (above : List ℕ) (values : List ℤ
   pub differ : above ≡ offsets base (differences previous values)
 
 -- the differences that are so much above the least one
-abbrev pub steps_of : ℤ → List ℕ → List ℤ
-steps_of base above = map (λ offset. base +ℤ pos offset) above
+abbrev pub offsets_above : ℤ → List ℕ → List ℤ
+offsets_above base above = map (λ offset. base +ℤ pos offset) above
 
 -- the least of the offsets is 0, and the greatest has so many binary digits
 abbrev pub AreOffsets : List ℕ → ℕ → Type 0
 AreOffsets [] digits = ⊥
-AreOffsets (offset ∷ more) digits = (fold min offset more ≡ 0) × (width_of (offset ∷ more) ≡ digits)
+AreOffsets (offset ∷ more) digits = (fold min offset more ≡ 0) × (offset_width (offset ∷ more) ≡ digits)
 
 -- the last of the values behind a first one
-unfoldable pub last_of : ℤ → List ℤ → ℤ
-last_of first [] = first
-last_of first (value ∷ values) = last_of value values
+unfoldable pub last_value_of : ℤ → List ℤ → ℤ
+last_value_of first [] = first
+last_value_of first (value ∷ values) = last_value_of value values
 
 -- the values are the first one and those with these differences; the last of them is the previous one
 pub record Restores (base first previous : ℤ) (above : List ℕ) (values : List ℤ) : Type 0 where
   pub rest : List ℤ
   pub whole : values ≡ first ∷ rest
-  pub steps : differences first rest ≡ steps_of base above
-  pub last : last_of first rest ≡ previous
+  pub steps : differences first rest ≡ offsets_above base above
+  pub last : last_value_of first rest ≡ previous
   pub fits : All (FitsSigned w64) values
 
 -- where values go on from the first one, the result is this list, unless memory ran out

@@ -6,9 +6,9 @@ ghost use Rattle.std.specs.Int.{w32, w64};
 ghost use Rattle.tsdb_base.specs.Limits.{max_values};
 ghost use Rattle.tsdb_bits.specs.Lists.{IsListOf, IsSpelling, IsOnly, SpellNone};
 ghost use Rattle.enc_ts2diff.specs.Spelling.{block, spelling};
-ghost use Rattle.enc_ts2diff.specs.Steps.{FindsList, FindsBlockOf, FindsRest, Restores, AreOffsets, steps_of};
+ghost use Rattle.enc_ts2diff.specs.Steps.{FindsList, FindsBlockOf, FindsRest, Restores, AreOffsets, offsets_above};
 
-use crate::encode::greatest_of;
+use crate::encode::greatest_or_zero;
 use std::alloc::Global;
 use tsdb_base::DecodeFault;
 use tsdb_bits::{take_count, take_number, take_packed, unzigzag, width};
@@ -63,7 +63,7 @@ fn block_in(alloc: Global, count: u64, bytes: &[u8]) -> Result<(i64, Vec<u64>), 
     requires { count ≤ max_values }
     ensures size { IfOk result (λ r. length r.1.items ≡ count) }
     ensures fits { IfOk result (λ r. FitsSigned w64 r.0) }
-    ensures found { IfOk result (λ r. bytes.now ≡ block (steps_of r.0 r.1.items)) }
+    ensures found { IfOk result (λ r. bytes.now ≡ block (offsets_above r.0 r.1.items)) }
     ensures finds { FindsBlockOf count bytes.now result }
 {
     if count == 0 {
@@ -93,7 +93,7 @@ fn are_offsets(numbers: &[u64], digits: u8) -> bool
     let [first, rest @ ..] = numbers else {
         return false;
     };
-    lowest_of(*first, rest) == 0 && width(greatest_of(numbers)) == digits
+    lowest_of(*first, rest) == 0 && width(greatest_or_zero(numbers)) == digits
 }
 
 fn lowest_of(first: u64, rest: &[u64]) -> u64

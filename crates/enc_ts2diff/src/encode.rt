@@ -73,7 +73,7 @@ fn put_block(alloc: Global, steps: &[i64], into: &mut Vec<u8>) -> Result<(), Mem
     };
     let base = least_of(*first, rest);
     let above = offsets_of(alloc, base, steps)?;
-    let digits = width(greatest_of(&above));
+    let digits = width(greatest_or_zero(&above));
     put_leb(zigzag(base), into)?;
     into.push(digits)?;
     pack(&above, digits, into)?;
@@ -101,7 +101,7 @@ fn offsets_of(alloc: Global, base: i64, steps: &[i64]) -> Result<Vec<u64>, Memor
 }
 
 /// The greatest of the numbers, or 0.
-pub fn greatest_of(numbers: &[u64]) -> u64
+pub fn greatest_or_zero(numbers: &[u64]) -> u64
     ensures { result ≡ fold max 0 numbers.now }
 {
     let mut greatest: u64 = 0;

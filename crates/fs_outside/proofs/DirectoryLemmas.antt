@@ -9,7 +9,7 @@ use Rattle.tsdb_base.specs.Causes.{Rose}
 use Rattle.tsdb_outside.specs.Causes.{HasCause}
 use Rattle.std.specs.Option.{IsSomeAnd}
 use Rattle.std.specs.declared.option.Option.{Option}
-use Rattle.fs_outside.specs.Directory.{DirectoryFile, with_bytes, with_synced_bytes, with_synced_name, numbers_in}
+use Rattle.fs_outside.specs.Directory.{DirectoryFile, with_bytes, with_synced_bytes, with_synced_name, directory_numbers}
 use Rattle.fs_outside.specs.Directory.{IsFree, IsFreeIn, change_one, add_new, without, put_durable, Becomes, Fills}
 use Rattle.fs_outside.specs.Directory.{SameBut, IsTakenAway, StaysTaken, RoseTwice, HasBytesOf, HasLengthOf}
 
@@ -38,8 +38,8 @@ steps_at_end : (n : ℕ) (bytes : List ℕ) (files : List DirectoryFile) → IsF
 steps_at_end n bytes [] free = rw (same_number n) (rw (same_number n) refl)
 steps_at_end n bytes (file ∷ files) free =
     let apart : nat_eq file.number n ≡ false = other_number file.number n
-    (λ e. free (subst (λ (m : ℕ). Contains (numbers_in (file ∷ files)) m) e (Contains-head file.number (numbers_in files)))) in
-    let rest = steps_at_end n bytes files (λ h. free (Contains-tail file.number n (numbers_in files) h)) in
+    (λ e. free (subst (λ (m : ℕ). Contains (directory_numbers (file ∷ files)) m) e (Contains-head file.number (directory_numbers files)))) in
+    let rest = steps_at_end n bytes files (λ h. free (Contains-tail file.number n (directory_numbers files) h)) in
     rw apart (rw apart (ap (λ (l : List DirectoryFile). with_synced_name file ∷ l) rest))
 
 -- a new file that is filled stands durable behind the others
@@ -93,7 +93,7 @@ free_without n (x ∷ xs) =
     let rest = free_without n xs in
     elim (nat_eq x.number n) as (λ b. nat_eq x.number n ≡ b → IsFree n (without n (x ∷ xs))) [
       | true ↦ λ e. rw e rest
-      | false ↦ λ e. rw e (λ h. ⊎_elim (apart_of x.number n e) rest (Contains-cases x.number n (numbers_in (without n xs)) h))
+      | false ↦ λ e. rw e (λ h. ⊎_elim (apart_of x.number n e) rest (Contains-cases x.number n (directory_numbers (without n xs)) h))
     ] refl
 
 pub same_but_same : (n : ℕ) (a : Option (List DirectoryFile)) → SameBut n a a
@@ -184,9 +184,9 @@ away_after_removal (Err e) n before made filled now a b c then later rose cause 
 
 -- a list of numbers that are those of the files and of what else is there
 pub list_is_exact : (told : Option (List DirectoryFile)) (others list numbers : List ℕ)
-    → IfSome told (λ files. (n : ℕ) → IsFileNumber n → (Contains numbers n ↔ (Contains (numbers_in files) n ⊎ Contains others n)))
+    → IfSome told (λ files. (n : ℕ) → IsFileNumber n → (Contains numbers n ↔ (Contains (directory_numbers files) n ⊎ Contains others n)))
     → ((n : ℕ) → IsFileNumber n → (Contains list n ↔ Contains numbers n))
-    → IfSome told (λ files. (n : ℕ) → IsFileNumber n → (Contains list n ↔ (Contains (numbers_in files) n ⊎ Contains others n)))
+    → IfSome told (λ files. (n : ℕ) → IsFileNumber n → (Contains list n ↔ (Contains (directory_numbers files) n ⊎ Contains others n)))
 list_is_exact None others list numbers there same = tt
 list_is_exact (Some files) others list numbers there same = λ n fits.
     (λ h. (there n fits).0 ((same n fits).0 h), λ h. (same n fits).1 ((there n fits).1 h))

@@ -11,7 +11,7 @@ use Rattle.tsdb_outside.specs.declared.disk.Slot.TheVariants.{A, B}
 use Rattle.fs_outside.specs.Directory.{Becomes}
 use Rattle.fs_outside.specs.SlotDirectory.{DirectoryImage, DirectoryView, DirectoryState, AreNamesDurable, ElapsesBy, HasNames}
 use Rattle.fs_outside.specs.SlotDirectory.{HasSlots, IsLawfulDirectory, IsLeft, IsOneZero, IsRenamed, IsUnfinished, KeepsDirectory}
-use Rattle.fs_outside.specs.SlotDirectory.{MayRename, StaysDurable, new_store, silent_directory, slot_in, with_own_name, with_slot_file}
+use Rattle.fs_outside.specs.SlotDirectory.{MayRename, StaysDurable, new_directory, silent_directory, slot_in, with_own_name, with_slot_file}
 use Rattle.fs_outside.specs.SlotDirectory.{with_locked_slots, with_synced_slot, with_unfinished}
 use Rattle.fs_outside.specs.Opening.{AreSlotsLocked, HasLostSlot, HasNewSlot, HasOwnName, IsDurableAs, IsMadeNew, IsNewOrUnfinished, KeepsStore}
 use Rattle.fs_outside.specs.Opening.{LeavesUnfinished, MakesStore, with_new_slot}
@@ -340,9 +340,9 @@ store_making a b c d laws named second makes durable making =
     let elapses : ElapsesBy (HasNewSlot A c.may_leave) c d =
     subst (λ (o : Option DirectoryView). IfSome o (λ _. ElapsesBy (HasNewSlot A c.may_leave) c d)) k.0 making in
     let before : ElapsesBy IsNewOrUnfinished a c = k.1 unfinished in
-    let new : (image : DirectoryImage) → HasNewSlot A c.may_leave image → image ≡ new_store = λ image slot.
+    let new : (image : DirectoryImage) → HasNewSlot A c.may_leave image → image ≡ new_directory = λ image slot.
     let is : HasNames (with_new_slot B (with_own_name view)) slot.before = names slot.before slot.left in
-    slot.made ∙ same_image (with_slot_file A (0 ∷ []) slot.before) new_store refl
+    slot.made ∙ same_image (with_slot_file A (0 ∷ []) slot.before) new_directory refl
     (left_is_seen (Some (0 ∷ [])) slot.before.b is.b) (is.files ∙ (unfinished view.image stays).files) in
     record {
       keeps = λ image left. elapses.keeps image (before.keeps image left);
@@ -361,8 +361,8 @@ store_made (Ok x) a b c d named second first =
     becomes_twice (λ view. with_new_slot B (with_own_name view)) (with_new_slot A) a.seen c.seen d.seen told first in
     IfSome_then a.seen all (λ view is unfinished.
     let made = with_new_slot A (with_new_slot B (with_own_name view)) in
-    subst (λ (o : Option DirectoryView). IsSomeAnd o (λ v. (v.image ≡ new_store) × IsTrue v.is_named)) (sym is)
-    (same_image made.image new_store refl refl unfinished.files, refl))
+    subst (λ (o : Option DirectoryView). IsSomeAnd o (λ v. (v.image ≡ new_directory) × IsTrue v.is_named)) (sym is)
+    (same_image made.image new_directory refl refl unfinished.files, refl))
 
 -- Both slots are opened.
 pub both_there : (a b : DirectoryState) → b.seen ≡ a.seen → IfSome a.seen (λ view. slot_in A view.image ≢ None)
@@ -384,12 +384,12 @@ second_not_opened a b first mid last same later (inr none) =
 
 -- The store is finished, both slots are opened, and all is made durable.
 abbrev IsFinished : Option DirectoryView → Option DirectoryView → Type 0
-IsFinished before now = IfSome before (λ view. (IsUnfinished view.image × IsSomeAnd now (λ v. (v.image ≡ new_store) × IsTrue v.is_named))
+IsFinished before now = IfSome before (λ view. (IsUnfinished view.image × IsSomeAnd now (λ v. (v.image ≡ new_directory) × IsTrue v.is_named))
     ⊎ (view.image.a ≢ None × (now ≡ before)))
 
 opened_new : (b c : Option DirectoryView) (d : DirectoryState) → c ≡ b
-    → IsSomeAnd b (λ v. (v.image ≡ new_store) × IsTrue v.is_named) → IfSome c (λ v. IsDurableAs v.image d)
-    → (IsSomeAnd c (λ v. IsTrue v.is_named) → HasOwnName d) → IsDurableAs new_store d × HasOwnName d
+    → IsSomeAnd b (λ v. (v.image ≡ new_directory) × IsTrue v.is_named) → IfSome c (λ v. IsDurableAs v.image d)
+    → (IsSomeAnd c (λ v. IsTrue v.is_named) → HasOwnName d) → IsDurableAs new_directory d × HasOwnName d
 opened_new None c d same made durable named = absurd made
 opened_new (Some v) c d same made durable named =
     let here : IsDurableAs v.image d = subst (λ (o : Option DirectoryView). IfSome o (λ w. IsDurableAs w.image d)) same durable in
@@ -400,7 +400,7 @@ opened_new (Some v) c d same made durable named =
 pub opens_store : (before b c : Option DirectoryView) (d : DirectoryState) → IsFinished before b → c ≡ b
     → IfSome b (λ view. HasSlots view.image) → IfSome c (λ view. IsDurableAs view.image d)
     → (IsSomeAnd c (λ view. IsTrue view.is_named) → HasOwnName d)
-    → IfSome before (λ view. (IsUnfinished view.image × IsDurableAs new_store d × HasOwnName d)
+    → IfSome before (λ view. (IsUnfinished view.image × IsDurableAs new_directory d × HasOwnName d)
     ⊎ (HasSlots view.image × IsDurableAs view.image d))
 opens_store None b c d finished same slots durable named = tt
 opens_store (Some view) b c d (inl new) same slots durable named =
@@ -412,7 +412,7 @@ opens_store (Some view) b c d (inr old) same slots durable named = inr (
 )
 
 -- a directory that tells goes on to tell
-locked_of_told : (b : Option DirectoryView) (d : DirectoryState) → IsSomeAnd b (λ v. (v.image ≡ new_store) × IsTrue v.is_named)
+locked_of_told : (b : Option DirectoryView) (d : DirectoryState) → IsSomeAnd b (λ v. (v.image ≡ new_directory) × IsTrue v.is_named)
     → IfSome b (λ view. AreSlotsLocked d) → AreSlotsLocked d
 locked_of_told None d told locked = absurd told
 locked_of_told (Some v) d told locked = locked
@@ -425,7 +425,7 @@ locked_opened (Some view) b c d (inl new) same locked =
 locked_opened (Some view) b c d (inr old) same locked =
     subst (λ (o : Option DirectoryView). IfSome o (λ v. AreSlotsLocked d)) (same ∙ old.1) locked
 
-new_has_slots : (b : Option DirectoryView) → IsSomeAnd b (λ v. (v.image ≡ new_store) × IsTrue v.is_named)
+new_has_slots : (b : Option DirectoryView) → IsSomeAnd b (λ v. (v.image ≡ new_directory) × IsTrue v.is_named)
     → IfSome b (λ view. ¬ HasSlots view.image) → ⊥
 new_has_slots None made gone = made
 new_has_slots (Some v) made gone = gone (subst (λ (i : DirectoryImage). HasSlots i) (sym made.0)

@@ -15,8 +15,8 @@ pub record DirectoryFile : Type 0 where
   pub is_named : Bool
 
 -- an empty file that was just created
-abbrev pub new_file : ℕ → DirectoryFile
-new_file n = record { number = n; bytes = []; is_synced = false; is_named = false }
+abbrev pub created_file : ℕ → DirectoryFile
+created_file n = record { number = n; bytes = []; is_synced = false; is_named = false }
 
 -- a file of which a stop leaves name and bytes
 abbrev pub durable_file : ℕ → List ℕ → DirectoryFile
@@ -32,12 +32,12 @@ abbrev pub with_synced_name : DirectoryFile → DirectoryFile
 with_synced_name file = record file { is_named = true }
 
 -- the numbers of the files
-abbrev pub numbers_in : List DirectoryFile → List ℕ
-numbers_in files = map (λ (file : DirectoryFile). file.number) files
+abbrev pub directory_numbers : List DirectoryFile → List ℕ
+directory_numbers files = map (λ (file : DirectoryFile). file.number) files
 
 -- no file has this number
 abbrev pub IsFree : ℕ → List DirectoryFile → Type 0
-IsFree n files = ¬ Contains (numbers_in files) n
+IsFree n files = ¬ Contains (directory_numbers files) n
 
 -- where it tells, no file has this number, or one has it
 abbrev pub IsFreeIn : ℕ → Option (List DirectoryFile) → Type 0
@@ -52,7 +52,7 @@ change_one n f files = map (λ (file : DirectoryFile). if nat_eq file.number n t
 
 -- a new file stands behind the others
 abbrev pub add_new : ℕ → List DirectoryFile → List DirectoryFile
-add_new n files = files ++ new_file n ∷ []
+add_new n files = files ++ created_file n ∷ []
 
 -- all names are durable, and the file with these bytes stands behind the others, durable too
 abbrev pub put_durable : ℕ → List ℕ → List DirectoryFile → List DirectoryFile

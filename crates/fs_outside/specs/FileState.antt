@@ -3,7 +3,7 @@ use Rattle.std.specs.Prelude.{◌≡◌, ℕ, ◌+◌, ◌-◌, ◌^◌, ◌≤�
 use Rattle.std.specs.declared.option.Option.{Option}
 use Rattle.std.specs.Option.{ForSome}
 use Rattle.tsdb_base.specs.Causes.{Rose}
-use Rattle.tsdb_outside.specs.Disk.{NothingNew, Follows, Torn, WhereTold, overwrite}
+use Rattle.tsdb_outside.specs.Disk.{NothingNew, FollowsStep, Torn, WhereTold, overwrite}
 
 pub record FileState : Type 1 where
   -- what a read of all of it gives, or none where it does not tell
@@ -43,7 +43,7 @@ OverwritesFile at bytes old new =
 -- what a write of n bytes may do, whether it succeeds or fails
 pub record MayWriteFile (at n : ℕ) (old new : FileState) : Type 0 where
   pub torn : WhereTold (λ before after. at ≤ length before → Torn at n before after) old.seen new.seen
-  pub crash : ForSome old.seen (λ bytes. at ≤ length bytes) → Follows (Torn at n) old.may_leave new.may_leave
+  pub crash : ForSome old.seen (λ bytes. at ≤ length bytes) → FollowsStep (Torn at n) old.may_leave new.may_leave
 
 -- whatever a stop leaves is what reads gave
 abbrev pub IsFileDurable : FileState → FileState → Type 0

@@ -8,21 +8,21 @@ use Rattle.fs_outside.specs.declared.journal.FsJournal.{FsJournal}
 use Rattle.fs_outside.specs.FileState.{FileState, FileFails}
 
 -- one slot of the journal
-abbrev pub slot_of : {F G : Type 0} → Slot → FsJournal F G → FileSlot F
-slot_of A j = j.a
-slot_of B j = j.b
+abbrev pub journal_slot : {F G : Type 0} → Slot → FsJournal F G → FileSlot F
+journal_slot A j = j.a
+journal_slot B j = j.b
 
 -- the file of a slot
-abbrev pub file_of : {F G : Type 0} → Slot → FsJournal F G → F
-file_of slot j = (slot_of slot j).file
+abbrev pub file_of_slot : {F G : Type 0} → Slot → FsJournal F G → F
+file_of_slot slot j = (journal_slot slot j).file
 
 -- what the file of a slot means
 abbrev pub file_state : {F G : Type 0} → (F → FileState) → Slot → FsJournal F G → FileState
-file_state state slot j = state (slot_of slot j).file
+file_state state slot j = state (journal_slot slot j).file
 
 -- a sync of the slot has failed
 abbrev pub sync_failed : {F G : Type 0} → Slot → FsJournal F G → Bool
-sync_failed slot j = (slot_of slot j).sync_failed
+sync_failed slot j = (journal_slot slot j).sync_failed
 
 -- the other slot is as it was
 abbrev pub SameElsewhere : {F G : Type 0} → Slot → FsJournal F G → FsJournal F G → Type 0

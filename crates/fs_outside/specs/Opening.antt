@@ -3,7 +3,7 @@ use Rattle.std.specs.Prelude.{◌≡◌, ◌⊎◌, ◌≢◌, None, true, [], �
 use Rattle.std.specs.Option.{IsSomeAnd}
 use Rattle.tsdb_outside.specs.declared.disk.Slot.{Slot}
 use Rattle.fs_outside.specs.SlotDirectory.{DirectoryImage, DirectoryView, DirectoryState, IsUnfinished, HasSlots}
-use Rattle.fs_outside.specs.SlotDirectory.{ElapsesBy, StaysDurable, new_store, with_slot_file, with_unfinished}
+use Rattle.fs_outside.specs.SlotDirectory.{ElapsesBy, StaysDurable, new_directory, with_slot_file, with_unfinished}
 use Rattle.fs_outside.specs.SlotDirectory.{with_renamed}
 
 -- a slot of one byte 0 was made, and its bytes are durable
@@ -22,7 +22,7 @@ LeavesUnfinished directory = (image : DirectoryImage) → directory.may_leave im
 
 -- a store that is opened as a new one: it is not finished, or it is one
 abbrev pub IsNewOrUnfinished : DirectoryImage → Type 0
-IsNewOrUnfinished image = IsUnfinished image ⊎ image ≡ new_store
+IsNewOrUnfinished image = IsUnfinished image ⊎ image ≡ new_directory
 
 -- At each moment of a making a stop leaves what is opened as a new store, where it did before.
 abbrev pub MakesStore : DirectoryState → DirectoryState → Type 0
@@ -38,7 +38,7 @@ AreSlotsLocked directory = IsSomeAnd directory.seen (λ view. IsTrue view.is_loc
 
 -- a new store was made, and a stop leaves its directory
 abbrev pub IsMadeNew : DirectoryState → Type 0
-IsMadeNew directory = IsSomeAnd directory.seen (λ view. view.image ≡ new_store × IsTrue view.is_named)
+IsMadeNew directory = IsSomeAnd directory.seen (λ view. view.image ≡ new_directory × IsTrue view.is_named)
 
 -- the calls see this, and a stop leaves nothing else
 abbrev pub IsDurableAs : DirectoryImage → DirectoryState → Type 0
@@ -53,7 +53,7 @@ KeepsStore old new = IfSome old.seen (λ view. view.image.a ≢ None → StaysDu
 -- are durable.
 abbrev pub OpensStore : DirectoryState → DirectoryState → Type 0
 OpensStore old new = IfSome old.seen (λ view.
-    (IsUnfinished view.image × IsDurableAs new_store new × HasOwnName new)
+    (IsUnfinished view.image × IsDurableAs new_directory new × HasOwnName new)
     ⊎ (HasSlots view.image × IsDurableAs view.image new))
 
 -- a directory that has no store and is not made one: a slot is lost

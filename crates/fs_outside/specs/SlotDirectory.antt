@@ -32,8 +32,8 @@ pub record IsUnfinished (image : DirectoryImage) : Type 0 where
   pub files : image.has_files ≡ false
 
 -- a new store: one byte 0 in each slot, and no files
-abbrev pub new_store : DirectoryImage
-new_store = record { a = Some (0 ∷ []); b = Some (0 ∷ []); has_files = false }
+abbrev pub new_directory : DirectoryImage
+new_directory = record { a = Some (0 ∷ []); b = Some (0 ∷ []); has_files = false }
 
 -- both slots are there
 pub record HasSlots (image : DirectoryImage) : Type 0 where

@@ -10,7 +10,8 @@ ghost use Rattle.std.specs.declared.option.Option.{Option};
 ghost use Rattle.tsdb_outside.specs.Causes.{HasCause};
 ghost use Rattle.tsdb_outside.specs.Files.{IsFileNumber};
 ghost use Rattle.fs_outside.specs.Directory.{DirectoryFile, IsFreeIn, IsTakenIn, SameBut, Becomes, add_new, change_one};
-ghost use Rattle.fs_outside.specs.Directory.{with_bytes, with_synced_bytes, with_synced_name, without, numbers_in};
+ghost use Rattle.fs_outside.specs.Directory.{with_bytes, with_synced_bytes, with_synced_name, without};
+ghost use Rattle.fs_outside.specs.Directory.{directory_numbers};
 ghost use Rattle.fs_outside.specs.Directory.{HasBytesOf, HasLengthOf};
 
 use crate::file_name::{name_of_number, number_of_name, path_in};
@@ -123,7 +124,7 @@ pub trait FileDirectory: Drop {
     /// The numbers of the files, and those that others have, in any order.
     fn numbers(&mut self) -> io::Result<Vec<u64>>
         ensures exact { IfOk result (λ list. IfSome (told self.old) (λ files. (n : ℕ) → IsFileNumber n
-            → (Contains list.items n ↔ (Contains (numbers_in files) n ⊎ Contains (others self.old) n)))) }
+            → (Contains list.items n ↔ (Contains (directory_numbers files) n ⊎ Contains (others self.old) n)))) }
         ensures same { told self.new ≡ told self.old × sync_failed self.new ≡ sync_failed self.old }
         ensures cause { HasCause (faults self.old) (faults self.new) result };
 }

@@ -12,7 +12,8 @@ ghost use Rattle.tsdb_outside.specs.Files.{IsFileNumber, Names, plain_numbers};
 ghost use Rattle.tsdb_outside.specs.Limits.{FitsSlot};
 ghost use Rattle.tsdb_outside.specs.declared.faults.StoreFault.TheVariants as fault;
 ghost use Rattle.fs_outside.specs.Directory.{IsFreeIn, IsTakenIn, IsTakenAway, StaysTaken, SameBut, Becomes};
-ghost use Rattle.fs_outside.specs.Directory.{put_durable, without, numbers_in, HasBytesOf, HasLengthOf, Fills, ReadFails};
+ghost use Rattle.fs_outside.specs.Directory.{put_durable, without, directory_numbers, HasBytesOf, HasLengthOf, Fills};
+ghost use Rattle.fs_outside.specs.Directory.{ReadFails};
 ghost use Rattle.fs_outside.specs.Directory.{SizeFails, store_in};
 ghost use Rattle.fs_outside.specs.Files.{port_directory, port_faults, port_open, port_store, files_directory};
 ghost use Rattle.fs_outside.specs.Files.{files_faults, files_store, sealed_file, sealed_rights, right_file};
@@ -402,7 +403,7 @@ impl<D: FileDirectory<File = F> + Send, F: NumberedFile + Send> Files for FsFile
         // What the directory tells.
         ensures exact { IfOk result (λ list. IfSome (D.told (files_directory self.old))
             (λ files. (n : ℕ) → IsFileNumber n → (Contains (plain_numbers list.items) n
-            ↔ (Contains (numbers_in files) n ⊎ Contains (D.others (files_directory self.old)) n)))) }
+            ↔ (Contains (directory_numbers files) n ⊎ Contains (D.others (files_directory self.old)) n)))) }
         ensures same { D.told (files_directory self.new) ≡ D.told (files_directory self.old) }
         ensures reason { IsErrOf result fault.Failed
             → Rose (D.faults (files_directory self.old)) (D.faults (files_directory self.new)) }

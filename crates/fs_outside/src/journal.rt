@@ -132,11 +132,11 @@ pub struct FsJournal<F = File, G = Arc<LockedDirectory>> {
 
 impl<F, G> FsJournal<F, G> {
     ghost use Rattle.tsdb_outside.specs.declared.disk.Slot.TheVariants.{A, B};
-    ghost use Rattle.fs_outside.specs.Journal.{file_of, journal_faults, sync_failed};
+    ghost use Rattle.fs_outside.specs.Journal.{file_of_slot, journal_faults, sync_failed};
 
     /// The journal over these files, before the first fault. It holds the guard.
     pub fn new(a: F, b: F, guard: G) -> Self
-        ensures files { file_of A result ≡ a × file_of B result ≡ b }
+        ensures files { file_of_slot A result ≡ a × file_of_slot B result ≡ b }
         ensures synced { sync_failed A result ≡ false × sync_failed B result ≡ false }
         ensures faults { journal_faults result ≡ 0 }
     {

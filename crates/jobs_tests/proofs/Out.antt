@@ -9,7 +9,7 @@ use Rattle.jobs_tests.specs.Out.{AreHandedOn, BeginsJob, EndsFlush, EndsJob, End
 use Rattle.jobs_tests.specs.Out.{TakesFlush, TakesPin}
 use Rattle.tsdb_base.specs.declared.ids.FileNumber.{FileNumber}
 use Rattle.tsdb_base.specs.declared.ids.Space.{Space}
-use Rattle.tsdb_tasks.specs.Files.{NewFile, new_file, new_files}
+use Rattle.tsdb_tasks.specs.Files.{NewFile, file_built, new_files}
 use Rattle.tsdb_tasks.specs.Ending.{IsOutputNumbered}
 use Rattle.tsdb_tasks.specs.declared.finishing.InputRuns.{InputRuns}
 use Rattle.tsdb_compactions.specs.Outputs.{IsOutputOf}
@@ -22,9 +22,9 @@ use Rattle.tsdb_core.proofs.Out.{no_pin as not_pinned}
 use Rattle.tsdb_core.specs.Out.{nothing_out, with_job, with_pin}
 use Rattle.tsdb_core.specs.Beginnings.{IsBegunOrNot}
 use Rattle.tsdb_core.specs.Compactions.{IsHandedOut, IsJobOut}
-use Rattle.tsdb_core.specs.Core.{IsAbove, KeepsJobs, files_of}
+use Rattle.tsdb_core.specs.Core.{IsAboveNumbers, KeepsJobs, files_of}
 use Rattle.tsdb_core.specs.Flushes as flushes
-use Rattle.tsdb_core.specs.Flushes.{IsOut, IsTakenOrNot, TakesMemory}
+use Rattle.tsdb_core.specs.Flushes.{IsOut, IsFlushTakenOrNot, TakesMemory}
 use Rattle.tsdb_core.specs.Loans.{KeepsLoans}
 use Rattle.tsdb_core.specs.Pins.{IsNotPinned, IsPinned, IsUnpinned}
 use Rattle.tsdb_core.specs.Replacements as ends
@@ -32,7 +32,7 @@ use Rattle.tsdb_core.specs.declared.commit.Commit.{Commit}
 use Rattle.tsdb_core.specs.declared.commit.CoreFault.{CoreFault}
 use Rattle.tsdb_core.specs.declared.engine.Core.{Core}
 use Rattle.tsdb_inner.specs.Inputs.{IsInputOf}
-use Rattle.tsdb_flush.specs.Built.{IsDone}
+use Rattle.tsdb_flush.specs.Built.{IsPartDone}
 use Rattle.tsdb_flush.specs.Parts.{Filled}
 use Rattle.tsdb_flush.specs.declared.job.Built.{Built}
 use Rattle.tsdb_flush.specs.declared.job.Flushed.{Flushed}
@@ -67,7 +67,7 @@ of_right name store (Some file) right is of = ap (λ (named : NamedFile). named.
 module _ {F S R P : Type 0} (file : S → NamedFile) where
   pub new_in : (store : Store) (output : Option (Built F S R P))
       → IfSome output (λ built. (file built.sealed).store ≡ store)
-      → IfSome (option_map (new_file file) output) (λ one. one.token.name.store ≡ store)
+      → IfSome (option_map (file_built file) output) (λ one. one.token.name.store ≡ store)
   new_in store None is = tt
   new_in store (Some built) is = is
 
@@ -79,18 +79,18 @@ module _ {F S R P : Type 0} (file : S → NamedFile) (name : R → NamedFile) (r
 
 module _ {F S R P : Type 0} (file : S → NamedFile) (rights : S → ℕ) (store : Store) where
   of_part : (born : ℕ) (part : List Filled) (number : Option FileNumber) (built : Option (Built F S R P))
-      → IsDone file rights store born part number built
-      → IfSome (option_map (new_file file) built) (λ one. one.token.name.store ≡ store)
+      → IsPartDone file rights store born part number built
+      → IfSome (option_map (file_built file) built) (λ one. one.token.name.store ≡ store)
   of_part born part None None done = tt
   of_part born part None (Some built) done = absurd done
   of_part born part (Some number) None done = absurd done
   of_part born part (Some number) (Some built) done = done.in_store
 
   of_part_so_far : (born : ℕ) (part : List Filled) (number : Option FileNumber) (built : Option (Built F S R P))
-      → (built ≡ None) ⊎ IsDone file rights store born part number built
-      → IfSome (option_map (new_file file) built) (λ one. one.token.name.store ≡ store)
+      → (built ≡ None) ⊎ IsPartDone file rights store born part number built
+      → IfSome (option_map (file_built file) built) (λ one. one.token.name.store ≡ store)
   of_part_so_far born part number built (inl none) =
-      subst (λ (b : Option (Built F S R P)). IfSome (option_map (new_file file) b) (λ one. one.token.name.store ≡ store)) (sym none) tt
+      subst (λ (b : Option (Built F S R P)). IfSome (option_map (file_built file) b) (λ one. one.token.name.store ≡ store)) (sym none) tt
   of_part_so_far born part number built (inr done) = of_part born part number built done
 
 module _ {J F S R P : Type 0} {means : disk.Ghosts J} {counts : counted.Ghosts J} where
@@ -123,12 +123,12 @@ module _ {J F S R P : Type 0} {means : disk.Ghosts J} {counts : counted.Ghosts J
   -- ---- flushes
 
   pub flush_taken : (old new : Core J F S R P means counts) (job : Option FlushJob) → TakesMemory old new
-      → IsTakenOrNot old new (Ok job) → TakesFlush old new job
+      → IsFlushTakenOrNot old new (Ok job) → TakesFlush old new job
   flush_taken old new None takes taken = no_flush old new takes taken
   flush_taken old new (Some job) takes taken = (taken.is_job, flush_joins old new job takes taken)
 
   pub flush_refused : (old new : Core J F S R P means counts) (fault : CoreFault) → TakesMemory old new
-      → IsTakenOrNot old new (Err fault) → AreHandedOn old new
+      → IsFlushTakenOrNot old new (Err fault) → AreHandedOn old new
   flush_refused old new fault takes taken = no_flush old new takes taken
 
   pub flush_is_out : (store : Store) (core : Core J F S R P means counts) (job : FlushJob) → HasFlush store core job
@@ -137,14 +137,14 @@ module _ {J F S R P : Type 0} {means : disk.Ghosts J} {counts : counted.Ghosts J
 
   pub flush_ended : (file : S → NamedFile) (rights : S → ℕ) (store : Store) (old new : Core J F S R P means counts)
       (job : FlushJob) (files : Flushed F S R P) (commit : Commit) (first second : List Filled)
-      → flushes.EndsFlush old new job (new_files file files) commit
-      → (files.sequence ≡ None) ⊎ IsDone file rights store job.born.0 first job.sequence files.sequence
-      → (files.unsequence ≡ None) ⊎ IsDone file rights store job.born.0 second job.unsequence files.unsequence
+      → flushes.HasEndedFlush old new job (new_files file files) commit
+      → (files.sequence ≡ None) ⊎ IsPartDone file rights store job.born.0 first job.sequence files.sequence
+      → (files.unsequence ≡ None) ⊎ IsPartDone file rights store job.born.0 second job.unsequence files.unsequence
       → EndsFlush store old new job
   flush_ended file rights store old new job files commit first second ended sequence unsequence out kept =
       flush_leaves old new job (new_files file files) commit ended store out
       (each_of (λ one. one.token.name.store ≡ store)
-      (option_map (new_file file) files.sequence) (option_map (new_file file) files.unsequence)
+      (option_map (file_built file) files.sequence) (option_map (file_built file) files.unsequence)
       (of_part_so_far file rights store job.born.0 first job.sequence files.sequence sequence)
       (of_part_so_far file rights store job.born.0 second job.unsequence files.unsequence unsequence)) kept
 
@@ -212,7 +212,7 @@ module _ {J F S R P : Type 0} {means : disk.Ghosts J} {counts : counted.Ghosts J
         subst (λ (s : Store). HasJob name s b job) (sym same) (has.0, has.1, has.2, has.3, hands has.2 has.4)
 
     pub job_ended : (store : Store) (old new : Core J F S R P means counts) (job : Job F S R P) (file : Option NewFile)
-        → ends.EndsJob old new job file → IsJobOut name old job → IfSome file (λ one. one.token.name.store ≡ store)
+        → ends.HasEndedJob old new job file → IsJobOut name old job → IfSome file (λ one. one.token.name.store ≡ store)
         → EndsJob name store old new job
     job_ended store old new job file ended is_out in_store others all is kept = job_leaves name old new job file ended
         store others all handed in_store is kept
@@ -348,5 +348,5 @@ module _ {J F S R P : Type 0} {means : disk.Ghosts J} {counts : counted.Ghosts J
       subst (λ (s : Store). AreOfStore s (files_of new).places) (sym same)
       (hands nothing_out (record { loans = loans; of_store = of_store })).of_store
 
-pub none_above : (next : ℕ) → 1 ≤ next → IsAbove next none_kept
+pub none_above : (next : ℕ) → 1 ≤ next → IsAboveNumbers next none_kept
 none_above next from = record { from_one = from; below = λ n. tt }

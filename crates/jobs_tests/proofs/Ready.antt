@@ -1,6 +1,6 @@
 -- A new core is ready to serve.
 use Rattle.std.proofs.Common.{◌≡◌, ℕ, ◌≤◌, [], sym, subst}
-use Rattle.tsdb_core.specs.Core.{IsAbove, KeepsJobs, files_of}
+use Rattle.tsdb_core.specs.Core.{IsAboveNumbers, KeepsJobs, files_of}
 use Rattle.tsdb_core.specs.declared.engine.Core.{Core}
 use Rattle.tsdb_fileset.specs.Files.{KeptFiles, none_kept}
 use Rattle.tsdb_fileset.specs.Places.{AreOfStore, AreUnread}
@@ -9,7 +9,7 @@ use Rattle.tsdb_outside.specs.declared.disk.Disk as disk
 use Rattle.tsdb_outside.specs.declared.faults.Counted as counted
 use Rattle.tsdb_serving.specs.Flushing.{IsReady}
 
-pub none_above : (next : ℕ) → 1 ≤ next → IsAbove next none_kept
+pub none_above : (next : ℕ) → 1 ≤ next → IsAboveNumbers next none_kept
 none_above next some = record { from_one = some; below = λ n. tt }
 
 module _ {J F S R P : Type 0} {means : disk.Ghosts J} {counts : counted.Ghosts J} where

@@ -52,7 +52,7 @@ fn take<J: Journal, F: Files>(core: &mut Core<J, F>) -> Option<FlushJob>
 fn commit<J: Journal, F: Files>(core: &mut Core<J, F>, job: FlushJob, files: Flushed<F>) -> Commit
     requires out { flushes.IsOut core.old job }
     requires done { AreDone F.Sealed.file F.Sealed.rights job files }
-    ensures { flushes.EndsFlush core.old core.new job (new_files F.Sealed.file files) result }
+    ensures { flushes.HasEndedFlush core.old core.new job (new_files F.Sealed.file files) result }
 {
     core.commit_flush(job, files)
 }

@@ -24,7 +24,7 @@ use tsdb_core::{Core, Options};
 use tsdb_fileset::KeptFiles;
 use tsdb_flush::Built;
 use tsdb_frames::Frames;
-use tsdb_memory::{Logged, MemoryStore};
+use tsdb_memory::{LoggedMemory, MemoryStore};
 use tsdb_model::{Command, Reply};
 use tsdb_outside::{Failed, Files, Journal, Place, Slot};
 use tsdb_pin::Pin;
@@ -505,7 +505,7 @@ fn first_other<J: Journal, F: Files>(
 }
 
 /// A core over a log and memory that are new, the next file of which gets this number.
-fn new_core<J: Journal, F: Files>(alloc: Global, logged: Logged<J>, next: u64) -> Core<J, F>
+fn new_core<J: Journal, F: Files>(alloc: Global, logged: LoggedMemory<J>, next: u64) -> Core<J, F>
     requires { 1 ≤ next }
     ensures loans { KeepsLoans result [] [] [] }
     ensures of_store { (store : Store) → AreOfStore store (files_of result).places }
@@ -518,7 +518,7 @@ fn new_core<J: Journal, F: Files>(alloc: Global, logged: Logged<J>, next: u64) -
 /// Leads a new core through the courses, and closes it.
 fn lead<J: Journal, F: Files>(
     alloc: Global,
-    logged: Logged<J>,
+    logged: LoggedMemory<J>,
     port: &mut F::Port,
     files: &mut F,
     next: u64,
@@ -551,7 +551,7 @@ pub fn first_wrong(
     if next == 0 {
         return Err(Fail::from("a number"));
     }
-    let logged = Logged::new(alloc, frames, MemoryStore::new(alloc));
+    let logged = LoggedMemory::new(alloc, frames, MemoryStore::new(alloc));
     let (other, journal) = lead::<MemJournal, MemFiles>(
         alloc, logged, &mut port, &mut files, next, cases,
     );

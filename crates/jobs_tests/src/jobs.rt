@@ -5,7 +5,7 @@ ghost use Rattle.jobs_tests.specs.Out.{BeginsJob, EndsJob, EndsPin, HasPin, Take
 ghost use Rattle.std.specs.List.{AllByRecursion as Each};
 ghost use Rattle.std.specs.Prelude.{◌≡◌, IfOk, IfSome};
 ghost use Rattle.tsdb_tasks.specs.Ending.{IsOutputNumbered};
-ghost use Rattle.tsdb_compactions.specs.Jobs.{IsFormed};
+ghost use Rattle.tsdb_compactions.specs.Jobs.{IsJobFormed};
 ghost use Rattle.tsdb_compactions.specs.Outputs.{IsOutputOf};
 ghost use Rattle.tsdb_core.specs.Compactions.{IsJobOut};
 ghost use Rattle.tsdb_inner.specs.Inputs.{IsInputOf};
@@ -86,7 +86,7 @@ pub fn run_job<F: Files>(
     job: &Job<F>,
     port: &mut F::Port,
 ) -> Result<Option<Built<F>>, StoreFault>
-    requires formed { IsFormed job.now }
+    requires formed { IsJobFormed job.now }
     requires of_store { Each (IsInputOf F.Right.file (F.Port.store port.old)) job.now.inputs }
     ensures output { IfOk result (IsOutputOf F.Right.file F.Sealed.file F.Sealed.rights job.now) }
     ensures of_store { IfOk result (λ output. IfSome output (λ built.

@@ -14,7 +14,7 @@ use tsdb_core::{Core, Options};
 use tsdb_fileset::KeptFiles;
 use tsdb_frames::Frames;
 use tsdb_history::serve;
-use tsdb_memory::{Logged, MemoryStore};
+use tsdb_memory::{LoggedMemory, MemoryStore};
 use tsdb_model::{Command, Reply};
 use tsdb_outside::{Files, Journal, Place, Slot};
 
@@ -56,7 +56,7 @@ impl Served<MemJournal, MemFiles> {
 /// A core over a log and memory that are new, the next file of which gets this number.
 fn new_core<J: Journal, F: Files>(
     alloc: Global,
-    logged: Logged<J>,
+    logged: LoggedMemory<J>,
     pair_points: u64,
     next: u64,
 ) -> Core<J, F>
@@ -90,7 +90,7 @@ pub fn open(
     let Ok((frames, _)) = Frames::scan(alloc, journal, Slot::A) else {
         return Err(Fail::from("a log"));
     };
-    let logged = Logged::new(alloc, frames, MemoryStore::new(alloc));
+    let logged = LoggedMemory::new(alloc, frames, MemoryStore::new(alloc));
     let core = new_core(alloc, logged, pair_points, next);
     Ok(Served { core, port, files })
 }

@@ -6,14 +6,14 @@ use Rattle.std.proofs.lemmas.List.{take-append-le, take_all}
 use Rattle.std.proofs.lemmas.Bool.{cases_lt}
 use Rattle.std.proofs.lemmas.List.Sums.{fold-append}
 use Rattle.std.proofs.lemmas.Grind.{common_steps}
-use Rattle.tsdb_outside.specs.Disk.{Image, DiskState, in_slot, with_slot, overwrite, Overwrites, Torn, TornIn, WhereTold, Follows, NothingNew, Elapses, Keeps, MayWrite}
+use Rattle.tsdb_outside.specs.Disk.{Image, DiskState, in_slot, with_slot, overwrite, Overwrites, Torn, TornIn, WhereTold, FollowsStep, NothingNew, Elapses, Keeps, MayWrite}
 use Rattle.tsdb_outside.specs.declared.disk.Slot.{Slot}
 use Rattle.tsdb_outside.specs.declared.disk.Slot.TheVariants.{A, B}
 use Rattle.tsdb_outside.proofs.DiskLemmas.{Elapses-same, Keeps-same, Torn-same, TornIn-same, Torn-overwrite}
 use Rattle.mem_outside.specs.declared.record.Call.{Call}
 use Rattle.mem_outside.specs.declared.record.RecordedDisk.{RecordedDisk}
 use Rattle.mem_outside.specs.Laws.{SeenMayStay, seen_stays}
-use Rattle.mem_outside.specs.Record.{SlotState, new_slot, after_write, after_sync, after_kind, after_call, after_calls, Leaves, seen_after, LeavesOf, LeftSince, state_after}
+use Rattle.mem_outside.specs.Record.{SlotState, new_slot, after_write, after_sync, after_kind, after_call, after_calls, LeavesBytes, seen_after, LeavesOf, LeftSince, disk_after}
 use Rattle.mem_outside.specs.RecordedDisk.{disk_seen, disk_first, disk_calls, disk_state, RecordsCall, SameRecord}
 
 -- a call is recorded, or there was no room for it
@@ -33,8 +33,8 @@ module _ (first : Image) (calls : List Call) (call : Call) where
   longer : length (calls ++ call ∷ []) ≡ length calls + 1
   longer = grind (arith, common_steps)
 
-  call_elapses : Elapses (state_after first calls) (state_after first (calls ++ call ∷ []))
-      (state_after first (calls ++ call ∷ [])).may_leave
+  call_elapses : Elapses (disk_after first calls) (disk_after first (calls ++ call ∷ []))
+      (disk_after first (calls ++ call ∷ [])).may_leave
   call_elapses = record {
     later = omega (arith, longer);
     nothing_else = λ t image le left. since t image left;
@@ -89,20 +89,20 @@ module _ (first : Image) (calls : List Call) (call : Call) (at : ℕ) (bytes : L
       subst (λ n. Torn n (length bytes) before new) start torn
 
   write_follows : (slot : Slot) → call.slot ≡ slot → at ≤ length (in_slot slot (seen_after first calls))
-      → Follows (TornIn slot at (length bytes)) (LeavesOf first calls) (LeavesOf first (calls ++ call ∷ []))
+      → FollowsStep (TornIn slot at (length bytes)) (LeavesOf first calls) (LeavesOf first (calls ++ call ∷ []))
   write_follows A own within image left =
       let s : SlotState = after_calls A first.a calls in
-      let a : Leaves ((min at (length s.seen), bytes) ∷ s.pending) s.durable image.a =
-      subst (λ (t : SlotState). Leaves t.pending t.durable image.a) (own_after first calls call (after_write at bytes succeeded) does A first.a own) left.0 in
-      let b : Leaves (after_calls B first.b calls).pending (after_calls B first.b calls).durable image.b =
-      subst (λ (t : SlotState). Leaves t.pending t.durable image.b) (b_stays first calls call (after_write at bytes succeeded) does first.b own) left.1 in
+      let a : LeavesBytes ((min at (length s.seen), bytes) ∷ s.pending) s.durable image.a =
+      subst (λ (t : SlotState). LeavesBytes t.pending t.durable image.a) (own_after first calls call (after_write at bytes succeeded) does A first.a own) left.0 in
+      let b : LeavesBytes (after_calls B first.b calls).pending (after_calls B first.b calls).durable image.b =
+      subst (λ (t : SlotState). LeavesBytes t.pending t.durable image.b) (b_stays first calls call (after_write at bytes succeeded) does first.b own) left.1 in
       (record { a = a.0; b = image.b }, (a.1, b), record { here = cut_at s a.0 image.a within a.2; elsewhere = refl })
   write_follows B own within image left =
       let s : SlotState = after_calls B first.b calls in
-      let b : Leaves ((min at (length s.seen), bytes) ∷ s.pending) s.durable image.b =
-      subst (λ (t : SlotState). Leaves t.pending t.durable image.b) (own_after first calls call (after_write at bytes succeeded) does B first.b own) left.1 in
-      let a : Leaves (after_calls A first.a calls).pending (after_calls A first.a calls).durable image.a =
-      subst (λ (t : SlotState). Leaves t.pending t.durable image.a) (a_stays first calls call (after_write at bytes succeeded) does first.a own) left.0 in
+      let b : LeavesBytes ((min at (length s.seen), bytes) ∷ s.pending) s.durable image.b =
+      subst (λ (t : SlotState). LeavesBytes t.pending t.durable image.b) (own_after first calls call (after_write at bytes succeeded) does B first.b own) left.1 in
+      let a : LeavesBytes (after_calls A first.a calls).pending (after_calls A first.a calls).durable image.a =
+      subst (λ (t : SlotState). LeavesBytes t.pending t.durable image.a) (a_stays first calls call (after_write at bytes succeeded) does first.a own) left.0 in
       (record { a = image.a; b = b.0 }, (a, b.1), record { here = cut_at s b.0 image.b within b.2; elsewhere = refl })
 
   write_torn : (slot : Slot) → call.slot ≡ slot → at ≤ length (in_slot slot (seen_after first calls))
@@ -123,20 +123,20 @@ module _ (first : Image) (calls : List Call) (call : Call) (at : ℕ) (bytes : L
 -- a sync
 module _ (first : Image) (calls : List Call) (call : Call) (succeeded : Bool)
     (does : (s : SlotState) → after_kind call.kind call.succeeded s ≡ after_sync succeeded s) where
-  left_before : (d : Bool) (s : SlotState) (bytes : List ℕ) → SeenMayStay s → Leaves (after_sync d s).pending (after_sync d s).durable bytes → Leaves s.pending s.durable bytes
-  left_before true s bytes seen left = subst (λ (l : List ℕ). Leaves s.pending s.durable l) (sym left) seen
+  left_before : (d : Bool) (s : SlotState) (bytes : List ℕ) → SeenMayStay s → LeavesBytes (after_sync d s).pending (after_sync d s).durable bytes → LeavesBytes s.pending s.durable bytes
+  left_before true s bytes seen left = subst (λ (l : List ℕ). LeavesBytes s.pending s.durable l) (sym left) seen
   left_before false s bytes seen left = left
 
   sync_nothing_new : (slot : Slot) → call.slot ≡ slot → NothingNew (LeavesOf first calls) (LeavesOf first (calls ++ call ∷ []))
   sync_nothing_new A own image left = (
     left_before succeeded (after_calls A first.a calls) image.a (seen_stays A first.a calls)
-        (subst (λ (t : SlotState). Leaves t.pending t.durable image.a) (own_after first calls call (after_sync succeeded) does A first.a own) left.0),
-    subst (λ (t : SlotState). Leaves t.pending t.durable image.b) (b_stays first calls call (after_sync succeeded) does first.b own) left.1,
+        (subst (λ (t : SlotState). LeavesBytes t.pending t.durable image.a) (own_after first calls call (after_sync succeeded) does A first.a own) left.0),
+    subst (λ (t : SlotState). LeavesBytes t.pending t.durable image.b) (b_stays first calls call (after_sync succeeded) does first.b own) left.1,
   )
   sync_nothing_new B own image left = (
-    subst (λ (t : SlotState). Leaves t.pending t.durable image.a) (a_stays first calls call (after_sync succeeded) does first.a own) left.0,
+    subst (λ (t : SlotState). LeavesBytes t.pending t.durable image.a) (a_stays first calls call (after_sync succeeded) does first.a own) left.0,
     left_before succeeded (after_calls B first.b calls) image.b (seen_stays B first.b calls)
-        (subst (λ (t : SlotState). Leaves t.pending t.durable image.b) (own_after first calls call (after_sync succeeded) does B first.b own) left.1),
+        (subst (λ (t : SlotState). LeavesBytes t.pending t.durable image.b) (own_after first calls call (after_sync succeeded) does B first.b own) left.1),
   )
 
   sync_seen : (slot : Slot) → call.slot ≡ slot → seen_after first (calls ++ call ∷ []) ≡ seen_after first calls
@@ -149,10 +149,10 @@ module _ (first : Image) (calls : List Call) (call : Call) (succeeded : Bool)
 
 -- what holds of the state after these calls holds of a disk with this record
 of_disk : (P : DiskState → Type 0) (disk : RecordedDisk) (first : Image) (calls : List Call) → disk_first disk ≡ first → disk_calls disk ≡ calls
-    → P (state_after first calls) → P (disk_state disk)
+    → P (disk_after first calls) → P (disk_state disk)
 of_disk P disk first calls same_first same_calls holds =
-    subst (λ (f : Image). P (state_after f (disk_calls disk))) (sym same_first)
-    (subst (λ (l : List Call). P (state_after first l)) (sym same_calls) holds)
+    subst (λ (f : Image). P (disk_after f (disk_calls disk))) (sym same_first)
+    (subst (λ (l : List Call). P (disk_after first l)) (sym same_calls) holds)
 
 pub write_may : (slot : Slot) (at : ℕ) (bytes : List ℕ) (succeeded : Bool) (old new : RecordedDisk)
     → Ends slot (after_write at bytes succeeded) old new → at ≤ length (in_slot slot (disk_seen old))

@@ -18,24 +18,24 @@ use Rattle.mem_outside.specs.declared.place.MemPlace.{MemPlace}
 use Rattle.mem_outside.specs.Journal.{journal_first, journal_calls}
 use Rattle.mem_outside.specs.Laws.{kept_by_calls}
 use Rattle.std.specs.List.{take_while}
-use Rattle.mem_outside.specs.RecordedDisk.{is_until}
+use Rattle.mem_outside.specs.RecordedDisk.{is_call_until}
 use Rattle.mem_outside.specs.Place.{place_state, LeftAt, stop_image}
-use Rattle.mem_outside.specs.Record.{SlotState, new_slot, after_kind, after_calls, Leaves, invert, apply_all, LeavesOf, slot_after_stop, image_after_stop}
+use Rattle.mem_outside.specs.Record.{SlotState, new_slot, after_kind, after_calls, LeavesBytes, invert, apply_all, LeavesOf, slot_after_stop, image_after_stop}
 
 -- without a sync a stop may leave what the last one made durable
-leaves_durable : (pending : List (ℕ × List ℕ)) (durable : List ℕ) → Leaves pending durable durable
+leaves_durable : (pending : List (ℕ × List ℕ)) (durable : List ℕ) → LeavesBytes pending durable durable
 leaves_durable [] durable = refl
 leaves_durable (write ∷ older) durable = (durable, leaves_durable older durable, Torn-same write.0 (length write.1) durable)
 
 -- what this kind of stop leaves is one of the things that a stop may leave, and is no shorter than what a read gives
 record Fits (kind : StopKind) (s : SlotState) : Type 0 where
-  left : Leaves s.pending s.durable (apply_all kind s.pending s.durable)
+  left : LeavesBytes s.pending s.durable (apply_all kind s.pending s.durable)
   as_long : length s.seen ≤ length (apply_all kind s.pending s.durable)
 
 -- one write more, made with other bytes of the same number
 left_by_write : (at : ℕ) (bytes others seen c durable : List ℕ) (older : List (ℕ × List ℕ)) → length others ≡ length bytes
-    → Leaves older durable c → length seen ≤ length c
-    → Leaves ((min at (length seen), bytes) ∷ older) durable (overwrite (min (min at (length seen)) (length c)) others c)
+    → LeavesBytes older durable c → length seen ≤ length c
+    → LeavesBytes ((min at (length seen), bytes) ∷ older) durable (overwrite (min (min at (length seen)) (length c)) others c)
 left_by_write at bytes others seen c durable older same left as_long =
     let start : min (min at (length seen)) (length c) ≡ min at (length seen) = omega arith in
     let torn : Torn (min at (length seen)) (length others) c (overwrite (min at (length seen)) others c) =
@@ -77,12 +77,12 @@ apply_all-unwritten [] durable = refl
 apply_all-unwritten (write ∷ older) durable = apply_all-unwritten older durable
 
 slot_left : (kind : StopKind) (slot : Slot) (first : List ℕ) (calls : List Call)
-    → Leaves (after_calls slot first calls).pending (after_calls slot first calls).durable (slot_after_stop kind slot first calls)
+    → LeavesBytes (after_calls slot first calls).pending (after_calls slot first calls).durable (slot_after_stop kind slot first calls)
 slot_left Written slot first calls =
     (kept_by_calls (Fits Written) written_fits slot (new_slot first) calls (record { left = refl; as_long = omega arith })).left
 slot_left Unwritten slot first calls =
     let s : SlotState = after_calls slot first calls in
-    subst (λ bytes. Leaves s.pending s.durable bytes) (sym (apply_all-unwritten s.pending s.durable)) (leaves_durable s.pending s.durable)
+    subst (λ bytes. LeavesBytes s.pending s.durable bytes) (sym (apply_all-unwritten s.pending s.durable)) (leaves_durable s.pending s.durable)
 slot_left Scrambled slot first calls =
     (kept_by_calls (Fits Scrambled) scrambled_fits slot (new_slot first) calls (record { left = refl; as_long = omega arith })).left
 
@@ -92,7 +92,7 @@ image_left kind first calls = (slot_left kind A first.a calls, slot_left kind B 
 -- the same of a place whose journal this is
 allowed : (kind : StopKind) (journal : Option MemJournal) (k : ℕ) → IfSome (stop_image kind journal k) (LeftAt journal k)
 allowed kind None k = tt
-allowed kind (Some j) k = image_left kind (journal_first j) (take_while (is_until k) (journal_calls j))
+allowed kind (Some j) k = image_left kind (journal_first j) (take_while (is_call_until k) (journal_calls j))
 
 pub allowed_after : (kind : StopKind) (journal : Option MemJournal) (k : ℕ) (result : Result MemPlace Memory)
     → IfOk result (λ place. (place_state place).seen ≡ stop_image kind journal k)

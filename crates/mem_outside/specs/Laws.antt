@@ -12,7 +12,7 @@ use Rattle.mem_outside.specs.declared.record.Call.{Call}
 use Rattle.mem_outside.specs.declared.record.Kind.{Kind}
 use Rattle.mem_outside.specs.declared.record.Kind.TheVariants.{Write, Sync}
 use Rattle.mem_outside.specs.Record.{SlotState, new_slot, after_write, after_kind, is_slot, after_call, after_calls}
-use Rattle.mem_outside.specs.Record.{Leaves, seen_after, LeavesOf, LeftSince, state_after}
+use Rattle.mem_outside.specs.Record.{LeavesBytes, seen_after, LeavesOf, LeftSince, disk_after}
 
 -- a fact that each kind of call keeps holds after all of them
 kept_by_call : (P : SlotState → Type 0)
@@ -33,7 +33,7 @@ kept_by_calls P step slot s (call ∷ calls) holds =
 
 -- a stop may leave what a read gives
 abbrev pub SeenMayStay : SlotState → Type 0
-SeenMayStay s = Leaves s.pending s.durable s.seen
+SeenMayStay s = LeavesBytes s.pending s.durable s.seen
 
 stays_after_write : (at : ℕ) (bytes : List ℕ) (succeeded : Bool) (s : SlotState) → SeenMayStay s
     → SeenMayStay (after_write at bytes succeeded s)
@@ -65,7 +65,7 @@ only_left_now : (first : Image) (calls : List Call) (image : Image) → LeftSinc
     → LeavesOf first calls image
 only_left_now first calls image left = subst (λ l. LeavesOf first l image) (take_all left.0 calls left.1) left.3
 
-pub state_is_lawful : (first : Image) (calls : List Call) → IsLawful (state_after first calls)
+pub state_is_lawful : (first : Image) (calls : List Call) → IsLawful (disk_after first calls)
 state_is_lawful first calls = record {
   seen_may_stay = λ image told.
       let same : seen_after first calls ≡ image = ap (λ (o : Option Image). unwrap_or o image) told in

@@ -16,7 +16,7 @@ use Rattle.mem_outside.specs.declared.record.StopKind.{StopKind}
 use Rattle.mem_outside.specs.Entry.{files_left, last_of}
 use Rattle.mem_outside.specs.Files.{files_at_rest, files_gone, files_row, stored_files}
 use Rattle.mem_outside.specs.Record.{LeavesOf, image_after_stop}
-use Rattle.mem_outside.specs.RecordedDisk.{is_until, last_of_calls}
+use Rattle.mem_outside.specs.RecordedDisk.{is_call_until, last_of_calls}
 use Rattle.mem_outside.specs.Row.{failing_numbers}
 use Rattle.mem_outside.specs.Journal.{journal_first, journal_calls, journal_state}
 
@@ -29,12 +29,12 @@ files_in None = None
 files_in (Some parts) = Some parts.files
 
 -- the journal in the place, if it is not out
-abbrev pub journal_of : MemPlace → Option MemJournal
-journal_of place = journal_in place.parts
+abbrev pub place_journal : MemPlace → Option MemJournal
+place_journal place = journal_in place.parts
 
 -- the files in the place, if they are not out
-abbrev pub files_of : MemPlace → Option MemFiles
-files_of place = files_in place.parts
+abbrev pub place_files : MemPlace → Option MemFiles
+place_files place = files_in place.parts
 
 -- the directory whose store was taken up last, or none before the first
 abbrev pub place_asked : MemPlace → Option (List ℕ)
@@ -45,17 +45,17 @@ abbrev pub place_faults : MemPlace → ℕ
 place_faults place = place.faults
 
 -- what a place with this journal in it means; while the journal is out it tells nothing
-abbrev pub state_of : Option MemJournal → DiskState
-state_of None = silent_state
-state_of (Some j) = journal_state j
+abbrev pub state_of_place : Option MemJournal → DiskState
+state_of_place None = silent_state
+state_of_place (Some j) = journal_state j
 
 abbrev pub place_state : MemPlace → DiskState
-place_state place = state_of (journal_of place)
+place_state place = state_of_place (place_journal place)
 
 -- the files of a place with these files in it
-abbrev pub stored_of : Option MemFiles → Option (List StoredFile)
-stored_of None = None
-stored_of (Some files) = stored_files files
+abbrev pub stored_in_place : Option MemFiles → Option (List StoredFile)
+stored_in_place None = None
+stored_in_place (Some files) = stored_files files
 
 -- the numbers of the calls on these files that fail
 abbrev pub failing_of : Option MemFiles → List ℕ
@@ -63,7 +63,7 @@ failing_of None = []
 failing_of (Some files) = failing_numbers (files_row files)
 
 abbrev pub place_stored : MemPlace → Option (List StoredFile)
-place_stored place = stored_of (files_of place)
+place_stored place = stored_in_place (place_files place)
 
 -- the same files with the same record, but for the count of faults
 pub record SameFiles (old new : MemFiles) : Type 0 where
@@ -82,13 +82,13 @@ moments_of (Some j) (Some f) = min
 -- a stop behind the first k counted calls may leave this
 abbrev pub LeftAt : Option MemJournal → ℕ → Image → Type 0
 LeftAt None k image = Unit {0}
-LeftAt (Some j) k image = LeavesOf (journal_first j) (take_while (is_until k) (journal_calls j)) image
+LeftAt (Some j) k image = LeavesOf (journal_first j) (take_while (is_call_until k) (journal_calls j)) image
 
 -- what a stop of this kind behind the first k counted calls leaves of the slots
 abbrev pub stop_image : StopKind → Option MemJournal → ℕ → Option Image
 stop_image kind None k = None
 stop_image kind (Some j) k =
-    Some (image_after_stop kind (journal_first j) (take_while (is_until k) (journal_calls j)))
+    Some (image_after_stop kind (journal_first j) (take_while (is_call_until k) (journal_calls j)))
 
 -- what a stop of this kind behind the first k counted calls leaves of the files
 abbrev pub stop_files : StopKind → ℕ → Option MemFiles → Option (List StoredFile)

@@ -53,10 +53,10 @@ abbrev pub after_calls : Slot → List ℕ → List Call → SlotState
 after_calls slot first calls = fold (after_call slot) (new_slot first) calls
 
 -- bytes that a stop may leave: what is durable, with each write since then cut short somehow
-abbrev pub Leaves : List (ℕ × List ℕ) → List ℕ → List ℕ → Type 0
-Leaves [] durable bytes = bytes ≡ durable
-Leaves (write ∷ older) durable bytes =
-    (before : List ℕ) × Leaves older durable before × Torn write.0 (length write.1) before bytes
+abbrev pub LeavesBytes : List (ℕ × List ℕ) → List ℕ → List ℕ → Type 0
+LeavesBytes [] durable bytes = bytes ≡ durable
+LeavesBytes (write ∷ older) durable bytes =
+    (before : List ℕ) × LeavesBytes older durable before × Torn write.0 (length write.1) before bytes
 
 -- each byte with all of its bits turned over
 abbrev pub invert : List ℕ → List ℕ
@@ -80,16 +80,16 @@ seen_after first calls = record { a = (after_calls A first.a calls).seen; b = (a
 -- a stop after these calls may leave this
 abbrev pub LeavesOf : Image → List Call → Image → Type 0
 LeavesOf first calls image =
-    Leaves (after_calls A first.a calls).pending (after_calls A first.a calls).durable image.a
-    × Leaves (after_calls B first.b calls).pending (after_calls B first.b calls).durable image.b
+    LeavesBytes (after_calls A first.a calls).pending (after_calls A first.a calls).durable image.a
+    × LeavesBytes (after_calls B first.b calls).pending (after_calls B first.b calls).durable image.b
 
 -- a stop after the first t calls, or after more of them, may have left this
 abbrev pub LeftSince : Image → List Call → ℕ → Image → Type 0
 LeftSince first calls t image = (k : ℕ) × (t ≤ k) × (k ≤ length calls) × LeavesOf first (take k calls) image
 
 -- what the disk means after these calls
-abbrev pub state_after : Image → List Call → DiskState
-state_after first calls = record {
+abbrev pub disk_after : Image → List Call → DiskState
+disk_after first calls = record {
   seen = Some (seen_after first calls);
   may_leave = LeavesOf first calls;
   moment = length calls;

@@ -5,7 +5,7 @@ use Rattle.tsdb_outside.specs.Disk.{Image, DiskState}
 use Rattle.tsdb_outside.specs.declared.disk.Slot.{Slot}
 use Rattle.mem_outside.specs.declared.record.Call.{Call}
 use Rattle.mem_outside.specs.declared.record.RecordedDisk.{RecordedDisk}
-use Rattle.mem_outside.specs.Record.{SlotState, after_kind, seen_after, state_after}
+use Rattle.mem_outside.specs.Record.{SlotState, after_kind, seen_after, disk_after}
 use Rattle.mem_outside.specs.Slots.{pair_image}
 
 -- what the slots had at first
@@ -17,8 +17,8 @@ abbrev pub disk_calls : RecordedDisk → List Call
 disk_calls disk = disk.calls.items
 
 -- the call stands in the row at this place or before it
-abbrev pub is_until : ℕ → Call → Bool
-is_until moment call = nat_le call.at moment
+abbrev pub is_call_until : ℕ → Call → Bool
+is_call_until moment call = nat_le call.at moment
 
 -- the greatest place in the row of these calls, or 0
 abbrev pub last_of_calls : List Call → ℕ
@@ -30,7 +30,7 @@ disk_seen disk = seen_after (disk_first disk) (disk_calls disk)
 
 -- what the disk means
 abbrev pub disk_state : RecordedDisk → DiskState
-disk_state disk = state_after (disk_first disk) (disk_calls disk)
+disk_state disk = disk_after (disk_first disk) (disk_calls disk)
 
 -- there is one call more, which does this to its slot
 pub record RecordsCall (slot : Slot) (effect : SlotState → SlotState) (old new : RecordedDisk) : Type 0 where

@@ -1,6 +1,6 @@
 -- The bytes of a pair of slots.
 use Rattle.tsdb_outside.specs.Disk.{Image}
-use Rattle.mem_outside.specs.declared.record.Pair.{Pair}
+use Rattle.mem_outside.specs.declared.record.SlotPair.{SlotPair}
 
-abbrev pub pair_image : Pair → Image
+abbrev pub pair_image : SlotPair → Image
 pair_image pair = record { a = pair.a.items; b = pair.b.items }

@@ -3,7 +3,7 @@ use Rattle.std.specs.Prelude.{◌≡◌, ℕ, List, [], ◌∷◌, length, true,
 use Rattle.std.specs.Arc.{arc_value}
 use Rattle.std.proofs.Common.{arith}
 use Rattle.tsdb_outside.specs.Files.{NamedFile, Store, Tells}
-use Rattle.mem_outside.specs.declared.entry.Entry.{Entry}
+use Rattle.mem_outside.specs.declared.entry.StoredEntry.{StoredEntry}
 use Rattle.mem_outside.specs.declared.entry.MemSealed.{MemSealed}
 use Rattle.mem_outside.specs.declared.entry.MemRight.{MemRight}
 use Rattle.mem_outside.specs.Entry.{named_file}
@@ -13,7 +13,7 @@ abbrev pub store_of : List ℕ → Store
 store_of directory = record { directory = directory; tells = true }
 
 -- the node of the record of the file
-abbrev pub sealed_node : MemSealed → List Entry
+abbrev pub sealed_node : MemSealed → List StoredEntry
 sealed_node sealed = sealed.node
 
 -- the store of the file
@@ -29,7 +29,8 @@ abbrev pub sealed_rights : MemSealed → ℕ
 sealed_rights sealed = sealed.rights
 
 -- a token with one node tells its bytes
-pub tells_node : (store : Store) (node : List Entry) → length node ≡ 1 → store.tells ≡ true → Tells (named_file store node)
+pub tells_node : (store : Store) (node : List StoredEntry) → length node ≡ 1 → store.tells ≡ true
+    → Tells (named_file store node)
 tells_node store [] one told = let no_node : ⊥ = omega (arith, one) in absurd no_node
 tells_node store (entry ∷ rest) one told = told
 

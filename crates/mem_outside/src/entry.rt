@@ -4,10 +4,10 @@
 ghost use Rattle.std.specs.Prelude.{◌≡◌, ◌≢◌, ℕ, ◌+◌, ◌-◌, ◌<◌, ◌^◌, ◌∷◌, ◌++◌, [], length, map, filter, take, drop};
 ghost use Rattle.std.specs.Prelude.{slice_index_or, Contains, IfOk, IfSome, MatchOption, OnErr, OnOk, Some, None};
 ghost use Rattle.std.specs.Arc.{arc_value};
-ghost use Rattle.mem_outside.specs.declared.entry.Entry.{Entry};
+ghost use Rattle.mem_outside.specs.declared.entry.StoredEntry.{StoredEntry};
 ghost use Rattle.mem_outside.specs.Entry.{entry_file, named_file, is_there, entry_files, last_place, last_of, removed};
-ghost use Rattle.mem_outside.specs.Entry.{handed_in, TakesNode, failed_at, is_left, is_cut, half_file, files_left};
-ghost use Rattle.tsdb_outside.specs.Files.{numbers_of};
+ghost use Rattle.mem_outside.specs.Entry.{handed_in, TakesFileNode, failed_at, is_left, is_cut, half_file, files_left};
+ghost use Rattle.tsdb_outside.specs.Files.{stored_file_numbers};
 
 use crate::record::StopKind;
 use std::alloc::{AllocError, Global};
@@ -18,14 +18,14 @@ use tsdb_outside::{ReadRight, SealedFile};
 
 /// A stored file, with the places in the row of the calls that stored it (0 where it was handed in) and removed it.
 #[derive(Drop)]
-pub struct Entry {
+pub struct StoredEntry {
     pub number: u64,
     pub bytes: Arc<Vec<u8>>,
     pub put_at: u64,
     pub removed_at: Option<u64>,
 }
 
-impl Entry {
+impl StoredEntry {
     // Whether a stop behind this many counted calls leaves it.
     fn is_there(&self, moment: u64) -> bool
         ensures { result ≡ is_there moment self.now }
@@ -71,11 +71,11 @@ impl Entry {
     }
 
     // The first half of the file, as one that was handed in.
-    fn half(&self, alloc: Global) -> Result<Entry, AllocError>
+    fn half(&self, alloc: Global) -> Result<StoredEntry, AllocError>
         ensures { IfOk result (λ half. entry_file half ≡ half_file self.now) }
     {
         let bytes = self.bytes[..self.bytes.len() / 2].to_vec(alloc)?;
-        Ok(Entry {
+        Ok(StoredEntry {
             number: self.number,
             bytes: Arc::new(alloc, bytes)?,
             put_at: 0,
@@ -94,10 +94,10 @@ impl Entry {
     }
 
     // The same file, as one that was handed in.
-    fn copy(&self) -> Result<Entry, AllocError>
+    fn copy(&self) -> Result<StoredEntry, AllocError>
         ensures { IfOk result (λ copy. entry_file copy ≡ entry_file self.now) }
     {
-        Ok(Entry {
+        Ok(StoredEntry {
             number: self.number,
             bytes: Arc::try_clone(&self.bytes)?,
             put_at: 0,
@@ -110,12 +110,12 @@ impl Entry {
 pub fn new_entries(
     alloc: Global,
     files: Vec<(FileNumber, Vec<u8>)>,
-) -> Result<LinkedList<Entry>, AllocError>
+) -> Result<LinkedList<StoredEntry>, AllocError>
     ensures { IfOk result (λ entries. entry_files entries ≡ map handed_in files.items) }
 {
     let mut entries = LinkedList::new(alloc);
     for (number, bytes) in files {
-        entries.push_back(Entry {
+        entries.push_back(StoredEntry {
             number: number.0,
             bytes: Arc::new(alloc, bytes)?,
             put_at: 0,
@@ -126,7 +126,7 @@ pub fn new_entries(
 }
 
 /// The greatest place in the row of these entries, or 0.
-pub fn last_of(entries: &LinkedList<Entry>) -> u64
+pub fn last_of(entries: &LinkedList<StoredEntry>) -> u64
     ensures { result ≡ last_of entries.now }
 {
     entries
@@ -136,10 +136,10 @@ pub fn last_of(entries: &LinkedList<Entry>) -> u64
 
 // Copies the entries that such a stop leaves whole.
 fn copy_whole(
-    entries: &LinkedList<Entry>,
+    entries: &LinkedList<StoredEntry>,
     kind: StopKind,
     moment: u64,
-    into: &mut LinkedList<Entry>,
+    into: &mut LinkedList<StoredEntry>,
 ) -> Result<(), AllocError>
     ensures { OnOk result (entry_files into.new
         ≡ entry_files into.old ++ entry_files (filter (is_left kind moment) entries.now)) }
@@ -155,10 +155,10 @@ fn copy_whole(
 // Copies half of each entry of which such a stop leaves a part.
 fn copy_cut(
     alloc: Global,
-    entries: &LinkedList<Entry>,
+    entries: &LinkedList<StoredEntry>,
     kind: StopKind,
     moment: u64,
-    into: &mut LinkedList<Entry>,
+    into: &mut LinkedList<StoredEntry>,
 ) -> Result<(), AllocError>
     ensures { OnOk result (entry_files into.new
         ≡ entry_files into.old ++ map half_file (filter (is_cut kind moment) entries.now)) }
@@ -174,10 +174,10 @@ fn copy_cut(
 /// Copies what a stop of this kind behind this many counted calls leaves of these entries.
 pub fn copy_left(
     alloc: Global,
-    entries: &LinkedList<Entry>,
+    entries: &LinkedList<StoredEntry>,
     kind: StopKind,
     moment: u64,
-    into: &mut LinkedList<Entry>,
+    into: &mut LinkedList<StoredEntry>,
 ) -> Result<(), AllocError>
     ensures { OnOk result (entry_files into.new
         ≡ entry_files into.old ++ files_left kind moment entries.now) }
@@ -187,7 +187,7 @@ pub fn copy_left(
 }
 
 // Marks the first entry as removed by the call at this place.
-fn mark_removed(node: &mut LinkedList<Entry>, at: u64)
+fn mark_removed(node: &mut LinkedList<StoredEntry>, at: u64)
     requires { length node.old ≡ 1 }
     ensures { node.new ≡ map (removed at) node.old }
 {
@@ -197,7 +197,7 @@ fn mark_removed(node: &mut LinkedList<Entry>, at: u64)
 }
 
 /// Puts the file with this node behind those that were removed, as one that the call at this place removed.
-pub fn put_removed(gone: &mut LinkedList<Entry>, node: LinkedList<Entry>, at: u64)
+pub fn put_removed(gone: &mut LinkedList<StoredEntry>, node: LinkedList<StoredEntry>, at: u64)
     requires { length node ≡ 1 }
     ensures { length gone.old + length node < 2 ^ 63 → gone.new ≡ gone.old ++ map (removed at) node }
 {
@@ -207,7 +207,10 @@ pub fn put_removed(gone: &mut LinkedList<Entry>, node: LinkedList<Entry>, at: u6
 }
 
 // Takes the node at this place out.
-fn take_at(entries: &mut LinkedList<Entry>, at: usize) -> Result<LinkedList<Entry>, AllocError>
+fn take_at(
+    entries: &mut LinkedList<StoredEntry>,
+    at: usize,
+) -> Result<LinkedList<StoredEntry>, AllocError>
     requires at { at < length entries.old }
     requires fits { length entries.old < 2 ^ 63 }
     ensures node { IfOk result (λ node. node ≡ take 1 (drop at entries.old)) }
@@ -228,10 +231,10 @@ fn take_at(entries: &mut LinkedList<Entry>, at: usize) -> Result<LinkedList<Entr
 }
 
 // Where the first file with this number stands.
-fn place_of(entries: &LinkedList<Entry>, number: u64) -> Option<usize>
+fn place_of(entries: &LinkedList<StoredEntry>, number: u64) -> Option<usize>
     ensures first { MatchOption result
-        ((k : ℕ) (d : Entry) → k < length entries.now → (slice_index_or entries.now k d).number ≢ number)
-        (λ at. at < length entries.now × ((d : Entry) → (slice_index_or entries.now at d).number ≡ number)) }
+        ((k : ℕ) (d : StoredEntry) → k < length entries.now → (slice_index_or entries.now k d).number ≢ number)
+        (λ at. at < length entries.now × ((d : StoredEntry) → (slice_index_or entries.now at d).number ≡ number)) }
     ensures fits { length entries.now < 2 ^ 63 }
 {
     entries.iter().position(|entry| entry.number == number)
@@ -239,11 +242,11 @@ fn place_of(entries: &LinkedList<Entry>, number: u64) -> Option<usize>
 
 /// Takes the node of the file with this number out, or none where it is not there.
 pub fn take_node(
-    entries: &mut LinkedList<Entry>,
+    entries: &mut LinkedList<StoredEntry>,
     number: u64,
-) -> Result<Option<LinkedList<Entry>>, AllocError>
-    ensures none { IfOk result (λ found. MatchOption found (¬ Contains (numbers_of (entry_files entries.old)) number)
-        (λ node. TakesNode number node entries.old entries.new)) }
+) -> Result<Option<LinkedList<StoredEntry>>, AllocError>
+    ensures none { IfOk result (λ found. MatchOption found (¬ Contains (stored_file_numbers (entry_files entries.old)) number)
+        (λ node. TakesFileNode number node entries.old entries.new)) }
     ensures same { IfOk result (λ found. found ≡ None → entries.new ≡ entries.old) }
     ensures err { OnErr result (entries.new ≡ entries.old) }
 {
@@ -255,7 +258,7 @@ pub fn take_node(
 
 /// Names a file in memory. It holds the node of the file's record, and the directory of its store.
 pub struct MemSealed {
-    node: LinkedList<Entry>,
+    node: LinkedList<StoredEntry>,
     directory: Arc<Vec<u8>>,
     rights: u64,
     // It is one node.
@@ -268,7 +271,7 @@ impl MemSealed {
     pub(crate) fn new(
         alloc: Global,
         directory: Arc<Vec<u8>>,
-        entry: Entry,
+        entry: StoredEntry,
     ) -> Result<MemSealed, AllocError>
         ensures node { IfOk result (λ sealed. sealed_node sealed ≡ entry ∷ []) }
         ensures store { IfOk result (λ sealed. sealed_store sealed ≡ store_of (arc_value directory).items) }
@@ -283,7 +286,7 @@ impl MemSealed {
         })
     }
 
-    pub(crate) fn of_node(directory: Arc<Vec<u8>>, node: LinkedList<Entry>) -> MemSealed
+    pub(crate) fn of_node(directory: Arc<Vec<u8>>, node: LinkedList<StoredEntry>) -> MemSealed
         requires { length node ≡ 1 }
         ensures node { sealed_node result ≡ node }
         ensures store { sealed_store result ≡ store_of (arc_value directory).items }
@@ -296,7 +299,7 @@ impl MemSealed {
         }
     }
 
-    pub(crate) fn into_node(self) -> LinkedList<Entry>
+    pub(crate) fn into_node(self) -> LinkedList<StoredEntry>
         ensures node { result ≡ sealed_node self }
         ensures one { length result ≡ 1 }
     {

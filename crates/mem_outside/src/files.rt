@@ -8,19 +8,19 @@ ghost use Rattle.std.specs.List.Sorted.{IsStrictlyIncreasing};
 ghost use Rattle.tsdb_base.specs.Causes.{Rose};
 ghost use Rattle.tsdb_outside.specs.Causes.{HasCause, HasStoreCause};
 ghost use Rattle.tsdb_outside.specs.Disk.{WhereTold};
-ghost use Rattle.tsdb_outside.specs.Files.{IsFileNumber, Names, numbers_of, plain_numbers, TakesOut, PutsBack};
+ghost use Rattle.tsdb_outside.specs.Files.{IsFileNumber, Names, stored_file_numbers, plain_numbers, TakesOut, PutsBack};
 ghost use Rattle.tsdb_outside.specs.Limits.{FitsSlot};
 ghost use Rattle.mem_outside.specs.Entry.{entry_files, files_left, last_of};
 ghost use Rattle.mem_outside.specs.Files.{port_faults, port_gone, port_row, port_store, files_faults};
 ghost use Rattle.mem_outside.specs.Files.{files_at_rest, files_gone, files_row, files_store, stored_files, AddsRemoved};
 ghost use Rattle.mem_outside.specs.Files.{port_bytes_read, port_last, files_last, AddsFailed, IsPutAt};
-ghost use Rattle.mem_outside.specs.Row.{never_fails, IsDrawn, IsFailing};
+ghost use Rattle.mem_outside.specs.Row.{never_fails, IsCountedFromOne, IsFailing};
 ghost use Rattle.tsdb_outside.specs.declared.faults.StoreFault.TheVariants as fault;
 ghost use Rattle.mem_outside.specs.Tokens.{sealed_node, sealed_file, sealed_rights, store_of, right_bytes, right_file};
 
-use crate::entry::{Entry, MemRight, MemSealed, copy_left, last_of, put_removed, take_node};
+use crate::entry::{MemRight, MemSealed, StoredEntry, copy_left, last_of, put_removed, take_node};
 use crate::record::StopKind;
-use crate::row::{Drawn, Row};
+use crate::row::{CallRow, Drawn};
 use std::alloc::{AllocError, Global};
 use std::collections::LinkedList;
 use std::sync::Arc;
@@ -32,9 +32,9 @@ use tsdb_outside::{Counted, Failed, Files, Port, StoreFault, list_of_numbers};
 pub struct MemPort {
     alloc: Global,
     directory: Arc<Vec<u8>>,
-    row: Arc<Row>,
+    row: Arc<CallRow>,
     last: Drawn,
-    gone: LinkedList<Entry>,
+    gone: LinkedList<StoredEntry>,
     bytes_read: u64,
     faults: u64,
 }
@@ -49,7 +49,7 @@ impl MemPort {
 
     // Makes a counted call, which may fail by its number.
     fn call(&mut self) -> Result<(), Failed>
-        ensures drawn { IsDrawn (port_last self.new) }
+        ensures drawn { IsCountedFromOne (port_last self.new) }
         ensures fails { IsErr result ↔ IsFailing (port_row self.old) (port_last self.new) }
         ensures never { never_fails (port_row self.old) → IsOk result }
         ensures cause { HasCause (port_faults self.old) (port_faults self.new) result }
@@ -98,14 +98,14 @@ impl Port for MemPort {
         ensures place { IfOk result (λ sealed. IsPutAt (port_last self.new).place (sealed_node sealed)) }
         ensures failed { IsErrOf result fault.Failed
             → AddsFailed number.0 bytes.now (port_last self.new).place (port_gone self.old) (port_gone self.new) }
-        ensures drawn { IsDrawn (port_last self.new) }
+        ensures drawn { IsCountedFromOne (port_last self.new) }
         ensures fails { IsErrOf result fault.Failed → IsFailing (port_row self.old) (port_last self.new) }
         ensures done { OnOk result (¬ IsFailing (port_row self.old) (port_last self.new)) }
         ensures bytes_read { port_bytes_read self.new ≡ port_bytes_read self.old }
     {
         let answer = self.call();
         let bytes = Arc::new(self.alloc, bytes.to_vec(self.alloc)?)?;
-        let entry = Entry {
+        let entry = StoredEntry {
             number: number.0,
             bytes,
             put_at: self.last.place,
@@ -128,7 +128,7 @@ impl Port for MemPort {
         ensures cause { HasCause (port_faults self.old) (port_faults self.new) result }
 
         // It fails by its number alone.
-        ensures drawn { IsDrawn (port_last self.new) }
+        ensures drawn { IsCountedFromOne (port_last self.new) }
         ensures bytes_read { OnOk result (port_bytes_read self.new
             ≡ min (port_bytes_read self.old + length into.new) (2 ^ 64 - 1)) }
         ensures none_read { OnErr result (port_bytes_read self.new ≡ port_bytes_read self.old) }
@@ -152,7 +152,7 @@ impl Port for MemPort {
         ensures cause { HasCause (port_faults self.old) (port_faults self.new) result }
 
         // It fails by its number alone.
-        ensures drawn { IsDrawn (port_last self.new) }
+        ensures drawn { IsCountedFromOne (port_last self.new) }
         ensures bytes_read { port_bytes_read self.new ≡ port_bytes_read self.old }
         ensures fails { IsErr result ↔ IsFailing (port_row self.old) (port_last self.new) }
         ensures never { never_fails (port_row self.old) → IsOk result }
@@ -173,7 +173,7 @@ impl Port for MemPort {
         // The file is gone whatever it returns, which is by its number alone.
         ensures gone { AddsRemoved (port_last self.new).place (sealed_node sealed)
             (port_gone self.old) (port_gone self.new) }
-        ensures drawn { IsDrawn (port_last self.new) }
+        ensures drawn { IsCountedFromOne (port_last self.new) }
         ensures fails { IsErr result ↔ IsFailing (port_row self.old) (port_last self.new) }
         ensures bytes_read { port_bytes_read self.new ≡ port_bytes_read self.old }
         ensures row { port_row self.new ≡ port_row self.old }
@@ -208,10 +208,10 @@ impl Port for MemPort {
 pub struct MemFiles {
     alloc: Global,
     directory: Arc<Vec<u8>>,
-    row: Arc<Row>,
+    row: Arc<CallRow>,
     last: Drawn,
-    at_rest: LinkedList<Entry>,
-    gone: LinkedList<Entry>,
+    at_rest: LinkedList<StoredEntry>,
+    gone: LinkedList<StoredEntry>,
     faults: u64,
 }
 
@@ -220,8 +220,8 @@ impl MemFiles {
     pub(crate) fn new(
         alloc: Global,
         directory: Arc<Vec<u8>>,
-        row: Arc<Row>,
-        at_rest: LinkedList<Entry>,
+        row: Arc<CallRow>,
+        at_rest: LinkedList<StoredEntry>,
     ) -> MemFiles
         ensures store { files_store result ≡ store_of (arc_value directory).items }
         ensures at_rest { files_at_rest result ≡ at_rest }
@@ -274,7 +274,7 @@ impl MemFiles {
         &self,
         moment: u64,
         kind: StopKind,
-    ) -> Result<LinkedList<Entry>, AllocError>
+    ) -> Result<LinkedList<StoredEntry>, AllocError>
         ensures { IfOk result (λ left. entry_files left
             ≡ files_left kind moment (files_at_rest self.now) ++ files_left kind moment (files_gone self.now)) }
     {
@@ -286,7 +286,7 @@ impl MemFiles {
 
     // Makes a counted call, which may fail by its number.
     fn call(&mut self) -> Result<(), Failed>
-        ensures drawn { IsDrawn (files_last self.new) }
+        ensures drawn { IsCountedFromOne (files_last self.new) }
         ensures fails { IsErr result ↔ IsFailing (files_row self.old) (files_last self.new) }
         ensures never { never_fails (files_row self.old) → IsOk result }
         ensures cause { HasCause (files_faults self.old) (files_faults self.new) result }
@@ -328,12 +328,12 @@ impl Files for MemFiles {
         ensures numbers { IfOk result (λ list. All IsFileNumber (plain_numbers list.items)) }
         ensures rising { IfOk result (λ list. IsStrictlyIncreasing (plain_numbers list.items)) }
         ensures exact { IfOk result (λ list. IfSome (stored_files self.old) (λ files. (n : ℕ) → IsFileNumber n
-            → (Contains (plain_numbers list.items) n ↔ Contains (numbers_of files) n))) }
+            → (Contains (plain_numbers list.items) n ↔ Contains (stored_file_numbers files) n))) }
         ensures same { stored_files self.new ≡ stored_files self.old }
         ensures cause { HasStoreCause (files_faults self.old) (files_faults self.new) result }
 
         // It fails by its number or without memory alone, and leaves the record.
-        ensures drawn { IsDrawn (files_last self.new) }
+        ensures drawn { IsCountedFromOne (files_last self.new) }
         ensures fails { IsErrOf result fault.Failed ↔ IsFailing (files_row self.old) (files_last self.new) }
         ensures no_fault { never_fails (files_row self.old) → files_faults self.new ≡ files_faults self.old }
         ensures record { files_at_rest self.new ≡ files_at_rest self.old × files_gone self.new ≡ files_gone self.old }
@@ -351,7 +351,7 @@ impl Files for MemFiles {
 
     fn fetch(&mut self, number: FileNumber) -> Result<Option<MemSealed>, StoreFault>
         ensures none { IfOk result (λ found. MatchOption found
-            (IfSome (stored_files self.old) (λ files. ¬ Contains (numbers_of files) number.0))
+            (IfSome (stored_files self.old) (λ files. ¬ Contains (stored_file_numbers files) number.0))
             (λ sealed. WhereTold (TakesOut (sealed_file sealed)) (stored_files self.old) (stored_files self.new))) }
         ensures number { IfOk result (λ found. IfSome found (λ sealed.
             (sealed_file sealed).number ≡ number.0 × sealed_rights sealed ≡ 0)) }
@@ -362,7 +362,7 @@ impl Files for MemFiles {
         ensures cause { HasStoreCause (files_faults self.old) (files_faults self.new) result }
 
         // It fails by its number or without memory alone.
-        ensures drawn { IsDrawn (files_last self.new) }
+        ensures drawn { IsCountedFromOne (files_last self.new) }
         ensures fails { IsErrOf result fault.Failed ↔ IsFailing (files_row self.old) (files_last self.new) }
         ensures no_fault { never_fails (files_row self.old) → files_faults self.new ≡ files_faults self.old }
         ensures gone { files_gone self.new ≡ files_gone self.old }

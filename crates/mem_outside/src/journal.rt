@@ -5,12 +5,12 @@ ghost use Rattle.std.specs.Option.{ForSome};
 ghost use Rattle.tsdb_outside.specs.Causes.{HasCause};
 ghost use Rattle.tsdb_outside.specs.Limits.{FitsSlot};
 ghost use Rattle.mem_outside.specs.Laws.{state_is_lawful};
-ghost use Rattle.mem_outside.specs.RecordedDisk.{is_until, last_of_calls};
+ghost use Rattle.mem_outside.specs.RecordedDisk.{is_call_until, last_of_calls};
 ghost use Rattle.std.specs.List.{prefix_len};
 
 use crate::calls::Calls;
-use crate::record::{Outcome, Pair, RecordedDisk, StopKind};
-use crate::row::Row;
+use crate::record::{Outcome, RecordedDisk, SlotPair, StopKind};
+use crate::row::CallRow;
 use std::alloc::{AllocError, Global};
 use std::sync::Arc;
 use tsdb_base::limits::END_OF_SLOT;
@@ -31,7 +31,7 @@ fn is_within_limit(at: u64, length: usize) -> bool
 pub struct MemJournal {
     disk: RecordedDisk,
     numbers: Calls,
-    row: Arc<Row>,
+    row: Arc<CallRow>,
 }
 
 impl MemJournal {
@@ -43,9 +43,9 @@ impl MemJournal {
     // Two slots with these bytes, all of them durable.
     pub(crate) fn new(
         alloc: Global,
-        slots: Pair,
+        slots: SlotPair,
         fails: Vec<u64>,
-        row: Arc<Row>,
+        row: Arc<CallRow>,
     ) -> Result<MemJournal, AllocError>
         ensures first { IfOk result (λ journal. journal_first journal ≡ pair_image slots) }
         ensures calls { IfOk result (λ journal. journal_calls journal ≡ []) }
@@ -61,7 +61,7 @@ impl MemJournal {
 
     // How many of its calls stand in the row at this place or before it, up to the first behind it.
     pub(crate) fn count_until(&self, moment: u64) -> usize
-        ensures count { result ≡ prefix_len (is_until moment) (journal_calls self.now) }
+        ensures count { result ≡ prefix_len (is_call_until moment) (journal_calls self.now) }
         ensures bound { result ≤ length (journal_calls self.now) }
     {
         self.disk.count_until(moment)
@@ -89,12 +89,12 @@ impl MemJournal {
     }
 
     // What a stop of this kind leaves behind the first `moment` calls.
-    pub(crate) fn after_stop(&self, moment: usize, stop: StopKind) -> Result<Pair, AllocError>
+    pub(crate) fn after_stop(&self, moment: usize, stop: StopKind) -> Result<SlotPair, AllocError>
         requires { moment ≤ length (journal_calls self.now) }
         ensures { IfOk result (λ slots. pair_image slots ≡
             image_after_stop stop (journal_first self.now) (take moment (journal_calls self.now))) }
     {
-        Ok(Pair {
+        Ok(SlotPair {
             a: self.disk.after_stop(Slot::A, moment, stop)?,
             b: self.disk.after_stop(Slot::B, moment, stop)?,
         })

@@ -5,11 +5,11 @@ ghost use Rattle.tsdb_outside.specs.declared.faults.StoreFault.TheVariants as fa
 ghost use Rattle.tsdb_outside.specs.Causes.{HasStoreCause, RisesOnlyByFailed};
 ghost use Rattle.mem_outside.specs.PlaceLaws.{place_is_lawful};
 
-use crate::entry::{Entry, new_entries};
+use crate::entry::{StoredEntry, new_entries};
 use crate::files::MemFiles;
 use crate::journal::MemJournal;
-use crate::record::{Pair, StopKind};
-use crate::row::Row;
+use crate::record::{SlotPair, StopKind};
+use crate::row::CallRow;
 use std::alloc::Global;
 use std::collections::LinkedList;
 use std::sync::Arc;
@@ -45,7 +45,7 @@ impl MemPlace {
     ghost use Rattle.mem_outside.specs.Entry.{entry_files, handed_in};
     ghost use Rattle.mem_outside.specs.Slots.{pair_image};
     ghost use Rattle.mem_outside.specs.Journal.{journal_numbers};
-    ghost use Rattle.mem_outside.specs.Place.{journal_of, files_of, failing_of, place_faults, place_state};
+    ghost use Rattle.mem_outside.specs.Place.{place_journal, place_files, failing_of, place_faults, place_state};
     ghost use Rattle.mem_outside.specs.Place.{place_stored, place_asked, moments_of, LeftAt, stop_image, stop_files};
     ghost use Rattle.mem_outside.specs.Place.{IsDurable};
     ghost use Rattle.mem_outside.specs.Place.{slots_image};
@@ -62,37 +62,37 @@ impl MemPlace {
         ensures durable { IfOk result (λ place. IsDurable (slots_image slots) (place_state place)) }
         ensures moment { IfOk result (λ place. (place_state place).moment ≡ 0) }
         ensures stored { IfOk result (λ place. place_stored place ≡ Some (map handed_in files.items)) }
-        ensures numbers { IfOk result (λ place. IfSome (journal_of place)
+        ensures numbers { IfOk result (λ place. IfSome (place_journal place)
             (λ journal. journal_numbers journal ≡ record { fails = fails.journal; made = 0; faults = 0 })) }
-        ensures failing { IfOk result (λ place. failing_of (files_of place) ≡ fails.files.items) }
-        ensures in_it { IfOk result (λ place. IsSome (journal_of place)) }
+        ensures failing { IfOk result (λ place. failing_of (place_files place) ≡ fails.files.items) }
+        ensures in_it { IfOk result (λ place. IsSome (place_journal place)) }
         ensures asked { IfOk result (λ place. place_asked place ≡ None) }
         ensures no_faults { IfOk result (λ place. place_faults place ≡ 0) }
     {
         let [a, b] = slots;
         let at_rest = new_entries(alloc, files)?;
-        MemPlace::from_parts(alloc, Pair { a, b }, at_rest, fails)
+        MemPlace::from_parts(alloc, SlotPair { a, b }, at_rest, fails)
     }
 
     // A place with these slots and these files at rest.
     fn from_parts(
         alloc: Global,
-        slots: Pair,
-        at_rest: LinkedList<Entry>,
+        slots: SlotPair,
+        at_rest: LinkedList<StoredEntry>,
         fails: Fails,
     ) -> Result<MemPlace, Memory>
         ensures seen { IfOk result (λ place. (place_state place).seen ≡ Some (pair_image slots)) }
         ensures durable { IfOk result (λ place. IsDurable (pair_image slots) (place_state place)) }
         ensures moment { IfOk result (λ place. (place_state place).moment ≡ 0) }
         ensures stored { IfOk result (λ place. place_stored place ≡ Some (entry_files at_rest)) }
-        ensures numbers { IfOk result (λ place. IfSome (journal_of place)
+        ensures numbers { IfOk result (λ place. IfSome (place_journal place)
             (λ journal. journal_numbers journal ≡ record { fails = fails.journal; made = 0; faults = 0 })) }
-        ensures failing { IfOk result (λ place. failing_of (files_of place) ≡ fails.files.items) }
-        ensures in_it { IfOk result (λ place. IsSome (journal_of place)) }
+        ensures failing { IfOk result (λ place. failing_of (place_files place) ≡ fails.files.items) }
+        ensures in_it { IfOk result (λ place. IsSome (place_journal place)) }
         ensures asked { IfOk result (λ place. place_asked place ≡ None) }
         ensures no_faults { IfOk result (λ place. place_faults place ≡ 0) }
     {
-        let row = Arc::new(alloc, Row::new(fails.files))?;
+        let row = Arc::new(alloc, CallRow::new(fails.files))?;
         let journal = MemJournal::new(alloc, slots, fails.journal, Arc::try_clone(&row)?)?;
         let directory = Arc::new(alloc, Vec::new(alloc))?;
         let files = MemFiles::new(alloc, directory, row, at_rest);
@@ -107,8 +107,8 @@ impl MemPlace {
     /// How many moments it can be stopped at: one before the first counted call, and one behind each call of the row up
     /// to the last that changed something. None while its parts are out.
     pub fn moments(&self) -> u64
-        ensures count { result ≡ moments_of (journal_of self.now) (files_of self.now) }
-        ensures in_it { 0 < result → IsSome (journal_of self.now) }
+        ensures count { result ≡ moments_of (place_journal self.now) (place_files self.now) }
+        ensures in_it { 0 < result → IsSome (place_journal self.now) }
     {
         match &self.parts {
             Some(parts) => {
@@ -124,17 +124,18 @@ impl MemPlace {
     /// file that was handed to `remove` and each whose `put` failed. A `Scrambled` one also leaves the first half of each
     /// file whose `put` failed or is the next call. None of its calls fails.
     pub fn after_stop(&self, moment: u64, kind: StopKind) -> Result<MemPlace, Memory>
-        requires { IsSome (journal_of self.now) }
-        ensures seen { IfOk result (λ place. (place_state place).seen ≡ stop_image kind (journal_of self.now) moment) }
-        ensures allowed { IfOk result (λ place. IfSome (place_state place).seen (LeftAt (journal_of self.now) moment)) }
-        ensures stored { IfOk result (λ place. place_stored place ≡ stop_files kind moment (files_of self.now)) }
+        requires { IsSome (place_journal self.now) }
+        ensures seen { IfOk result (λ place. (place_state place).seen
+            ≡ stop_image kind (place_journal self.now) moment) }
+        ensures allowed { IfOk result (λ place. IfSome (place_state place).seen (LeftAt (place_journal self.now) moment)) }
+        ensures stored { IfOk result (λ place. place_stored place ≡ stop_files kind moment (place_files self.now)) }
         ensures durable { IfOk result (λ place. IfSome (place_state place).seen
             (λ image. IsDurable image (place_state place))) }
         ensures moment { IfOk result (λ place. (place_state place).moment ≡ 0) }
-        ensures numbers { IfOk result (λ place. IfSome (journal_of place)
+        ensures numbers { IfOk result (λ place. IfSome (place_journal place)
             (λ journal. (journal_numbers journal).fails.items ≡ [])) }
-        ensures never { IfOk result (λ place. failing_of (files_of place) ≡ []) }
-        ensures in_it { IfOk result (λ place. IsSome (journal_of place)) }
+        ensures never { IfOk result (λ place. failing_of (place_files place) ≡ []) }
+        ensures in_it { IfOk result (λ place. IsSome (place_journal place)) }
         ensures asked { IfOk result (λ place. place_asked place ≡ None) }
         ensures no_faults { IfOk result (λ place. place_faults place ≡ 0) }
     {
@@ -161,11 +162,11 @@ impl Counted for MemPlace {
 }
 
 impl Disk for MemPlace {
-    ghost use Rattle.mem_outside.specs.Place.{journal_of, place_state};
+    ghost use Rattle.mem_outside.specs.Place.{place_journal, place_state};
 
     ghost state = { place_state };
 
-    ghost lawful = { λ place. place_is_lawful (journal_of place) };
+    ghost lawful = { λ place. place_is_lawful (place_journal place) };
 }
 
 impl Place for MemPlace {
@@ -173,7 +174,7 @@ impl Place for MemPlace {
     ghost use Rattle.mem_outside.specs.Files.{files_faults, files_at_rest, files_gone, files_row, stored_files};
     ghost use Rattle.mem_outside.specs.Journal.{journal_state, journal_faults, with_no_faults};
     ghost use Rattle.mem_outside.specs.Files.{files_store};
-    ghost use Rattle.mem_outside.specs.Place.{journal_of, files_of, place_asked, place_faults, place_state};
+    ghost use Rattle.mem_outside.specs.Place.{place_journal, place_files, place_asked, place_faults, place_state};
     ghost use Rattle.mem_outside.specs.Place.{place_stored, SameFiles};
 
     type Journal = MemJournal;
@@ -198,13 +199,14 @@ impl Place for MemPlace {
         ensures cause { HasStoreCause (place_faults self.old) (place_faults self.new) result }
 
         // It hands its parts out where they are in it, unless memory runs out, and fails where they are not.
-        ensures ok { IsOk result → IsSome (journal_of self.old) }
-        ensures refused { IsErrOf result fault.Failed ↔ journal_of self.old ≡ None }
-        ensures journal { IfOk result (λ parts. IfSome (journal_of self.old) (λ j. parts.0 ≡ with_no_faults j)) }
-        ensures files { IfOk result (λ parts. IfSome (files_of self.old) (λ f. SameFiles f parts.1)) }
-        ensures out { OnOk result (journal_of self.new ≡ None × files_of self.new ≡ None) }
-        ensures same { OnErr result (journal_of self.new ≡ journal_of self.old × files_of self.new ≡ files_of self.old) }
-        ensures unfailing { IsSome (journal_of self.old) → place_faults self.new ≡ place_faults self.old }
+        ensures ok { IsOk result → IsSome (place_journal self.old) }
+        ensures refused { IsErrOf result fault.Failed ↔ place_journal self.old ≡ None }
+        ensures journal { IfOk result (λ parts. IfSome (place_journal self.old) (λ j. parts.0 ≡ with_no_faults j)) }
+        ensures files { IfOk result (λ parts. IfSome (place_files self.old) (λ f. SameFiles f parts.1)) }
+        ensures out { OnOk result (place_journal self.new ≡ None × place_files self.new ≡ None) }
+        ensures same { OnErr result (place_journal self.new ≡ place_journal self.old
+            × place_files self.new ≡ place_files self.old) }
+        ensures unfailing { IsSome (place_journal self.old) → place_faults self.new ≡ place_faults self.old }
     {
         if self.parts.is_none() {
             self.faults = self.faults.saturating_add(1);
@@ -236,8 +238,8 @@ impl Place for MemPlace {
             ≤ place_faults self.new }
 
         // It has these parts again, and no further fault.
-        ensures journal { journal_of self.new ≡ Some journal }
-        ensures files { files_of self.new ≡ Some files }
+        ensures journal { place_journal self.new ≡ Some journal }
+        ensures files { place_files self.new ≡ Some files }
         ensures no_more { place_faults self.new
             ≡ min (place_faults self.old + journal_faults journal + files_faults files) (2 ^ 64 - 1) }
     {

@@ -3,7 +3,7 @@ ghost use Rattle.std.specs.Prelude.{◌≡◌, ◌≤◌, ◌<◌, ◌^◌, [], 
 ghost use Rattle.tsdb_outside.specs.Disk.{in_slot, with_slot, overwrite};
 ghost use Rattle.mem_outside.specs.Record.{SlotState, after_write, after_sync, after_kind, after_call, seen_after};
 ghost use Rattle.mem_outside.specs.Record.{invert, apply_pending, slot_after_stop};
-ghost use Rattle.mem_outside.specs.Replay.{IsReplayOf};
+ghost use Rattle.mem_outside.specs.Replay.{IsDiskReplay};
 ghost use Rattle.mem_outside.specs.Slots.{pair_image};
 ghost use Rattle.std.specs.List.{prefix_len};
 
@@ -56,8 +56,8 @@ impl Call {
         seen: &mut Vec<u8>,
         left: &mut Vec<u8>,
     ) -> Result<(), AllocError>
-        ensures { OnOk result ((s : SlotState) → IsReplayOf stop s seen.old.items left.old.items
-            → IsReplayOf stop (after_call slot s self.now) seen.new.items left.new.items) }
+        ensures { OnOk result ((s : SlotState) → IsDiskReplay stop s seen.old.items left.old.items
+            → IsDiskReplay stop (after_call slot s self.now) seen.new.items left.new.items) }
     {
         match (slot, self.slot) {
             (Slot::A, Slot::A) | (Slot::B, Slot::B) => {
@@ -70,7 +70,7 @@ impl Call {
 
 // The bytes of both slots.
 #[derive(Drop)]
-pub struct Pair {
+pub struct SlotPair {
     pub a: Vec<u8>,
     pub b: Vec<u8>,
 }
@@ -122,8 +122,8 @@ impl Kind {
         seen: &mut Vec<u8>,
         left: &mut Vec<u8>,
     ) -> Result<(), AllocError>
-        ensures { OnOk result ((s : SlotState) → IsReplayOf stop s seen.old.items left.old.items
-            → IsReplayOf stop (after_kind self.now succeeded s) seen.new.items left.new.items) }
+        ensures { OnOk result ((s : SlotState) → IsDiskReplay stop s seen.old.items left.old.items
+            → IsDiskReplay stop (after_kind self.now succeeded s) seen.new.items left.new.items) }
     {
         match self {
             Kind::Write { at, bytes } => {
@@ -144,7 +144,7 @@ impl Kind {
     }
 }
 
-impl Pair {
+impl SlotPair {
     fn write(&mut self, slot: Slot, at: usize, bytes: &[u8]) -> Result<(), AllocError>
         requires { at ≤ length (in_slot slot (pair_image self.old)) }
         ensures ok { OnOk result (pair_image self.new ≡
@@ -166,10 +166,10 @@ impl Pair {
         }
     }
 
-    pub fn copy(&self, alloc: Global) -> Result<Pair, AllocError>
+    pub fn copy(&self, alloc: Global) -> Result<SlotPair, AllocError>
         ensures { IfOk result (λ copy. pair_image copy ≡ pair_image self.now) }
     {
-        Ok(Pair {
+        Ok(SlotPair {
             a: self.a.to_vec(alloc)?,
             b: self.b.to_vec(alloc)?,
         })
@@ -180,19 +180,19 @@ impl Pair {
 #[derive(Drop)]
 pub struct RecordedDisk {
     alloc: Global,
-    first: Pair,
-    current: Pair,
+    first: SlotPair,
+    current: SlotPair,
     calls: Vec<Call>,
     // What reads give is what the record makes of the first bytes.
     ghost tied: { pair_image current ≡ seen_after (pair_image first) calls.items },
 }
 
 impl RecordedDisk {
-    ghost use Rattle.mem_outside.specs.RecordedDisk.{is_until, last_of_calls, disk_seen, disk_first, disk_calls};
+    ghost use Rattle.mem_outside.specs.RecordedDisk.{is_call_until, last_of_calls, disk_seen, disk_first, disk_calls};
     ghost use Rattle.mem_outside.specs.RecordedDisk.{RecordsCall, SameRecord};
 
     /// Two slots with these bytes, all of them durable.
-    pub fn new(alloc: Global, first: Pair) -> Result<RecordedDisk, AllocError>
+    pub fn new(alloc: Global, first: SlotPair) -> Result<RecordedDisk, AllocError>
         ensures first { IfOk result (λ disk. disk_first disk ≡ pair_image first) }
         ensures calls { IfOk result (λ disk. disk_calls disk ≡ []) }
     {
@@ -221,7 +221,7 @@ impl RecordedDisk {
 
     /// How many calls there are before the first whose place in the row is behind this one.
     pub fn count_until(&self, moment: u64) -> usize
-        ensures count { result ≡ prefix_len (is_until moment) (disk_calls self.now) }
+        ensures count { result ≡ prefix_len (is_call_until moment) (disk_calls self.now) }
         ensures bound { result ≤ length (disk_calls self.now) }
     {
         self.calls

@@ -9,7 +9,7 @@ use tsdb_outside::Failed;
 
 /// How many counted calls were made, how many of them on files, and which of these fail, by number from 1.
 #[derive(Drop)]
-pub struct Row {
+pub struct CallRow {
     made: AtomicU64,
     on_files: AtomicU64,
     failing: Vec<u64>,
@@ -22,13 +22,13 @@ pub struct Drawn {
     pub number: u64,
 }
 
-impl Row {
-    ghost use Rattle.mem_outside.specs.Row.{failing_numbers, IsDrawn};
+impl CallRow {
+    ghost use Rattle.mem_outside.specs.Row.{failing_numbers, IsCountedFromOne};
 
-    pub fn new(failing: Vec<u64>) -> Row
+    pub fn new(failing: Vec<u64>) -> CallRow
         ensures { failing_numbers result ≡ failing.items }
     {
-        Row {
+        CallRow {
             made: AtomicU64::new(0),
             on_files: AtomicU64::new(0),
             failing,
@@ -44,7 +44,7 @@ impl Row {
 
     /// The place and the number of the next call on files.
     pub fn draw_on_files(&self) -> Drawn
-        ensures drawn { IsDrawn result }
+        ensures drawn { IsCountedFromOne result }
     {
         let place = self.draw();
         let number = self.on_files.fetch_add(1, Ordering::SeqCst);

@@ -4,7 +4,7 @@ ghost use Rattle.std.specs.Prelude.{IfSome, IsErrOf, IsOk, IsSome, OnErr, OnOk};
 ghost use Rattle.std.specs.declared.option.Option.{Option};
 ghost use Rattle.mem_outside.specs.Files.{port_faults, port_row, port_store, files_faults, files_row, files_store};
 ghost use Rattle.mem_outside.specs.Files.{stored_files};
-ghost use Rattle.mem_outside.specs.Place.{files_of, failing_of};
+ghost use Rattle.mem_outside.specs.Place.{place_files, failing_of};
 ghost use Rattle.mem_outside.specs.PlaceLaws.{place_is_lawful};
 ghost use Rattle.mem_outside.specs.Row.{never_fails};
 
@@ -128,13 +128,13 @@ impl Files for SteadyFiles {
 pub struct SteadyPlace {
     place: MemPlace,
     // No call of its files fails.
-    ghost never: { failing_of (files_of place) ≡ [] },
+    ghost never: { failing_of (place_files place) ≡ [] },
 }
 
 impl SteadyPlace {
     ghost use Rattle.mem_outside.specs.Entry.{handed_in};
     ghost use Rattle.mem_outside.specs.Journal.{journal_numbers};
-    ghost use Rattle.mem_outside.specs.Place.{journal_of, place_asked, place_faults, place_state, place_stored};
+    ghost use Rattle.mem_outside.specs.Place.{place_journal, place_asked, place_faults, place_state, place_stored};
     ghost use Rattle.mem_outside.specs.Place.{slots_image, IsDurable};
     ghost use Rattle.mem_outside.specs.Steady.{inner_place};
 
@@ -149,9 +149,9 @@ impl SteadyPlace {
         ensures durable { IfOk result (λ place. IsDurable (slots_image slots) (place_state (inner_place place))) }
         ensures moment { IfOk result (λ place. (place_state (inner_place place)).moment ≡ 0) }
         ensures stored { IfOk result (λ place. place_stored (inner_place place) ≡ Some (map handed_in files.items)) }
-        ensures numbers { IfOk result (λ place. IfSome (journal_of (inner_place place))
+        ensures numbers { IfOk result (λ place. IfSome (place_journal (inner_place place))
             (λ journal. (journal_numbers journal).fails.items ≡ [])) }
-        ensures in_it { IfOk result (λ place. IsSome (journal_of (inner_place place))) }
+        ensures in_it { IfOk result (λ place. IsSome (place_journal (inner_place place))) }
         ensures asked { IfOk result (λ place. place_asked (inner_place place) ≡ None) }
         ensures no_faults { IfOk result (λ place. place_faults (inner_place place) ≡ 0) }
     {
@@ -173,12 +173,12 @@ impl Counted for SteadyPlace {
 }
 
 impl Disk for SteadyPlace {
-    ghost use Rattle.mem_outside.specs.Place.{journal_of, place_state};
+    ghost use Rattle.mem_outside.specs.Place.{place_journal, place_state};
     ghost use Rattle.mem_outside.specs.Steady.{inner_place};
 
     ghost state = { λ place. place_state (inner_place place) };
 
-    ghost lawful = { λ place. place_is_lawful (journal_of (inner_place place)) };
+    ghost lawful = { λ place. place_is_lawful (place_journal (inner_place place)) };
 }
 
 impl Place for SteadyPlace {
@@ -186,7 +186,7 @@ impl Place for SteadyPlace {
     ghost use Rattle.tsdb_outside.specs.Disk.{Keeps};
     ghost use Rattle.tsdb_outside.specs.declared.faults.StoreFault.TheVariants as fault;
     ghost use Rattle.mem_outside.specs.Journal.{journal_faults, journal_state};
-    ghost use Rattle.mem_outside.specs.Place.{journal_of, place_asked, place_faults, place_state, place_stored};
+    ghost use Rattle.mem_outside.specs.Place.{place_journal, place_asked, place_faults, place_state, place_stored};
     ghost use Rattle.mem_outside.specs.Steady.{inner_files, inner_place};
 
     type Journal = MemJournal;
@@ -213,8 +213,8 @@ impl Place for SteadyPlace {
         ensures cause { HasStoreCause (place_faults (inner_place self.old)) (place_faults (inner_place self.new)) result }
 
         // Where its parts are in it, it hands them out unless memory runs out, and its count stays.
-        ensures ok { IsSome (journal_of (inner_place self.old)) → ¬ IsErrOf result fault.Failed }
-        ensures unfailing { IsSome (journal_of (inner_place self.old))
+        ensures ok { IsSome (place_journal (inner_place self.old)) → ¬ IsErrOf result fault.Failed }
+        ensures unfailing { IsSome (place_journal (inner_place self.old))
             → place_faults (inner_place self.new) ≡ place_faults (inner_place self.old) }
     {
         let (journal, files) = self.place.take_up(dir)?;
@@ -230,7 +230,7 @@ impl Place for SteadyPlace {
             + files_faults (inner_files files)) (2 ^ 64 - 1) ≤ place_faults (inner_place self.new) }
 
         // It has its parts again, and its count rises by the faults of the journal alone.
-        ensures in_it { IsSome (journal_of (inner_place self.new)) }
+        ensures in_it { IsSome (place_journal (inner_place self.new)) }
         ensures no_more { place_faults (inner_place self.new)
             ≡ min (place_faults (inner_place self.old) + journal_faults journal) (2 ^ 64 - 1) }
     {

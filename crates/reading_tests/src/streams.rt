@@ -9,7 +9,7 @@ use tsdb_base::{FileNumber, Point, Range, Stamp, Value};
 use tsdb_marks::Marks;
 use tsdb_outside::{Port, StoreFault};
 use tsdb_path::Path;
-use tsdb_streams::{Source, Stream, open_column, pull};
+use tsdb_streams::{Stream, StreamSource, open_stream, pull};
 
 /// A file that holds two pages of the series, born so.
 #[derive(Clone, Copy)]
@@ -129,20 +129,20 @@ fn read_both<P: Port>(
     if asked.series.nodes() < 2 {
         return Err("no series".into());
     }
-    let older = Source::File {
+    let older = StreamSource::File {
         right: older,
         born: Stamp(asked.born[0]),
     };
-    let newer = Source::File {
+    let newer = StreamSource::File {
         right: newer,
         born: Stamp(asked.born[1]),
     };
-    let part = Source::Part {
+    let part = StreamSource::Part {
         points: &asked.part,
         born: Stamp(asked.born[2]),
     };
     let list = vec![in alloc; older, newer, part]?;
-    match open_column(alloc, &asked.series, &asked.range, &asked.marks, list, port) {
+    match open_stream(alloc, &asked.series, &asked.range, &asked.marks, list, port) {
         Ok(mut stream) => Ok(pull_all(alloc, &mut stream, port)),
         Err(fault) => Ok(nothing_read(alloc, Some(fault))),
     }

@@ -7,7 +7,7 @@ use Rattle.tsdb_base.specs.declared.point.Point.{Point}
 use Rattle.tsdb_base.specs.declared.point.Range.{Range}
 use Rattle.tsdb_model.specs.World.{is_in}
 use Rattle.tsdb_merge.specs.Winners.{TakesTold}
-use Rattle.tsdb_aggregate.specs.Steps.{AddsPoint, AddsWithin, IsSettled, IsTally}
+use Rattle.tsdb_aggregate.specs.Steps.{AddsPoint, AddsWithin, IsSettledTally, IsTally}
 use Rattle.tsdb_aggregate.specs.declared.tally.Tally.{Tally}
 
 abbrev pub within : Range → List Point → List Point
@@ -69,7 +69,7 @@ all_taken range name before now (Some rest) tally old takes h points earlier tol
     subst (λ xs. IsTally name (earlier ++ xs) old) (sym all) so_far.tally_is
 
 -- where no later point changes the tally
-pub settled : (range : Range) (name : Aggregate) (before now : Option (List Point)) (tally old : Tally) → IsSettled name old
+pub settled : (range : Range) (name : Aggregate) (before now : Option (List Point)) (tally old : Tally) → IsSettledTally name old
     → TakesSoFar range name before tally now old → AddsWithin range name before tally old
 settled range name before now tally old stays h points earlier told first =
     let so_far = h points earlier told first in

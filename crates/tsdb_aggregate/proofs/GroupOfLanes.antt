@@ -14,9 +14,9 @@ use Rattle.tsdb_merge.specs.declared.points.PullFault.{PullFault}
 use Rattle.tsdb_merge.specs.declared.points.PullFault.TheVariants.{Failed, Damaged, Memory}
 use Rattle.tsdb_aggregate.specs.Lanes.{AreLanesOf, SpendsDown, rows_joined, lefts}
 use Rattle.tsdb_aggregate.specs.Loads.{Held, LoaderState, Spends}
-use Rattle.tsdb_aggregate.specs.Pieces.{AreApart, HasOrder}
-use Rattle.tsdb_aggregate.specs.Steps.{AddsMerge, AddsWinners, AddsWithin, part_of, held_parts}
-use Rattle.tsdb_aggregate.specs.declared.entry.Entry.{Entry}
+use Rattle.tsdb_aggregate.specs.Pieces.{ArePiecesApart, HasOrder}
+use Rattle.tsdb_aggregate.specs.Steps.{AddsMerge, AddsWinners, AddsWithin, held_piece, held_parts}
+use Rattle.tsdb_aggregate.specs.declared.entry.PieceEntry.{PieceEntry}
 use Rattle.tsdb_aggregate.specs.declared.lanes.Lane.{Lane}
 use Rattle.tsdb_aggregate.specs.declared.tally.Tally.{Tally}
 use Rattle.tsdb_aggregate.proofs.GroupLemmas.{winners_of_group}
@@ -30,12 +30,12 @@ adds_merge range name lists (Some all) before now h adds = record { points = all
 pub same_count : (lists : List (List Point)) (left : List (Option (List Point))) (n : ℕ) → n ≡ length left → left ≡ map Some lists → length lists ≡ n
 same_count lists left n is told = sym (is ∙ ap length told ∙ length-map lists Some)
 
-pub adds_lanes : (held : List Held) (range : Range) (name : Aggregate) (group : List Entry) (lanes : List Lane) (before now : Tally) → AreLanesOf group lanes
+pub adds_lanes : (held : List Held) (range : Range) (name : Aggregate) (group : List PieceEntry) (lanes : List Lane) (before now : Tally) → AreLanesOf group lanes
     → ((lists : List (List Point)) → lefts held lanes ≡ map Some lists → All IsRising lists → AddsMerge range name lists before now)
-    → All HasOrder (held_parts held group) → AllPairs AreApart (held_parts held group) → AddsWinners held range name group before now
+    → All HasOrder (held_parts held group) → AllPairs ArePiecesApart (held_parts held group) → AddsWinners held range name group before now
 adds_lanes held range name group lanes before now of adds order apart =
     let rows = of.rows in
-    let inside : All HasOrder (held_parts held (rows_joined rows)) = All-permutation HasOrder (held_parts held group) (held_parts held (rows_joined rows)) (IsPermutation-map (part_of held) group (rows_joined rows) of.all) order in
+    let inside : All HasOrder (held_parts held (rows_joined rows)) = All-permutation HasOrder (held_parts held group) (held_parts held (rows_joined rows)) (IsPermutation-map (held_piece held) group (rows_joined rows) of.all) order in
     let added = adds (map (points_behind held) rows) (told_lanes held rows lanes of.lanes_are inside) (rows_rising held rows inside of.each) in
     record {
       points = filter (λ point. is_in range point.time) added.points;

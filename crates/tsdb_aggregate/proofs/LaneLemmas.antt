@@ -8,7 +8,7 @@ use Rattle.std.proofs.lemmas.List.Sums.{sum_by-cons}
 use Rattle.tsdb_base.specs.declared.point.Point.{Point}
 use Rattle.tsdb_merge.specs.Supplies.{Moves, left_at}
 use Rattle.tsdb_merge.specs.declared.points.PullFault.{PullFault}
-use Rattle.tsdb_aggregate.specs.Lanes.{HasPlaces, SpendsDown, append_told, cost_behind, lane_cost, lane_left, lane_most, lefts, told_behind}
+use Rattle.tsdb_aggregate.specs.Lanes.{HasPiecePlaces, SpendsDown, append_told, cost_behind, lane_cost, lane_left, lane_most, lefts, told_behind}
 use Rattle.tsdb_aggregate.specs.Loads.{Held, LoaderState, Spends, held_at}
 use Rattle.tsdb_aggregate.specs.declared.lanes.Lane.{Lane}
 use Rattle.tsdb_aggregate.specs.SpendLaws.{spends_then}
@@ -20,7 +20,7 @@ StaysTold before now = (points : List Point) → before ≡ Some points → now 
 -- no point was found yet, and nothing is lost
 pub record IsStillFilling (before now : LoaderState) (pages pages_now : ℕ) (lane lane_now : Lane) (into : List Point) : Type 0 where
   pub empty : into ≡ []
-  pub places : HasPlaces (length before.held) lane_now
+  pub places : HasPiecePlaces (length before.held) lane_now
   pub left : StaysTold (lane_left before.held lane) (lane_left before.held lane_now)
   pub most : lane_most lane_now ≤ lane_most lane
   pub spends : SpendsDown {T = ⊤} (lane_cost before.held lane) (lane_cost before.held lane_now) before now pages pages_now (Ok tt)
@@ -78,7 +78,7 @@ moves_piece (Some all) (Some told) (Some later) points is stays =
 pub record IsHandedOn (before now : LoaderState) (pages pages_now : ℕ) (lane lane_now : Lane) (points : List Point) : Type 0 where
   pub moved : Moves (lane_left before.held lane) true points (lane_left before.held lane_now)
   pub most : length points + lane_most lane_now ≤ lane_most lane
-  pub places : HasPlaces (length before.held) lane_now
+  pub places : HasPiecePlaces (length before.held) lane_now
   pub spends : SpendsDown {T = Bool} (lane_cost before.held lane) (lane_cost before.held lane_now) before now pages pages_now (Ok true)
 
 pub handed_on : (a b c : LoaderState) (p q r : ℕ) (lane now next : Lane) (into points : List Point) (place : ℕ) → IsStillFilling a b p q lane now into

@@ -10,7 +10,7 @@ use Rattle.tsdb_base.specs.declared.point.Point.{Point}
 use Rattle.tsdb_base.specs.declared.point.Stats.{Stats}
 use Rattle.tsdb_base.specs.declared.value.Value.{Value}
 use Rattle.tsdb_base.specs.declared.value.Value.TheVariants as value
-use Rattle.tsdb_model.specs.Folds.{aggregate_of, greater, is_less, lesser, numbers}
+use Rattle.tsdb_model.specs.Folds.{aggregate_of, greater, is_less, lesser_value, numbers}
 use Rattle.tsdb_stats.specs.Statistics.{AreStatsOf}
 use Rattle.tsdb_stats.specs.Steps.{join_options, number_in}
 use Rattle.tsdb_stats.proofs.Joining.{stats-append}
@@ -49,7 +49,7 @@ one_or_other : (b : Bool) (x y : Value) → (cond b x y ≡ y) ⊎ (cond b x y �
 one_or_other true x y = inr refl
 one_or_other false x y = inl refl
 
-lesser_chooses : Chooses lesser
+lesser_chooses : Chooses lesser_value
 lesser_chooses a b = one_or_other (is_less b a) b a
 
 greater_chooses : Chooses greater
@@ -92,7 +92,7 @@ both p ps q qs = record {
   end = (last_of q qs).time;
   first = p.value;
   last = (last_of q qs).value;
-  least = join_options lesser (option_and_then number_in (aggregate_of MinValue (p ∷ ps))) (option_and_then number_in (aggregate_of MinValue (q ∷ qs)));
+  least = join_options lesser_value (option_and_then number_in (aggregate_of MinValue (p ∷ ps))) (option_and_then number_in (aggregate_of MinValue (q ∷ qs)));
   greatest = join_options greater (option_and_then number_in (aggregate_of MaxValue (p ∷ ps))) (option_and_then number_in (aggregate_of MaxValue (q ∷ qs)));
 }
 
@@ -136,9 +136,9 @@ least_joins : (xs ys : List Point) → Joins MinValue xs ys
 least_joins [] ys = refl
 least_joins (p ∷ ps) [] = none_behind MinValue (p ∷ ps) refl
 least_joins (p ∷ ps) (q ∷ qs) =
-    let a = reduce_self lesser lesser_chooses (numbers (p ∷ ps)) (numbers_are (p ∷ ps)) in
-    let b = reduce_self lesser lesser_chooses (numbers (q ∷ qs)) (numbers_are (q ∷ qs)) in
-    (both_are p ps q qs).least ∙ ap (λ l. join_options lesser l (option_and_then number_in (aggregate_of MinValue (q ∷ qs)))) a ∙ ap (λ r. join_options lesser (aggregate_of MinValue (p ∷ ps)) r) b
+    let a = reduce_self lesser_value lesser_chooses (numbers (p ∷ ps)) (numbers_are (p ∷ ps)) in
+    let b = reduce_self lesser_value lesser_chooses (numbers (q ∷ qs)) (numbers_are (q ∷ qs)) in
+    (both_are p ps q qs).least ∙ ap (λ l. join_options lesser_value l (option_and_then number_in (aggregate_of MinValue (q ∷ qs)))) a ∙ ap (λ r. join_options lesser_value (aggregate_of MinValue (p ∷ ps)) r) b
 
 greatest_joins : (xs ys : List Point) → Joins MaxValue xs ys
 greatest_joins [] ys = refl

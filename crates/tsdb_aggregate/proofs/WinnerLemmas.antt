@@ -11,7 +11,7 @@ use Rattle.tsdb_base.specs.declared.point.Range.{Range}
 use Rattle.tsdb_model.specs.World.{is_in}
 use Rattle.tsdb_merge.specs.Winners.{HasNoneAt, IsWinner as IsWinnerOfLists, IsMergeOf}
 use Rattle.tsdb_merge.proofs.MergeLemmas.{AllPairs-head, AllPairs-tail, All-from_contains, Contains-head, Contains-tail, Contains-nil, Contains-cases, winner_at, same_points}
-use Rattle.tsdb_aggregate.specs.Pieces.{HeldPiece, hull, overlap, points_of, HasOrder, IsCleanIn}
+use Rattle.tsdb_aggregate.specs.Pieces.{HeldPiece, hull, overlap, piece_points, HasOrder, IsCleanIn}
 use Rattle.tsdb_aggregate.specs.Winners.{Has, IsWinnerOfPieces, AreWinners}
 use Rattle.tsdb_aggregate.proofs.ListFacts.{AllPairs-append, Contains-filter, Contains-from_filter}
 
@@ -122,7 +122,7 @@ same_filtered range xs order = record {
   into = λ s p r h. record { part = h.part; among = Contains-from_filter (λ part. overlap range (hull part.0)) xs h.part h.among; of = h.of; has = h.has };
   back = λ s p r h.
       let own : HasOrder h.part = All-contains HasOrder xs h.part order h.among in
-      let inside : IsTrue (is_in (hull h.part.0) p.time) = All-contains (λ q. IsTrue (is_in (hull h.part.0) q.time)) (points_of h.part) p own.within h.has in
+      let inside : IsTrue (is_in (hull h.part.0) p.time) = All-contains (λ q. IsTrue (is_in (hull h.part.0) q.time)) (piece_points h.part) p own.within h.has in
       record { part = h.part; among = Contains-filter (λ part. overlap range (hull part.0)) xs h.part h.among (common_time range (hull h.part.0) p.time r inside); of = h.of; has = h.has };
 }
 
@@ -131,18 +131,18 @@ same_filtered range xs order = record {
 in_between : (range : Range) (a b t : ℤ) → IsTrue (is_in range a) → IsTrue (is_in range b) → IsTrue (int_le a t && int_le t b) → IsTrue (is_in range t)
 in_between range a b t x y z = grind (arith, ints)
 
-pub winners_clean : (range : Range) (part : HeldPiece) → HasOrder part → IsCleanIn range part → AreWinners (part ∷ []) range (points_of part)
+pub winners_clean : (range : Range) (part : HeldPiece) → HasOrder part → IsCleanIn range part → AreWinners (part ∷ []) range (piece_points part)
 winners_clean range part order clean = record {
   rising = order.rising;
-  only = All-from_contains (λ p. IsWinnerOfPieces (part ∷ []) p × IsTrue (is_in range p.time)) (points_of part) (λ p h. (
+  only = All-from_contains (λ p. IsWinnerOfPieces (part ∷ []) p × IsTrue (is_in range p.time)) (piece_points part) (λ p h. (
     record {
       source = part.0.source;
       has = record { part = part; among = Contains-head part []; of = refl; has = h };
       last = λ t q k e. let at : part.0.source ≡ t = ap (λ (x : HeldPiece). x.0.source) (alone k.part k.among) ∙ k.of in omega (arith, at);
     },
-    in_between range part.0.stats.start part.0.stats.end p.time clean.from clean.to (All-contains (λ q. IsTrue (is_in (hull part.0) q.time)) (points_of part) p order.within h),
+    in_between range part.0.stats.start part.0.stats.end p.time clean.from clean.to (All-contains (λ q. IsTrue (is_in (hull part.0) q.time)) (piece_points part) p order.within h),
   ));
-  complete = λ p w r. subst (λ (x : HeldPiece). Contains (points_of x) p) (sym (alone w.has.part w.has.among)) w.has.has;
+  complete = λ p w r. subst (λ (x : HeldPiece). Contains (piece_points x) p) (sym (alone w.has.part w.has.among)) w.has.has;
 }
   where
     alone : (x : HeldPiece) → Contains (part ∷ []) x → part ≡ x
@@ -153,20 +153,20 @@ winners_clean range part order clean = record {
 -- no source comes before an earlier one, and two pieces of one source have no time in common
 pub record IsBelow (a b : HeldPiece) : Type 0 where
   pub source : a.0.source ≤ b.0.source
-  pub times : a.0.source ≡ b.0.source → All (λ point. HasNoneAt point.time (points_of b)) (points_of a)
+  pub times : a.0.source ≡ b.0.source → All (λ point. HasNoneAt point.time (piece_points b)) (piece_points a)
 
 abbrev lists_of : List HeldPiece → List (List Point)
-lists_of parts = map (λ part. (points_of part)) parts
+lists_of parts = map (λ part. (piece_points part)) parts
 
-has_head : (part : HeldPiece) (parts : List HeldPiece) (p : Point) → Contains (points_of part) p → Has (part ∷ parts) part.0.source p
+has_head : (part : HeldPiece) (parts : List HeldPiece) (p : Point) → Contains (piece_points part) p → Has (part ∷ parts) part.0.source p
 has_head part parts p h = record { part = part; among = Contains-head part parts; of = refl; has = h }
 
 has_tail : (part : HeldPiece) (parts : List HeldPiece) (s : ℕ) (p : Point) → Has parts s p → Has (part ∷ parts) s p
 has_tail part parts s p h = record { part = h.part; among = Contains-tail part h.part parts h.among; of = h.of; has = h.has }
 
-has_split : (part : HeldPiece) (parts : List HeldPiece) (s : ℕ) (p : Point) → Has (part ∷ parts) s p → ((part.0.source ≡ s) × Contains (points_of part) p) ⊎ Has parts s p
+has_split : (part : HeldPiece) (parts : List HeldPiece) (s : ℕ) (p : Point) → Has (part ∷ parts) s p → ((part.0.source ≡ s) × Contains (piece_points part) p) ⊎ Has parts s p
 has_split part parts s p h = ⊎_elim
-    (λ (e : part ≡ h.part). inl (ap (λ (x : HeldPiece). x.0.source) e ∙ h.of, subst (λ (x : HeldPiece). Contains (points_of x) p) (sym e) h.has))
+    (λ (e : part ≡ h.part). inl (ap (λ (x : HeldPiece). x.0.source) e ∙ h.of, subst (λ (x : HeldPiece). Contains (piece_points x) p) (sym e) h.has))
     (λ there. inr (record { part = h.part; among = there; of = h.of; has = h.has }))
     (Contains-cases part h.part parts h.among)
 
@@ -174,8 +174,8 @@ has_split part parts s p h = ⊎_elim
 not_there : (parts : List HeldPiece) (t : ℤ) → All (HasNoneAt t) (lists_of parts) → (s : ℕ) (p : Point) → Has parts s p → p.time ≡ t → ⊥
 not_there [] t none s p h e = Contains-nil h.part h.among
 not_there (part ∷ parts) t none s p h e = ⊎_elim
-    (λ here. All-contains (λ q. q.time ≢ t) (points_of part) p (All-head (HasNoneAt t) (points_of part) (lists_of parts) none) here.1 e)
-    (λ there. not_there parts t (All-tail (HasNoneAt t) (points_of part) (lists_of parts) none) s p there e)
+    (λ here. All-contains (λ q. q.time ≢ t) (piece_points part) p (All-head (HasNoneAt t) (piece_points part) (lists_of parts) none) here.1 e)
+    (λ there. not_there parts t (All-tail (HasNoneAt t) (piece_points part) (lists_of parts) none) s p there e)
     (has_split part parts s p h)
 
 above : (part : HeldPiece) (parts : List HeldPiece) → All (IsBelow part) parts → (s : ℕ) (p : Point) → Has parts s p → part.0.source ≤ s
@@ -216,7 +216,7 @@ winner_into_lists (part ∷ parts) order p w =
     (λ here.
     let same : part.0.source ≡ own.has.part.0.source = omega (arith, here.0, at_most, at_least, own.has.of) in
     let apart = (All-contains (IsBelow part) parts own.has.part below own.has.among).times same in
-    absurd (All-contains (λ r. r.time ≢ p.time) (points_of own.has.part) q (All-contains (λ r. HasNoneAt r.time (points_of own.has.part)) (points_of part) p apart here.1) own.has.has found.2))
+    absurd (All-contains (λ r. r.time ≢ p.time) (piece_points own.has.part) q (All-contains (λ r. HasNoneAt r.time (piece_points own.has.part)) (piece_points part) p apart here.1) own.has.has found.2))
     (λ there. inl (winner_into_lists parts later p (record {
       source = w.source;
       has = there;

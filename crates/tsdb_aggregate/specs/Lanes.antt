@@ -8,7 +8,7 @@ use Rattle.tsdb_merge.specs.declared.points.PullFault.{PullFault}
 use Rattle.tsdb_aggregate.specs.Loads.{Held, LoaderState, Spends, held_at}
 use Rattle.std.specs.List.{AllZip}
 use Rattle.std.specs.List.Sorted.{IsPermutation}
-use Rattle.tsdb_aggregate.specs.declared.entry.Entry.{Entry}
+use Rattle.tsdb_aggregate.specs.declared.entry.PieceEntry.{PieceEntry}
 use Rattle.tsdb_aggregate.specs.declared.lanes.Lane.{Lane}
 
 -- two lists one behind the other, where both are told
@@ -43,11 +43,11 @@ abbrev pub lane_most : Lane → ℕ
 lane_most lane = length (into_iter_items lane.rest) + 2 ^ 64 * length (into_iter_items lane.waiting)
 
 -- the pieces that a lane waits for are among so many
-abbrev pub HasPlaces : ℕ → Lane → Type 0
-HasPlaces count lane = All (λ place. place < count) (into_iter_items lane.waiting)
+abbrev pub HasPiecePlaces : ℕ → Lane → Type 0
+HasPiecePlaces count lane = All (λ place. place < count) (into_iter_items lane.waiting)
 
 -- points were taken from the front of a list, 1 to 1,000, or none at its end
-pub record IsTaken (before : List Point) (more : Bool) (points after : List Point) : Type 0 where
+pub record IsFrontTaken (before : List Point) (more : Bool) (points after : List Point) : Type 0 where
   pub all : before ≡ points ++ after
   pub filled : IsFilled more points
   pub end : more ≡ false → after ≡ []
@@ -60,23 +60,23 @@ pub record SpendsDown {T : Type 0} (waiting waiting_now : ℕ) (before now : Loa
   pub spends : Spends cost before now pages pages_now result
 
 -- entries of one source, one at least, of which each ends before the next one begins
-pub record IsRowOfPieces (entries : List Entry) : Type 0 where
+pub record IsRowOfPieces (entries : List PieceEntry) : Type 0 where
   pub some : 0 < length entries
   pub source : AllPairs (λ a b. a.piece.now.source ≡ b.piece.now.source) entries
   pub order : AllPairs (λ a b. a.piece.now.stats.end <ℤ b.piece.now.stats.start) entries
 
 -- a lane of these entries, of which nothing is loaded yet
-pub record IsLaneOf (entries : List Entry) (lane : Lane) : Type 0 where
+pub record IsLaneOf (entries : List PieceEntry) (lane : Lane) : Type 0 where
   pub waiting : into_iter_items lane.waiting ≡ map (λ entry. entry.place) entries
   pub rest : into_iter_items lane.rest ≡ []
 
 -- the entries of all rows, one row behind the other
-abbrev pub rows_joined : List (List Entry) → List Entry
+abbrev pub rows_joined : List (List PieceEntry) → List PieceEntry
 rows_joined rows = flat_map (λ row. row) rows
 
 -- the entries of a group stand in rows, one behind the other in the order of their sources, and each lane is one row
-pub record AreLanesOf (group : List Entry) (lanes : List Lane) : Type 0 where
-  pub rows : List (List Entry)
+pub record AreLanesOf (group : List PieceEntry) (lanes : List Lane) : Type 0 where
+  pub rows : List (List PieceEntry)
   pub all : IsPermutation group (rows_joined rows)
   pub order : AllPairs (λ a b. a.piece.now.source ≤ b.piece.now.source) (rows_joined rows)
   pub each : All IsRowOfPieces rows

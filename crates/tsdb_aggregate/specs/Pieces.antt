@@ -23,8 +23,8 @@ abbrev pub told_points : Option (List Point) → List Point
 told_points None = []
 told_points (Some points) = points
 
-abbrev pub points_of : HeldPiece → List Point
-points_of part = told_points part.1.points
+abbrev pub piece_points : HeldPiece → List Point
+piece_points part = told_points part.1.points
 
 -- two ranges have a time in common: the start of one of them is in both
 abbrev pub overlap : Range → Range → Bool
@@ -32,26 +32,26 @@ overlap a b = (is_in a b.from && is_in b b.from) || (is_in b a.from && is_in a a
 
 -- the points of a piece are told, and stand in order of time, within its hull
 pub record HasOrder (part : HeldPiece) : Type 0 where
-  pub told : part.1.points ≡ Some (points_of part)
-  pub rising : IsRising (points_of part)
-  pub within : All (λ point. IsTrue (is_in (hull part.0) point.time)) (points_of part)
+  pub told : part.1.points ≡ Some (piece_points part)
+  pub rising : IsRising (piece_points part)
+  pub within : All (λ point. IsTrue (is_in (hull part.0) point.time)) (piece_points part)
 
 -- a piece that is clean has the statistics of its points, and its hull is in the range
 pub record IsCleanIn (range : Range) (part : HeldPiece) : Type 0 where
-  pub statistics : AreStatsOf (points_of part) part.0.stats
+  pub statistics : AreStatsOf (piece_points part) part.0.stats
   pub from : IsTrue (is_in range part.0.stats.start)
   pub to : IsTrue (is_in range part.0.stats.end)
 
 -- two pieces of one source have no time in common, and nothing lies over a clean piece
-pub record AreApart (a b : HeldPiece) : Type 0 where
-  pub times : a.0.source ≡ b.0.source → All (λ point. HasNoneAt point.time (points_of b)) (points_of a)
+pub record ArePiecesApart (a b : HeldPiece) : Type 0 where
+  pub times : a.0.source ≡ b.0.source → All (λ point. HasNoneAt point.time (piece_points b)) (piece_points a)
   pub hulls : IsTrue (a.0.clean || b.0.clean) → overlap (hull a.0) (hull b.0) ≡ false
 
 -- what has to be so of the pieces, all of which are told, for the answer to be the aggregate of the winners
-pub record AreSound (range : Range) (parts : List HeldPiece) : Type 0 where
+pub record ArePiecesSound (range : Range) (parts : List HeldPiece) : Type 0 where
   pub order : All HasOrder parts
   pub clean : All (λ part. IsTrue part.0.clean → IsCleanIn range part) parts
-  pub apart : AllPairs AreApart parts
+  pub apart : AllPairs ArePiecesApart parts
 
 -- a piece that meets the range and is not clean may be loaded
 abbrev pub cost_in : Range → HeldPiece → ℕ

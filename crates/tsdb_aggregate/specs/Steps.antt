@@ -9,27 +9,27 @@ use Rattle.tsdb_base.specs.declared.point.Point.{Point}
 use Rattle.tsdb_base.specs.declared.point.Range.{Range}
 use Rattle.tsdb_base.specs.declared.value.Value.{Value}
 use Rattle.tsdb_base.specs.declared.value.Value.TheVariants as value
-use Rattle.tsdb_model.specs.Folds.{aggregate_of, greater, lesser}
+use Rattle.tsdb_model.specs.Folds.{aggregate_of, greater, lesser_value}
 use Rattle.tsdb_model.specs.World.{is_in}
 use Rattle.tsdb_merge.specs.Winners.{IsMergeOf}
 use Rattle.tsdb_stats.specs.Steps.{join_options}
 use Rattle.tsdb_aggregate.specs.Loads.{Held, LoaderState, Spends, held_at}
-use Rattle.tsdb_aggregate.specs.Pieces.{AreSound, HeldPiece}
+use Rattle.tsdb_aggregate.specs.Pieces.{ArePiecesSound, HeldPiece}
 use Rattle.tsdb_aggregate.specs.Winners.{AreWinners}
-use Rattle.tsdb_aggregate.specs.declared.entry.Entry.{Entry}
+use Rattle.tsdb_aggregate.specs.declared.entry.PieceEntry.{PieceEntry}
 use Rattle.tsdb_aggregate.specs.declared.tally.Kept.{Kept}
 use Rattle.tsdb_aggregate.specs.declared.tally.Kept.TheVariants.{Nothing, Lent, Own}
 use Rattle.tsdb_aggregate.specs.declared.tally.Tally.{Tally}
 
 -- the piece of an entry, and what is held of it
-abbrev pub part_of : List Held → Entry → HeldPiece
-part_of held entry = (entry.piece.now, held_at held entry.place)
+abbrev pub held_piece : List Held → PieceEntry → HeldPiece
+held_piece held entry = (entry.piece.now, held_at held entry.place)
 
-abbrev pub held_parts : List Held → List Entry → List HeldPiece
-held_parts held entries = map (part_of held) entries
+abbrev pub held_parts : List Held → List PieceEntry → List HeldPiece
+held_parts held entries = map (held_piece held) entries
 
 -- the first entry begins no later than the second, and ends before it where one of them is clean
-pub record ComesBefore (a b : Entry) : Type 0 where
+pub record ComesBefore (a b : PieceEntry) : Type 0 where
   pub start : a.piece.now.stats.start ≤ℤ b.piece.now.stats.start
   pub clean : IsTrue (a.piece.now.clean || b.piece.now.clean) → a.piece.now.stats.end <ℤ b.piece.now.stats.start
 
@@ -38,22 +38,24 @@ abbrev pub cost_of : HeldPiece → ℕ
 cost_of part = if part.0.clean then 0 else part.1.cost
 
 -- one clean piece, or pieces that are not clean
-abbrev pub IsGroup : List Entry → Type 0
-IsGroup entries = (0 < length entries) × ((length entries ≡ 1) ⊎ All (λ entry. entry.piece.now.clean ≡ false) entries)
+abbrev pub IsPieceGroup : List PieceEntry → Type 0
+IsPieceGroup entries = (0 < length entries)
+    × ((length entries ≡ 1) ⊎ All (λ entry. entry.piece.now.clean ≡ false) entries)
 
 -- each of these entries ends before each of those begins
-abbrev pub End : List Entry → List Entry → Type 0
-End these those = (a b : Entry) → Contains these a → Contains those b → a.piece.now.stats.end <ℤ b.piece.now.stats.start
+abbrev pub End : List PieceEntry → List PieceEntry → Type 0
+End these those = (a b : PieceEntry) → Contains these a → Contains those b
+    → a.piece.now.stats.end <ℤ b.piece.now.stats.start
 
 -- the first n entries end before the others begin
-abbrev pub IsCut : ℕ → List Entry → Type 0
+abbrev pub IsCut : ℕ → List PieceEntry → Type 0
 IsCut n entries = End (take n entries) (drop n entries)
 
 -- the value that is kept, if there is one
-abbrev pub value_of : Kept → Option Value
-value_of Nothing = None
-value_of (Lent value) = Some value.now
-value_of (Own value) = Some value
+abbrev pub kept_value : Kept → Option Value
+kept_value Nothing = None
+kept_value (Lent value) = Some value.now
+kept_value (Own value) = Some value
 
 -- what a count, or the value that is kept, answers
 abbrev pub answer_with : Aggregate → ℕ → Option Value → Option Value
@@ -66,7 +68,7 @@ answer_with MinTime count kept = kept
 answer_with MaxTime count kept = kept
 
 abbrev pub answer_of : Aggregate → Tally → Option Value
-answer_of name tally = answer_with name tally.count (value_of tally.kept)
+answer_of name tally = answer_with name tally.count (kept_value tally.kept)
 
 -- the tally is that of the points
 abbrev pub IsTally : Aggregate → List Point → Tally → Type 0
@@ -77,7 +79,7 @@ abbrev pub choice : Aggregate → Value → Value → Value
 choice Count a b = a
 choice FirstValue a b = a
 choice LastValue a b = b
-choice MinValue a b = lesser a b
+choice MinValue a b = lesser_value a b
 choice MaxValue a b = greater a b
 choice MinTime a b = a
 choice MaxTime a b = b
@@ -88,13 +90,15 @@ IsChosen name before later true = join_options (choice name) before later ≡ la
 IsChosen name before later false = join_options (choice name) before later ≡ before
 
 -- the winners of entries in the range have this tally
-pub record HasTally (held : List Held) (range : Range) (name : Aggregate) (entries : List Entry) (tally : Tally) : Type 0 where
+pub record HasTally (held : List Held) (range : Range) (name : Aggregate) (entries : List PieceEntry)
+    (tally : Tally) : Type 0 where
   pub points : List Point
   pub winners : AreWinners (held_parts held entries) range points
   pub tally_is : IsTally name points tally
 
 -- the winners of entries in the range were added to a tally
-pub record AddsWinners (held : List Held) (range : Range) (name : Aggregate) (entries : List Entry) (before now : Tally)
+pub record AddsWinners (held : List Held) (range : Range) (name : Aggregate) (entries : List PieceEntry)
+    (before now : Tally)
     : Type 0 where
   pub points : List Point
   pub winners : AreWinners (held_parts held entries) range points
@@ -106,8 +110,9 @@ AddsPoint range name point before now = (earlier : List Point) → IsTally name 
     → IsTally name (earlier ++ filter (λ other. is_in range other.time) (point ∷ [])) now
 
 -- later points do not change the tally
-abbrev pub IsSettled : Aggregate → Tally → Type 0
-IsSettled name tally = (points later : List Point) → IsTally name points tally → IsTally name (points ++ later) tally
+abbrev pub IsSettledTally : Aggregate → Tally → Type 0
+IsSettledTally name tally =
+    (points later : List Point) → IsTally name points tally → IsTally name (points ++ later) tally
 
 -- the points in the range of a list that is told were added to a tally
 abbrev pub AddsWithin : Range → Aggregate → Option (List Point) → Tally → Tally → Type 0
@@ -123,9 +128,9 @@ pub record AddsMerge (range : Range) (name : Aggregate) (lists : List (List Poin
 
 -- the first m entries are walked: the tally of their winners, and what their loads have cost
 pub record HasWalked (range : Range) (name : Aggregate) (before now : LoaderState) (pages pages_now : ℕ)
-    (entries : List Entry) (m : ℕ) (tally : Tally) : Type 0 where
+    (entries : List PieceEntry) (m : ℕ) (tally : Tally) : Type 0 where
   pub within : m ≤ length entries
-  pub found : AreSound range (held_parts before.held entries) → AllPairs ComesBefore entries
+  pub found : ArePiecesSound range (held_parts before.held entries) → AllPairs ComesBefore entries
       → HasTally before.held range name (take m entries) tally × IsCut m entries
   pub spends : Spends {T = ⊤} (sum_by cost_of (held_parts before.held (take m entries))) before now pages pages_now
       (Ok tt)

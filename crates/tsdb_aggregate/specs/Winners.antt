@@ -7,14 +7,14 @@ use Rattle.tsdb_base.specs.declared.value.Value.{Value}
 use Rattle.tsdb_model.specs.Folds.{aggregate_of}
 use Rattle.tsdb_model.specs.World.{is_in}
 use Rattle.tsdb_base.specs.Points.{IsRising}
-use Rattle.tsdb_aggregate.specs.Pieces.{HeldPiece, points_of}
+use Rattle.tsdb_aggregate.specs.Pieces.{HeldPiece, piece_points}
 
 -- a piece of the source has the point
 pub record Has (parts : List HeldPiece) (source : ℕ) (point : Point) : Type 0 where
   pub part : HeldPiece
   pub among : Contains parts part
   pub of : part.0.source ≡ source
-  pub has : Contains (points_of part) point
+  pub has : Contains (piece_points part) point
 
 -- a source has the point, and no later source has a point at its time
 pub record IsWinnerOfPieces (parts : List HeldPiece) (point : Point) : Type 0 where

@@ -5,7 +5,7 @@ ghost use Rattle.std.specs.List.{zip};
 ghost use Rattle.std.specs.List.Sorted.{IsPermutation};
 ghost use Rattle.tsdb_aggregate.specs.Loads.{Held};
 ghost use Rattle.tsdb_aggregate.specs.Pieces.{hull, overlap as overlaps};
-ghost use Rattle.tsdb_aggregate.specs.Steps.{ComesBefore, IsCut, IsGroup, held_parts};
+ghost use Rattle.tsdb_aggregate.specs.Steps.{ComesBefore, IsCut, IsPieceGroup, held_parts};
 
 use crate::piece::{Piece, overlap};
 use std::alloc::Global;
@@ -13,17 +13,17 @@ use tsdb_base::{Memory, Range, Time};
 
 /// A piece and its place in the list of pieces.
 #[derive(Clone, Copy, Drop)]
-pub struct Entry<'a> {
+pub struct PieceEntry<'a> {
     pub place: usize,
     pub piece: &'a Piece,
 }
 
 /// The pieces that meet the range, in order of their starts.
-pub fn entries_in<'a>(
+pub fn pieces_meeting<'a>(
     alloc: Global,
     pieces: &'a [Piece],
     range: &Range,
-) -> Result<Vec<Entry<'a>>, Memory>
+) -> Result<Vec<PieceEntry<'a>>, Memory>
     ensures places { IfOk result (λ entries. All (λ entry. entry.place < length pieces.now) entries.items) }
     ensures all { IfOk result (λ entries. (held : List Held) → length held ≡ length pieces.now →
         IsPermutation (filter (λ part. overlaps range.now (hull part.0)) (zip pieces.now held))
@@ -35,7 +35,7 @@ pub fn entries_in<'a>(
     for place in 0..pieces.len() {
         let piece = &pieces[place];
         if overlap(range, &piece.hull()) {
-            entries.push(Entry { place, piece })?;
+            entries.push(PieceEntry { place, piece })?;
         }
     }
     entries.sort_by_key(|entry| entry.piece.stats.start)?;
@@ -57,12 +57,12 @@ pub fn begins_after(piece: &Piece, end: Time) -> bool
 }
 
 /// How many of the entries make up the first group: a clean piece alone, or pieces that meet one another.
-pub fn group_length(entries: &[Entry<'_>]) -> usize
+pub fn group_length(entries: &[PieceEntry<'_>]) -> usize
     requires some { 0 < length entries.now }
     ensures some { 0 < result }
     ensures within { result ≤ length entries.now }
     ensures cut { AllPairs ComesBefore entries.now → IsCut result entries.now }
-    ensures group { IsGroup (take result entries.now) }
+    ensures group { IsPieceGroup (take result entries.now) }
 {
     let first = entries[0].piece;
     let mut end = first.stats.end;

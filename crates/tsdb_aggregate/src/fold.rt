@@ -4,11 +4,11 @@ ghost use Rattle.std.specs.List.{zip};
 ghost use Rattle.tsdb_base.specs.declared.point.Point.{Point};
 ghost use Rattle.tsdb_base.specs.declared.point.Range.{Range as RangeModel};
 ghost use Rattle.tsdb_aggregate.specs.Loads.{Spends};
-ghost use Rattle.tsdb_aggregate.specs.Pieces.{AreSound, HeldPiece, most_loads};
-ghost use Rattle.tsdb_aggregate.specs.Steps.{AddsWinners, HasTally, ComesBefore, IsGroup, cost_of, held_parts};
+ghost use Rattle.tsdb_aggregate.specs.Pieces.{ArePiecesSound, HeldPiece, most_loads};
+ghost use Rattle.tsdb_aggregate.specs.Steps.{AddsWinners, HasTally, ComesBefore, IsPieceGroup, cost_of, held_parts};
 ghost use Rattle.tsdb_aggregate.specs.Winners.{AreWinners, IsAggregate};
 
-use crate::entry::{Entry, entries_in, group_length};
+use crate::entry::{PieceEntry, group_length, pieces_meeting};
 use crate::group::add_group;
 use crate::loader::Loader;
 use crate::piece::Piece;
@@ -21,7 +21,7 @@ use tsdb_merge::PullFault;
 /// Adds the winners of a group in the range to a tally: by the statistics of a clean piece, or by points.
 fn add_winners<'a, D: Loader, L: Ledger>(
     alloc: Global,
-    group: &[Entry<'a>],
+    group: &[PieceEntry<'a>],
     name: Aggregate,
     range: &Range,
     loader: &mut D,
@@ -29,8 +29,8 @@ fn add_winners<'a, D: Loader, L: Ledger>(
     tally: &mut Tally<'a>,
 ) -> Result<(), PullFault>
     requires places { All (λ entry. entry.place < length (D.state loader.old).held) group.now }
-    requires group { IsGroup group.now }
-    ensures added { OnOk result (AreSound range.now (held_parts (D.state loader.old).held group.now) →
+    requires group { IsPieceGroup group.now }
+    ensures added { OnOk result (ArePiecesSound range.now (held_parts (D.state loader.old).held group.now) →
         AddsWinners (D.state loader.old).held range.now name group.now tally.old tally.new) }
     ensures spends { Spends (sum_by cost_of (held_parts (D.state loader.old).held group.now))
         (D.state loader.old) (D.state loader.new) pages.old pages.new result }
@@ -45,14 +45,14 @@ fn add_winners<'a, D: Loader, L: Ledger>(
 /// The tally of the winners of all entries in the range.
 fn tally_of<'a, D: Loader, L: Ledger>(
     alloc: Global,
-    entries: &[Entry<'a>],
+    entries: &[PieceEntry<'a>],
     name: Aggregate,
     range: &Range,
     loader: &mut D,
     pages: &mut Steps<L>,
 ) -> Result<Tally<'a>, PullFault>
     requires places { All (λ entry. entry.place < length (D.state loader.old).held) entries.now }
-    ensures found { IfOk result (λ tally. AreSound range.now (held_parts (D.state loader.old).held entries.now) →
+    ensures found { IfOk result (λ tally. ArePiecesSound range.now (held_parts (D.state loader.old).held entries.now) →
         AllPairs ComesBefore entries.now → HasTally (D.state loader.old).held range.now name entries.now tally) }
     ensures spends { Spends (sum_by cost_of (held_parts (D.state loader.old).held entries.now))
         (D.state loader.old) (D.state loader.new) pages.old pages.new result }
@@ -81,12 +81,12 @@ pub fn aggregate<D: Loader, L: Ledger>(
     pages: &mut Steps<L>,
 ) -> Result<Option<Value>, PullFault>
     requires one_each { length (D.state loader.old).held ≡ length pieces.now }
-    ensures found { IfOk result (λ answer. AreSound range.now (zip pieces.now (D.state loader.old).held) →
+    ensures found { IfOk result (λ answer. ArePiecesSound range.now (zip pieces.now (D.state loader.old).held) →
         IsAggregate (zip pieces.now (D.state loader.old).held) range.now name answer) }
     ensures spends { Spends (most_loads range.now (zip pieces.now (D.state loader.old).held))
         (D.state loader.old) (D.state loader.new) pages.old pages.new result }
 {
-    let entries = entries_in(alloc, pieces, range)?;
+    let entries = pieces_meeting(alloc, pieces, range)?;
     let tally = tally_of(alloc, &entries, name, range, loader, pages)?;
     Ok(tally.answer(name)?)
 }

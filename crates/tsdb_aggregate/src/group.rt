@@ -8,10 +8,10 @@ ghost use Rattle.tsdb_base.specs.Points.{IsRising};
 ghost use Rattle.tsdb_base.specs.declared.point.Point.{Point};
 ghost use Rattle.tsdb_aggregate.specs.Lanes.{AreLanesOf, IsLaneOf, IsRowOfPieces, lane_cost, lefts};
 ghost use Rattle.tsdb_aggregate.specs.Loads.{Spends};
-ghost use Rattle.tsdb_aggregate.specs.Pieces.{AreApart, HasOrder};
-ghost use Rattle.tsdb_aggregate.specs.Steps.{AddsMerge, AddsPoint, AddsWinners, AddsWithin, IsSettled, held_parts};
+ghost use Rattle.tsdb_aggregate.specs.Pieces.{ArePiecesApart, HasOrder};
+ghost use Rattle.tsdb_aggregate.specs.Steps.{AddsMerge, AddsPoint, AddsWinners, AddsWithin, IsSettledTally, held_parts};
 
-use crate::entry::{Entry, begins_after, later_end};
+use crate::entry::{PieceEntry, begins_after, later_end};
 use crate::lanes::{Lane, Lanes};
 use crate::loader::Loader;
 use crate::piece::{Piece, contains};
@@ -22,7 +22,7 @@ use tsdb_base::{Aggregate, Memory, Point, Range, Steps, Time};
 use tsdb_merge::{LazyMerge, PullFault, Supply};
 
 /// The entries in the order of their sources, and of one source in order of time.
-fn by_source<'a>(alloc: Global, group: &[Entry<'a>]) -> Result<Vec<Entry<'a>>, Memory>
+fn by_source<'a>(alloc: Global, group: &[PieceEntry<'a>]) -> Result<Vec<PieceEntry<'a>>, Memory>
     ensures all { IfOk result (λ entries. IsPermutation group.now entries.items) }
     ensures order { IfOk result (λ entries.
         AllPairs (λ a b. a.piece.now.source ≤ b.piece.now.source) entries.items) }
@@ -41,7 +41,7 @@ fn goes_on(first: &Piece, end: Time, piece: &Piece) -> bool
 
 /// How many of the entries, which are in the order of their sources, make up the first lane: pieces of one source, of
 /// which each ends before the next one begins.
-fn lane_length(entries: &[Entry<'_>]) -> usize
+fn lane_length(entries: &[PieceEntry<'_>]) -> usize
     requires some { 0 < length entries.now }
     ensures some { 0 < result }
     ensures within { result ≤ length entries.now }
@@ -60,7 +60,7 @@ fn lane_length(entries: &[Entry<'_>]) -> usize
 }
 
 /// A lane of which nothing is loaded yet.
-fn lane_of(alloc: Global, entries: &[Entry<'_>]) -> Result<Lane, Memory>
+fn lane_of(alloc: Global, entries: &[PieceEntry<'_>]) -> Result<Lane, Memory>
     ensures { IfOk result (λ lane. IsLaneOf entries.now lane) }
 {
     let mut places = Vec::new(alloc);
@@ -74,7 +74,7 @@ fn lane_of(alloc: Global, entries: &[Entry<'_>]) -> Result<Lane, Memory>
 }
 
 /// The lanes of a group, in the order of their sources.
-fn lanes_of(alloc: Global, group: &[Entry<'_>]) -> Result<Vec<Lane>, Memory>
+fn lanes_of(alloc: Global, group: &[PieceEntry<'_>]) -> Result<Vec<Lane>, Memory>
     ensures { IfOk result (λ lanes. AreLanesOf group.now lanes.items) }
 {
     let entries = by_source(alloc, group)?;
@@ -97,7 +97,7 @@ fn add_point(
     tally: &mut Tally<'_>,
 ) -> Result<bool, Memory>
     ensures added { IfOk result (λ _. AddsPoint range.now name point tally.old tally.new) }
-    ensures settled { IfOk result (λ last. IsTrue last → IsSettled name tally.new) }
+    ensures settled { IfOk result (λ last. IsTrue last → IsSettledTally name tally.new) }
 {
     if contains(range, point.time) {
         tally.join(name, Tally::of_point(name, point))?;
@@ -175,7 +175,7 @@ fn add_lanes<D: Loader, L: Ledger>(
 /// let go at its end.
 pub fn add_group<D: Loader, L: Ledger>(
     alloc: Global,
-    group: &[Entry<'_>],
+    group: &[PieceEntry<'_>],
     name: Aggregate,
     range: &Range,
     loader: &mut D,
@@ -184,7 +184,7 @@ pub fn add_group<D: Loader, L: Ledger>(
 ) -> Result<(), PullFault>
     requires places { All (λ entry. entry.place < length (D.state loader.old).held) group.now }
     ensures added { OnOk result (All HasOrder (held_parts (D.state loader.old).held group.now) →
-        AllPairs AreApart (held_parts (D.state loader.old).held group.now) →
+        AllPairs ArePiecesApart (held_parts (D.state loader.old).held group.now) →
         AddsWinners (D.state loader.old).held range.now name group.now tally.old tally.new) }
     ensures spends { Spends (sum_by (λ part. part.1.cost) (held_parts (D.state loader.old).held group.now))
         (D.state loader.old) (D.state loader.new) pages.old pages.new result }

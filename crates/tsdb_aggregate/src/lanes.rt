@@ -3,7 +3,8 @@
 ghost use Rattle.std.specs.Prelude.{◌≡◌, ◌+◌, ◌<◌, ◌≤◌, ◌∷◌, [], ⊤, All, IfOk, IsTrue, Ok, length, refl, sum_by, true};
 ghost use Rattle.std.specs.Vec.Iter.{into_iter_items};
 ghost use Rattle.tsdb_merge.specs.Supplies.{IsFilled, KeepsOthers, Moves, left_at};
-ghost use Rattle.tsdb_aggregate.specs.Lanes.{HasPlaces, IsTaken, SpendsDown, lane_cost, lane_left, lane_most, lefts};
+ghost use Rattle.tsdb_aggregate.specs.Lanes.{HasPiecePlaces, IsFrontTaken, SpendsDown, lane_cost, lane_left, lane_most};
+ghost use Rattle.tsdb_aggregate.specs.Lanes.{lefts};
 ghost use Rattle.tsdb_aggregate.specs.SpendLaws.{down_none, down_then, named_then};
 
 use crate::loader::Loader;
@@ -29,7 +30,7 @@ pub struct Lane {
 fn move_some(rest: &mut IntoIter<Point>, into: &mut Vec<Point>) -> Result<bool, Memory>
     requires empty { into.old.items ≡ [] }
     ensures moved { IfOk result (λ more.
-        IsTaken (into_iter_items rest.old) more into.new.items (into_iter_items rest.new)) }
+        IsFrontTaken (into_iter_items rest.old) more into.new.items (into_iter_items rest.new)) }
 {
     while into.len() < MOST_MOVED {
         let Some(point) = rest.next() else {
@@ -56,13 +57,13 @@ fn fill_lane<D: Loader, L: Ledger>(
     loader: &mut D,
     pages: &mut Steps<L>,
 ) -> Result<bool, PullFault>
-    requires places { HasPlaces (length (D.state loader.old).held) lane.old }
+    requires places { HasPiecePlaces (length (D.state loader.old).held) lane.old }
     requires empty { into.old.items ≡ [] }
     ensures moved { IfOk result (λ more. Moves (lane_left (D.state loader.old).held lane.old) more into.new.items
         (lane_left (D.state loader.old).held lane.new)) }
     ensures filled { IfOk result (λ more. IsFilled more into.new.items) }
     ensures most { IfOk result (λ _. length into.new.items + lane_most lane.new ≤ lane_most lane.old) }
-    ensures places { HasPlaces (length (D.state loader.old).held) lane.new }
+    ensures places { HasPiecePlaces (length (D.state loader.old).held) lane.new }
     ensures spends { SpendsDown (lane_cost (D.state loader.old).held lane.old)
         (lane_cost (D.state loader.old).held lane.new) (D.state loader.old) (D.state loader.new) pages.old pages.new result }
 {
@@ -92,7 +93,7 @@ fn fill_one<D: Loader, L: Ledger>(
     pages: &mut Steps<L>,
 ) -> Result<bool, PullFault>
     requires source { source < length list.old.items }
-    requires places { All (HasPlaces (length (D.state loader.old).held)) list.old.items }
+    requires places { All (HasPiecePlaces (length (D.state loader.old).held)) list.old.items }
     requires empty { into.old.items ≡ [] }
     ensures moved { IfOk result (λ more. Moves (left_at (lefts (D.state loader.old).held list.old.items) source)
         more into.new.items (left_at (lefts (D.state loader.old).held list.new.items) source)) }
@@ -101,7 +102,7 @@ fn fill_one<D: Loader, L: Ledger>(
         length into.new.items + sum_by lane_most list.new.items ≤ sum_by lane_most list.old.items) }
     ensures others { KeepsOthers source (lefts (D.state loader.old).held list.old.items)
         (lefts (D.state loader.old).held list.new.items) }
-    ensures places { All (HasPlaces (length (D.state loader.old).held)) list.new.items }
+    ensures places { All (HasPiecePlaces (length (D.state loader.old).held)) list.new.items }
     ensures spends { SpendsDown (sum_by (lane_cost (D.state loader.old).held) list.old.items)
         (sum_by (lane_cost (D.state loader.old).held) list.new.items)
         (D.state loader.old) (D.state loader.new) pages.old pages.new result }
@@ -115,7 +116,7 @@ pub struct Lanes<'a, 'b, 'c, D: Loader, L: Ledger> {
     pub loader: &'b mut D,
     pub pages: &'c mut Steps<L>,
     pub alloc: Global,
-    ghost places: { All (HasPlaces (length (D.state loader.now).held)) list.now.items },
+    ghost places: { All (HasPiecePlaces (length (D.state loader.now).held)) list.now.items },
 }
 
 impl<D: Loader, L: Ledger> Drop for Lanes<'_, '_, '_, D, L> {

@@ -5,7 +5,7 @@ ghost use Rattle.tsdb_model.specs.Folds as folds;
 ghost use Rattle.tsdb_stats.specs.Statistics.{AreStatsOf};
 ghost use Rattle.tsdb_stats.specs.Steps.{number_in};
 ghost use Rattle.tsdb_base.specs.declared.answers.Aggregate.{Aggregate};
-ghost use Rattle.tsdb_aggregate.specs.Steps.{IsChosen, IsSettled, IsTally, answer_of, value_of};
+ghost use Rattle.tsdb_aggregate.specs.Steps.{IsChosen, IsSettledTally, IsTally, answer_of, kept_value};
 
 use tsdb_base::{Aggregate, Memory, Point, Stats, Value};
 
@@ -26,7 +26,7 @@ pub struct Tally<'a> {
 
 /// The number that a value is, if it is one.
 fn number(value: &Value) -> Option<i64>
-    ensures { result ≡ folds.number_of value.now }
+    ensures { result ≡ folds.as_number value.now }
 {
     match value {
         Value::I32(number) => Some(i64::from(*number)),
@@ -48,7 +48,7 @@ fn is_less(a: &Value, b: &Value) -> bool
 impl Kept<'_> {
     /// The value, if there is one.
     fn value(&self) -> Option<&Value>
-        ensures { option_copied result ≡ value_of self.now }
+        ensures { option_copied result ≡ kept_value self.now }
     {
         match self {
             Kept::Nothing => None,
@@ -59,7 +59,7 @@ impl Kept<'_> {
 
     /// Whether the value of later points takes this one's place.
     fn loses_to(&self, name: Aggregate, later: &Kept<'_>) -> bool
-        ensures { IsChosen name (value_of self.now) (value_of later.now) result }
+        ensures { IsChosen name (kept_value self.now) (kept_value later.now) result }
     {
         match (self.value(), later.value()) {
             (None, _) => true,
@@ -76,7 +76,7 @@ impl Kept<'_> {
 
 /// A value that is a number, and else nothing.
 fn if_number<'a>(value: Value) -> Kept<'a>
-    ensures { value_of result ≡ number_in value }
+    ensures { kept_value result ≡ number_in value }
 {
     match number(&value) {
         Some(_) => Kept::Own(value),
@@ -86,7 +86,7 @@ fn if_number<'a>(value: Value) -> Kept<'a>
 
 /// What statistics lend, if there is a value.
 fn lent(value: &Option<Value>) -> Kept<'_>
-    ensures { value_of result ≡ value.now }
+    ensures { kept_value result ≡ value.now }
 {
     match value {
         Some(value) => Kept::Lent(value),
@@ -154,7 +154,7 @@ impl<'a> Tally<'a> {
 
     /// Whether no later point changes it.
     pub fn is_settled(&self, name: Aggregate) -> bool
-        ensures { IsTrue result → IsSettled name self.now }
+        ensures { IsTrue result → IsSettledTally name self.now }
     {
         match name {
             Aggregate::FirstValue | Aggregate::MinTime => self.kept.value().is_some(),

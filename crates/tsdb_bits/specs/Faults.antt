@@ -1,6 +1,6 @@
 -- What each fault says of the bytes.
 use Rattle.std.specs.Prelude.{◌≡◌, ℕ, ◌+◌, ◌<◌, ◌≤◌, ◌^◌, ◌⊎◌, List, length, drop, All}
-use Rattle.tsdb_bits.specs.Leb.{IsCut}
+use Rattle.tsdb_bits.specs.Leb.{IsCutShort}
 use Rattle.tsdb_bits.specs.Packing.{bytes_for, pack_bytes, HasFillingBit}
 use Rattle.tsdb_bits.specs.declared.fault.BitFault.{BitFault}
 use Rattle.tsdb_bits.specs.declared.fault.BitFault.TheVariants as bit_faults
@@ -11,13 +11,13 @@ use Rattle.tsdb_bits.specs.declared.leb.GroupFault.TheVariants as group_faults
 
 -- why no LEB128 spelling begins at a place
 abbrev pub ExplainsLeb : List ℕ → ℕ → BitFault → Type 0
-ExplainsLeb bytes start (bit_faults.Short at) = (at ≡ length bytes) × IsCut (drop start bytes)
-ExplainsLeb bytes start (bit_faults.Overlong at) = (at ≡ start) × ¬ IsCut (drop start bytes)
+ExplainsLeb bytes start (bit_faults.Short at) = (at ≡ length bytes) × IsCutShort (drop start bytes)
+ExplainsLeb bytes start (bit_faults.Overlong at) = (at ≡ start) × ¬ IsCutShort (drop start bytes)
 
 -- the same, where the number is to begin at the first byte
 abbrev pub ExplainsGroups : List ℕ → GroupFault → Type 0
-ExplainsGroups bytes group_faults.Cut = IsCut bytes
-ExplainsGroups bytes group_faults.Overlong = ¬ IsCut bytes
+ExplainsGroups bytes group_faults.Cut = IsCutShort bytes
+ExplainsGroups bytes group_faults.Overlong = ¬ IsCutShort bytes
 
 -- the first byte that no packing of so many bits has there: the last of its bytes, where a filling
 -- bit is set, or else the byte behind it

@@ -12,6 +12,6 @@ unfoldable pub leb : ℕ → List ℕ
 leb number = leb_within (suc number) number
 
 -- the bytes end within a number: fewer than ten, possibly none, and all with the top bit
-pub record IsCut (bytes : List ℕ) : Type 0 where
+pub record IsCutShort (bytes : List ℕ) : Type 0 where
   pub few : length bytes < 10
   pub open_ended : All (λ byte. 128 ≤ byte) bytes

@@ -3,7 +3,7 @@
 ghost use Rattle.std.specs.Prelude.{◌≡◌, ℕ, ◌+◌, ◌-◌, ◌*◌, ◌^◌, ◌<◌, ◌≤◌, List, ◌++◌, length, take, drop, vec_len};
 ghost use Rattle.std.specs.Prelude.{IfOk, IfErr, OnOk, OnErr};
 ghost use Rattle.tsdb_base.specs.Plain.{BeginsWithNone};
-ghost use Rattle.tsdb_bits.specs.Leb.{leb, IsCut};
+ghost use Rattle.tsdb_bits.specs.Leb.{leb, IsCutShort};
 ghost use Rattle.tsdb_bits.specs.Faults.{ExplainsLeb, ExplainsGroups};
 
 use crate::fault::BitFault;
@@ -53,7 +53,7 @@ pub fn get_leb(bytes: &[u8], at: u64) -> Result<(u64, u64), BitFault>
     requires { at ≤ length bytes.now }
     ensures read { IfOk result (λ r. drop at bytes.now ≡ leb r.0 ++ drop r.1 bytes.now) }
     ensures behind { IfOk result (λ r. (at < r.1) × (r.1 ≤ length bytes.now)) }
-    ensures short { IsCut (drop at bytes.now) → result ≡ Err (BitFault.Short (length bytes.now)) }
+    ensures short { IsCutShort (drop at bytes.now) → result ≡ Err (BitFault.Short (length bytes.now)) }
     ensures fault { IfErr result (ExplainsLeb bytes.now at) }
     // Where there is a fault, no number of 64 bits is spelled there.
     ensures none { OnErr result (BeginsWithNone leb (λ value. value < 2 ^ 64) (drop at bytes.now)) }
@@ -78,7 +78,7 @@ enum GroupFault {
 fn leb_in(bytes: &[u8]) -> Result<(u64, u64), GroupFault>
     ensures read { IfOk result (λ r. bytes.now ≡ leb r.0 ++ drop r.1 bytes.now) }
     ensures behind { IfOk result (λ r. (0 < r.1) × (r.1 ≤ length bytes.now)) }
-    ensures whole { IfOk result (λ _. ¬ IsCut bytes.now) }
+    ensures whole { IfOk result (λ _. ¬ IsCutShort bytes.now) }
     ensures fault { IfErr result (ExplainsGroups bytes.now) }
     ensures none { OnErr result (BeginsWithNone leb (λ value. value < 2 ^ 64) bytes.now) }
 {

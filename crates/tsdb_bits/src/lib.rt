@@ -21,7 +21,7 @@ pub use laws::{
     zigzag_is_one_to_one,
 };
 pub use leb::{get_leb, put_leb};
-pub use number::{MAX_VALUES, take_count, take_number};
+pub use number::{MAX_LIST_VALUES, take_count, take_number};
 pub use packing::{pack, unpack, width};
 pub use places::take_packed;
 pub use tsdb_base::Memory;

@@ -8,7 +8,7 @@ use crate::leb::get_leb;
 use tsdb_base::{DecodeFault, limits};
 
 /// The most values of a list.
-pub const MAX_VALUES: u64 = limits::MAX_VALUES as u64;
+pub const MAX_LIST_VALUES: u64 = limits::MAX_VALUES as u64;
 
 /// The LEB128 number that the bytes begin with, and the bytes behind it. It is `Bad` exactly where
 /// they begin with no number of 64 bits.
@@ -33,7 +33,7 @@ pub fn take_count(bytes: &[u8]) -> Result<(usize, &[u8]), DecodeFault>
     ensures none { OnErr result (BeginsWithNone leb (λ count. count ≤ max_values) bytes.now) }
 {
     let (count, rest) = take_number(bytes)?;
-    if count > MAX_VALUES {
+    if count > MAX_LIST_VALUES {
         return Err(DecodeFault::Bad);
     }
     Ok((count as usize, rest))

@@ -11,18 +11,18 @@ use Rattle.tsdb_state.proofs.LayerLemmas.Places.{is_path_same}
 use Rattle.tsdb_state.specs.Layers.{survivor}
 use Rattle.tsdb_base.specs.Lists.{Among}
 use Rattle.tsdb_state.specs.Marks.{is_over, survives}
-use Rattle.tsdb_state.specs.Places.{Content, Place, is_path}
+use Rattle.tsdb_state.specs.Places.{Content, PointPlace, is_path}
 use Rattle.tsdb_marks.specs.Lists.{is_of}
 use Rattle.tsdb_marks.specs.declared.marks.Mark.{Mark}
 use Rattle.tsdb_state.specs.Jobs.{Describes}
-use Rattle.tsdb_state.specs.State.{Entry}
+use Rattle.tsdb_state.specs.State.{KnownFile}
 
 same_path : (path : List ℕ) → pointwise nat_eq path path ≡ true
 same_path [] = refl
 same_path (x ∷ path) = λ i. eq-eqb x x refl i && same_path path i
 
 -- a mark of none of the series is not over a place of one of them
-not_over : (paths : List (List ℕ)) (mark : Mark) (place : Place) → Among place.path paths → is_of paths mark ≡ false
+not_over : (paths : List (List ℕ)) (mark : Mark) (place : PointPlace) → Among place.path paths → is_of paths mark ≡ false
     → is_over mark place ≡ false
 not_over paths mark place among none = by (is_path mark.path place.path) refl
   where
@@ -43,7 +43,7 @@ not_over paths mark place among none = by (is_path mark.path place.path) refl
     by false e = ap (λ (b : Bool). b && (int_le mark.from place.time && int_le place.time mark.to)) e
     by true e = absurd (false≢true (sym none ∙ any paths among (is_path_same mark.path place.path e)))
 
-survives_alike : (paths : List (List ℕ)) (place : Place) (born : ℕ) → Among place.path paths → (marks : List Mark)
+survives_alike : (paths : List (List ℕ)) (place : PointPlace) (born : ℕ) → Among place.path paths → (marks : List Mark)
     → survives (filter (is_of paths) marks) place born ≡ survives marks place born
 survives_alike paths place born among [] = refl
 survives_alike paths place born among (mark ∷ marks) =
@@ -61,8 +61,8 @@ survives_alike paths place born among (mark ∷ marks) =
         ∙ sym (ap (λ (b : Bool). not (b && nat_lt born mark.version.0) && survives marks place born)
         (not_over paths mark place among e))
 
-pub marks_suffice : (paths : List (List ℕ)) (marks : List Mark) (entry : Entry) (content : Content) (born : ℕ)
-    → Describes entry content → ((path : List ℕ) → Among path entry.series → Among path paths) → (place : Place)
+pub marks_suffice : (paths : List (List ℕ)) (marks : List Mark) (entry : KnownFile) (content : Content) (born : ℕ)
+    → Describes entry content → ((path : List ℕ) → Among path entry.series → Among path paths) → (place : PointPlace)
     → survivor (filter (is_of paths) marks) place (record { born = born; content = content })
     ≡ survivor marks place (record { born = born; content = content })
 marks_suffice paths marks entry content born describes all place = by (get content place) refl

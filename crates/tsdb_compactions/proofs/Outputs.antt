@@ -13,11 +13,11 @@ use Rattle.tsdb_compactions.specs.Outputs.{HasNoWinner, HasOutput, IsBuiltFor, T
 use Rattle.tsdb_compactions.specs.declared.job.Job.{Job}
 use Rattle.tsdb_flush.specs.declared.job.Built.{Built}
 use Rattle.tsdb_state.specs.Layers.{value_in}
-use Rattle.tsdb_state.specs.Places.{Content, Place}
+use Rattle.tsdb_state.specs.Places.{Content, PointPlace}
 use Rattle.tsdb_outside.specs.Files.{NamedFile}
 use Rattle.tsdb_state.specs.File.{IsFile}
 use Rattle.tsdb_state.specs.Jobs.{Describes, job_inputs}
-use Rattle.tsdb_state.specs.State.{Compaction, Told}
+use Rattle.tsdb_state.specs.State.{Compaction, ToldContents}
 use Rattle.tsdb_state.specs.Steps.{IsOutput}
 use Rattle.tsdb_state.specs.Views.{file_layers}
 
@@ -28,7 +28,7 @@ same_option None None there back = refl
 same_option None (Some v) there back = back v refl
 same_option (Some v) b there back = sym (there v refl)
 
-module _ {F S R P : Type 0} (name : R → NamedFile) (file : S → NamedFile) (rights : S → ℕ) (told : Told)
+module _ {F S R P : Type 0} (name : R → NamedFile) (file : S → NamedFile) (rights : S → ℕ) (told : ToldContents)
     (job : Job F S R P) (built : Built F S R P) (is : IsBuiltFor name file rights job built)
     (tells : TellsInputs name told job) where
   abbrev content : Content
@@ -64,14 +64,14 @@ module _ {F S R P : Type 0} (name : R → NamedFile) (file : S → NamedFile) (r
           }
 
 -- a compaction has the winners of its job
-pub same_winner : {F S R P : Type 0} (told : Told) (job : Job F S R P) (compaction : Compaction)
-    → IsCompactionOf job compaction → (place : Place)
+pub same_winner : {F S R P : Type 0} (told : ToldContents) (job : Job F S R P) (compaction : Compaction)
+    → IsCompactionOf job compaction → (place : PointPlace)
     → value_in compaction.marks place (file_layers told (job_inputs compaction)) ≡ winner told job place
 same_winner told job compaction is place =
     ap (λ marks. value_in marks place (file_layers told (job_inputs compaction))) is.marks
     ∙ ap (λ files. value_in job.marks.marks place (file_layers told files)) is.inputs
 
-pub no_output : {F S R P : Type 0} (name : R → NamedFile) (told : Told) (job : Job F S R P) (compaction : Compaction)
+pub no_output : {F S R P : Type 0} (name : R → NamedFile) (told : ToldContents) (job : Job F S R P) (compaction : Compaction)
     → IsCompactionOf job compaction → HasNoWinner name job → TellsInputs name told job → IsOutput told compaction []
 no_output name told job compaction is none tells place =
     sym (same_winner told job compaction is place ∙ none told tells place)

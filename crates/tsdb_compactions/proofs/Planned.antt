@@ -14,11 +14,11 @@ use Rattle.tsdb_state.proofs.Plans.{inner_unsequence, other_space}
 use Rattle.tsdb_state.specs.Jobs.{AreApart, Describes, HasKind, Stands, job_inputs}
 use Rattle.tsdb_state.specs.Order.{IsInOrder}
 use Rattle.tsdb_state.specs.Plans.{ClaimLate}
-use Rattle.tsdb_state.specs.State.{Compaction, EngineState, Entries, File, Told}
+use Rattle.tsdb_state.specs.State.{Compaction, EngineState, KnownFiles, File, ToldContents}
 use Rattle.tsdb_state.specs.Steps.{Begins}
 use Rattle.tsdb_state.specs.Views.{file_layer}
 
-module _ (told : Told) (known : Entries) (named : List ℕ) (engine : EngineState) (claimed : File → Bool)
+module _ (told : ToldContents) (known : KnownFiles) (named : List ℕ) (engine : EngineState) (claimed : File → Bool)
     (job : Compaction) (order : IsInOrder told known named engine) (claims : ClaimLate claimed engine.compactions) where
   -- the inputs stand as the kind of the job asks, and no other job has them
   record CanStand : Type 0 where

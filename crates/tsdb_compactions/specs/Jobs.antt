@@ -7,7 +7,7 @@ use Rattle.tsdb_base.specs.declared.ids.Space.TheVariants.{Sequence, Unsequence}
 use Rattle.tsdb_compactions.specs.declared.job.Input.{Input}
 use Rattle.tsdb_compactions.specs.declared.job.Job.{Job}
 use Rattle.tsdb_flush.specs.Order.{AreNamesBefore}
-use Rattle.tsdb_flush.specs.Parts.{names_of}
+use Rattle.tsdb_flush.specs.Parts.{schema_names}
 use Rattle.tsdb_base.specs.Lists.{EachPair}
 use Rattle.tsdb_model.specs.Commands.{IsSchema}
 use Rattle.tsdb_state.specs.Jobs.{job_inputs}
@@ -38,11 +38,11 @@ module _ {F S R P : Type 0} where
 
   -- The job is as a core hands it out: it has an input, its two lists have the numbers of all inputs, and its schemas
   -- are well-formed and in the order of a tree.
-  pub record IsFormed (job : Job F S R P) : Type 0 where
+  pub record IsJobFormed (job : Job F S R P) : Type 0 where
     pub some : job.inputs ≢ []
     pub numbers : numbers_of (input_files job) ≡ plain_numbers job.sequence ++ plain_numbers job.unsequence
     pub schemas : Each IsSchema job.schemas
-    pub rising : EachPair (λ a b. AreNamesBefore (names_of a) (names_of b)) job.schemas
+    pub rising : EachPair (λ a b. AreNamesBefore (schema_names a) (schema_names b)) job.schemas
 
   -- the job has the space, the place, the born, the inputs, the marks and the number of the compaction
   pub record IsCompactionOf (job : Job F S R P) (compaction : Compaction) : Type 0 where

@@ -17,7 +17,7 @@ use Rattle.tsdb_tasks.proofs.Telling.{tell_on}
 use Rattle.tsdb_tasks.proofs.Truth.{tells_truth}
 use Rattle.tsdb_tasks.specs.Beginning.{AreBegun}
 use Rattle.tsdb_tasks.specs.Inputs.{input_numbers}
-use Rattle.tsdb_tasks.specs.Series.{AreOfJob, run_paths}
+use Rattle.tsdb_tasks.specs.Series.{AreSeriesOfJob, run_paths}
 use Rattle.tsdb_tasks.specs.declared.beginning.TakenInputs.{TakenInputs}
 use Rattle.tsdb_tasks.specs.declared.finishing.InputRuns.{InputRuns}
 use Rattle.tsdb_tasks.specs.declared.series.JobSeries.{JobSeries}
@@ -34,7 +34,7 @@ use Rattle.tsdb_core.specs.Beginnings.{cross_run}
 use Rattle.tsdb_core.specs.Beginnings.{no_files}
 use Rattle.tsdb_core.specs.Compactions.{IsJobKept}
 use Rattle.tsdb_core.specs.Core.{AreClaimed, IsSeen, KeepsJobs, is_claimed, next_of}
-use Rattle.tsdb_core.specs.Worlds.{KeepsWorld}
+use Rattle.tsdb_core.specs.Worlds.{CoreKeepsWorld}
 use Rattle.tsdb_core.specs.declared.commit.CoreFault.{CoreFault}
 use Rattle.tsdb_core.specs.declared.engine.Core.{Core}
 use Rattle.tsdb_fileset.specs.Held.{AreFilesOf, listed}
@@ -45,8 +45,8 @@ use Rattle.tsdb_fileset.specs.Replacing.{IsWithin, claim_run, run_length}
 use Rattle.tsdb_base.proofs.Lists.{each_weaker}
 use Rattle.tsdb_base.specs.Lists.{Among, count}
 use Rattle.tsdb_memory.specs.Commands.{IsPrepared}
-use Rattle.tsdb_memory.specs.Logged.{IsSound, Outside, memory_of, room_of}
-use Rattle.tsdb_memory.specs.declared.logged.Logged.{Logged}
+use Rattle.tsdb_memory.specs.Logged.{IsSoundLogged, Outside, memory_of, framed_room}
+use Rattle.tsdb_memory.specs.declared.logged.LoggedMemory.{LoggedMemory}
 use Rattle.tsdb_marks.specs.Lists.{is_of}
 use Rattle.tsdb_model.specs.declared.command.Schema.{Schema}
 use Rattle.tsdb_outside.specs.Files.{NamedFile, Store}
@@ -60,7 +60,7 @@ use Rattle.tsdb_plan.specs.declared.entry.Run.{Run}
 use Rattle.tsdb_base.specs.Limits.{end_of_numbers}
 use Rattle.tsdb_state.specs.Plans.{file_entries}
 use Rattle.tsdb_state.specs.State as state
-use Rattle.tsdb_state.specs.State.{Compaction, EngineState, Entries, File}
+use Rattle.tsdb_state.specs.State.{Compaction, EngineState, KnownFiles, File}
 use Rattle.tsdb_state.specs.Steps.{Begins, began}
 
 -- ---- the runs of a plan
@@ -171,7 +171,7 @@ module _ {J F S R P : Type 0} {means : disk.Ghosts J} {counts : counted.Ghosts J
   cross_kind name core after (Err fault) is = tt
 
   -- they are those of a plan of the state, where the files are its files
-  pub planned_in : (space : Space) (core : Core J F S R P means counts) (runs : InputRuns) (known : Entries)
+  pub planned_in : (space : Space) (core : Core J F S R P means counts) (runs : InputRuns) (known : KnownFiles)
       (engine : EngineState) (born : ℕ) (series : JobSeries) (output : ℕ) → ArePlanned space core runs
       → AreFilesOf core.files known engine → AreKept core.files → AreClaimed core engine.compactions
       → IsPlanned known (is_claimed core.files) engine (compaction_of space born runs core.files series output)
@@ -220,14 +220,14 @@ module _ {J F S R P : Type 0} {means : disk.Ghosts J} {counts : counted.Ghosts J
 
   -- ---- a job has begun
 
-  module _ (name : R → NamedFile) (old : Core J F S R P means counts) (logged : Logged J means counts)
+  module _ (name : R → NamedFile) (old : Core J F S R P means counts) (logged : LoggedMemory J means counts)
       (files : KeptFiles) (next : ℕ) (claimed : Bool) (space : Space) (runs : InputRuns) (inputs : ℕ)
       (series : JobSeries) (taken : TakenInputs F S R P) (plan : ArePlanned space old runs) (kept : AreKept old.files)
       (left : next_of old + 2 ≤ end_of_numbers) (prepared : IsPrepared old.logged logged)
       (all : inputs ≡ run_length runs.sequence + run_length runs.unsequence)
       (few_sequence : run_length runs.sequence ≤ 100000000) (few_late : run_length runs.unsequence ≤ 100000000)
-      (enough : 39 + 8 * inputs ≤ room_of logged)
-      (of : AreOfJob (run_paths runs old.files) (memory_of logged) series)
+      (enough : 39 + 8 * inputs ≤ framed_room logged)
+      (of : AreSeriesOfJob (run_paths runs old.files) (memory_of logged) series)
       (begun : AreBegun name space (next_of old) runs old.files files taken) (is_next : next ≡ next_of old + 1)
       (is_claimed_by : claimed ≡ claimed_by space old.sequence_claimed) (stamp : ℕ)
       (is_stamp : stamp ≡ (memory_of logged).stamp) where
@@ -277,7 +277,7 @@ module _ {J F S R P : Type 0} {means : disk.Ghosts J} {counts : counted.Ghosts J
     has_found : (n : ℕ) → kept_file n files ≡ option_map (more_rights (rights n)) (kept_file n old.files)
     has_found = found name space stamp (next_of old) runs old.files files taken series begun fit.sequence fit.unsequence
 
-    pub jobs : (made : Compaction) (flushes : List state.FlushJob) (compactions : List Compaction)
+    pub jobs : (made : Compaction) (flushes : List state.FlushState) (compactions : List Compaction)
         → IsCompactionOf job made → KeepsJobs old flushes compactions → KeepsJobs new flushes (made ∷ compactions)
     jobs made flushes compactions made_of keeps = begun_kept old new job flushes compactions made made_of keeps refl
         is_next rights has_found
@@ -286,7 +286,7 @@ module _ {J F S R P : Type 0} {means : disk.Ghosts J} {counts : counted.Ghosts J
         (new_room name space stamp (next_of old) runs old.files files taken series begun fit.sequence fit.unsequence)
         some prepared.record_room (omega (arith, enough, all, long))
 
-    pub is_kept : (flushes : List state.FlushJob) (compactions : List Compaction) → KeepsJobs old flushes compactions
+    pub is_kept : (flushes : List state.FlushState) (compactions : List Compaction) → KeepsJobs old flushes compactions
         → IsJobKept name new job
     is_kept flushes compactions keeps = record {
       formed = is_formed name space stamp (next_of old) runs old.files files taken series begun fit.sequence
@@ -314,7 +314,7 @@ module _ {J F S R P : Type 0} {means : disk.Ghosts J} {counts : counted.Ghosts J
     }
 
     module _ (outside : Outside) (engine : EngineState) (seen : IsSeen old outside engine) where
-      sound : IsSound logged outside engine
+      sound : IsSoundLogged logged outside engine
       sound = prepared_sound old.logged logged prepared outside engine seen.sound
 
       moment : IsOfMoment outside.known engine compaction
@@ -385,7 +385,7 @@ module _ {J F S R P : Type 0} {means : disk.Ghosts J} {counts : counted.Ghosts J
     names_stay store k (Some file) same = same
 
     -- the marks and the schemas of its series, memory had before
-    of_before : AreOfJob (run_paths runs old.files) (memory_of old.logged) series
+    of_before : AreSeriesOfJob (run_paths runs old.files) (memory_of old.logged) series
     of_before = record {
       marks = of.marks ∙ ap (filter (is_of (run_paths runs old.files))) prepared.room.marks;
       schemas = subst (λ (all : List Schema). (schema : Schema) → Among schema series.schemas
@@ -446,7 +446,7 @@ module _ {J F S R P : Type 0} {means : disk.Ghosts J} {counts : counted.Ghosts J
 
   -- the state in which a compaction has begun has the same store
   pub begun_world : (name : R → NamedFile) (space : Space) (runs : InputRuns) (old after : Core J F S R P means counts)
-      (out : Job F S R P) → IsBegun name space runs old after out → KeepsWorld old after
+      (out : Job F S R P) → IsBegun name space runs old after out → CoreKeepsWorld old after
   begun_world name space runs old after out begun world is =
       let stepped = begun.step is.outside is.state is.seen in
       record { outside = is.outside; state = began stepped.0 is.state; seen = stepped.3; stands = is.stands }

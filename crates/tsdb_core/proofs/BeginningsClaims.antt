@@ -14,7 +14,7 @@ use Rattle.tsdb_tasks.proofs.Taken.{all_counted}
 use Rattle.tsdb_core.specs.Core.{is_claimed}
 use Rattle.tsdb_fileset.specs.Held.{AreFilesOf, entry_of, listed}
 use Rattle.tsdb_fileset.proofs.Replaced.{run_parts}
-use Rattle.tsdb_fileset.specs.Files.{AreKept, KeptFiles, entries_in, entry_numbers, kept_file, numbers_of}
+use Rattle.tsdb_fileset.specs.Files.{AreKept, KeptFiles, entries_in, entry_numbers, kept_file, all_numbers}
 use Rattle.tsdb_fileset.specs.Places.{KeptFile}
 use Rattle.tsdb_fileset.specs.Replacing.{IsWithin, claim_run, with_claim}
 use Rattle.tsdb_base.proofs.Lists.{among_left, among_right, count_append, each_among}
@@ -22,7 +22,7 @@ use Rattle.tsdb_base.specs.Lists.{Among, count, if_some}
 use Rattle.tsdb_plan.specs.declared.entry.FileEntry.{FileEntry}
 use Rattle.tsdb_plan.specs.declared.entry.Run.{Run}
 use Rattle.tsdb_state.specs.Plans.{file_entries, file_entry}
-use Rattle.tsdb_state.specs.State.{EngineState, Entries, File}
+use Rattle.tsdb_state.specs.State.{EngineState, KnownFiles, File}
 
 abbrev is_claim_of : File → FileEntry → Bool
 is_claim_of file entry = (entry.number.0 == file.number) && entry.claimed
@@ -75,7 +75,7 @@ claimed_once (e ∷ entries) entry (inr among) once =
 
 -- ---- a plan of the files of the state is one of what is kept of them
 
-module _ (files : KeptFiles) (known : Entries) (engine : EngineState) (are : AreFilesOf files known engine)
+module _ (files : KeptFiles) (known : KnownFiles) (engine : EngineState) (are : AreFilesOf files known engine)
     (kept : AreKept files) where
   listed_once : (n : ℕ) → count n (entry_numbers (files.sequence ++ files.unsequence)) ≤ 1
   listed_once n = by (kept_file n files) (kept n)
@@ -85,7 +85,7 @@ module _ (files : KeptFiles) (known : Entries) (engine : EngineState) (are : Are
       split = ap (count n) (map-append (λ (e : FileEntry). e.number.0) files.sequence files.unsequence)
           ∙ count_append n (entry_numbers files.sequence) (entry_numbers files.unsequence)
 
-      by : (o : Option KeptFile) → count n (numbers_of files) ≡ length (if_some o)
+      by : (o : Option KeptFile) → count n (all_numbers files) ≡ length (if_some o)
           → count n (entry_numbers (files.sequence ++ files.unsequence)) ≤ 1
       by None is = omega (arith, is, all_counted n files, split)
       by (Some file) is = omega (arith, is, all_counted n files, split)

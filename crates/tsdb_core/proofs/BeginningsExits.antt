@@ -1,20 +1,20 @@
 -- How the calls that begin a compaction end.
 use Rattle.std.proofs.Common.{◌≡◌, ℕ, List, Option, None, Some, Result, Ok, Err, arith, refl, subst, sym}
 use Rattle.tsdb_base.specs.declared.ids.Space.{Space}
-use Rattle.tsdb_tasks.specs.Beginning.{IsUntouched}
+use Rattle.tsdb_tasks.specs.Beginning.{AreFilesUntouched}
 use Rattle.tsdb_tasks.specs.declared.finishing.InputRuns.{InputRuns}
 use Rattle.tsdb_tasks.specs.Job.{Job}
 use Rattle.tsdb_core.proofs.Beginnings.{begun_world}
 use Rattle.tsdb_core.proofs.Commits.{not_taken, not_taken_world}
 use Rattle.tsdb_core.specs.Beginnings.{IsBeginAnswer, IsBegun, IsBegunOrNot, IsCrossRuns, IsNotBegun, cross_run}
-use Rattle.tsdb_core.specs.Worlds.{KeepsWorld}
+use Rattle.tsdb_core.specs.Worlds.{CoreKeepsWorld}
 use Rattle.tsdb_core.specs.declared.commit.CoreFault.{CoreFault}
 use Rattle.tsdb_core.specs.declared.commit.CoreFault.TheVariants.{Memory, Full}
 use Rattle.tsdb_core.specs.declared.engine.Core.{Core}
 use Rattle.tsdb_fileset.specs.Files.{KeepsLists, KeptFiles}
 use Rattle.tsdb_fileset.specs.Places.{OnlyMakesPlaces}
 use Rattle.tsdb_memory.specs.Commands.{IsPrepared}
-use Rattle.tsdb_memory.specs.declared.logged.Logged.{Logged}
+use Rattle.tsdb_memory.specs.declared.logged.LoggedMemory.{LoggedMemory}
 use Rattle.tsdb_outside.specs.Files.{NamedFile}
 use Rattle.tsdb_outside.specs.declared.disk.Disk as disk
 use Rattle.tsdb_outside.specs.declared.faults.Counted as counted
@@ -31,7 +31,7 @@ answer_of IsPlan runs next (Err Memory) plan answer = ((runs, plan), answer.1)
 answer_of IsPlan runs next (Err (Full counter)) plan answer = ((runs, plan), answer.1, answer.2)
 
 module _ {J : Type 0} {means : disk.Ghosts J} {counts : counted.Ghosts J} where
-  pub nothing_prepared : (logged : Logged J means counts) → IsPrepared logged logged
+  pub nothing_prepared : (logged : LoggedMemory J means counts) → IsPrepared logged logged
   nothing_prepared logged = record {
     log = record { log = refl; doubted = refl };
     record_room = omega arith;
@@ -57,13 +57,13 @@ module _ {J F S R P : Type 0} {means : disk.Ghosts J} {counts : counted.Ghosts J
 
   pub same_world : (name : R → NamedFile) (space : Space) (IsPlan : InputRuns → Type 0)
       (old new : Core J F S R P means counts) (result : Result (Option (Job F S R P)) CoreFault)
-      → IsBegunOrNot name space IsPlan old new result → KeepsWorld old new
+      → IsBegunOrNot name space IsPlan old new result → CoreKeepsWorld old new
   same_world name space IsPlan old new (Ok None) not = not_taken_world old new not.same
   same_world name space IsPlan old new (Ok (Some job)) (these, plan, begun) =
       begun_world name space these old new job begun
   same_world name space IsPlan old new (Err fault) not = not_taken_world old new not.same
 
-  pub not_begun : (old : Core J F S R P means counts) (logged : Logged J means counts) (files : KeptFiles)
+  pub not_begun : (old : Core J F S R P means counts) (logged : LoggedMemory J means counts) (files : KeptFiles)
       → IsPrepared old.logged logged → KeepsLists old.files files → OnlyMakesPlaces old.files.places files.places
       → files.spare ≡ old.files.spare → IsNotBegun old (record old { logged = logged; files = files })
   not_begun old logged files prepared lists made spare = record {
@@ -75,7 +75,7 @@ module _ {J F S R P : Type 0} {means : disk.Ghosts J} {counts : counted.Ghosts J
     same = not_taken old logged files prepared lists made spare;
   }
 
-  pub memory_taken : (old : Core J F S R P means counts) (logged : Logged J means counts) → IsPrepared old.logged logged
+  pub memory_taken : (old : Core J F S R P means counts) (logged : LoggedMemory J means counts) → IsPrepared old.logged logged
       → IsNotBegun old (record old { logged = logged })
   memory_taken old logged prepared = not_begun old logged old.files prepared
       (record { sequence = refl; unsequence = refl; outgoing = refl })
@@ -84,8 +84,8 @@ module _ {J F S R P : Type 0} {means : disk.Ghosts J} {counts : counted.Ghosts J
   pub nothing_begun : (core : Core J F S R P means counts) → IsNotBegun core core
   nothing_begun core = memory_taken core core.logged (nothing_prepared core.logged)
 
-  pub untouched : (old : Core J F S R P means counts) (logged : Logged J means counts) (files : KeptFiles)
-      → IsPrepared old.logged logged → IsUntouched old.files files
+  pub untouched : (old : Core J F S R P means counts) (logged : LoggedMemory J means counts) (files : KeptFiles)
+      → IsPrepared old.logged logged → AreFilesUntouched old.files files
       → IsNotBegun old (record old { logged = logged; files = files })
   untouched old logged files prepared left = not_begun old logged files prepared left.lists
       (record { files = left.files; places = left.places }) left.room

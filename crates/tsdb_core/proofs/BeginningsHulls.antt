@@ -17,17 +17,17 @@ use Rattle.tsdb_base.specs.Lists.{Among}
 use Rattle.tsdb_memory.specs.Logged.{Outside}
 use Rattle.tsdb_outside.specs.declared.disk.Disk as disk
 use Rattle.tsdb_outside.specs.declared.faults.Counted as counted
-use Rattle.tsdb_plan.specs.Files.{AreRising, HaveRisingHulls}
+use Rattle.tsdb_plan.specs.Files.{AreHullsRising, HaveRisingHulls}
 use Rattle.tsdb_plan.specs.declared.entry.FileEntry.{FileEntry}
 use Rattle.tsdb_state.specs.Jobs.{Describes}
 use Rattle.tsdb_state.specs.Order.{IsInOrder}
-use Rattle.tsdb_state.specs.State.{EngineState, Entries, Entry, File, Told}
+use Rattle.tsdb_state.specs.State.{EngineState, KnownFiles, KnownFile, File, ToldContents}
 
 all_of : {X : Type 0} (P : X → Type 0) (xs : List X) → Each P xs → All P xs
 all_of P [] each = All-nil P
 all_of P (x ∷ xs) each = All-cons P x xs each.0 (all_of P xs each.1)
 
-module _ (told : Told) (known : Entries) (named : List ℕ) (engine : EngineState) (files : KeptFiles)
+module _ (told : ToldContents) (known : KnownFiles) (named : List ℕ) (engine : EngineState) (files : KeptFiles)
     (order : IsInOrder told known named engine) (are : AreFilesOf files known engine) (kept : AreKept files) where
   known_in : (space : Space) → Each (IsKnown known files) (entries_in space files)
   known_in Sequence = are.entries_in_sequence
@@ -40,23 +40,23 @@ module _ (told : Told) (known : Entries) (named : List ℕ) (engine : EngineStat
   in_state Unsequence entry among = among_right engine.store.sequence engine.store.unsequence (listed entry)
       (subst (Among (listed entry)) are.unsequence (among_map listed files.unsequence entry among))
 
-  one_rises : (space : Space) (entry : FileEntry) → Among entry (entries_in space files) → AreRising entry.hulls
+  one_rises : (space : Space) (entry : FileEntry) → Among entry (entries_in space files) → AreHullsRising entry.hulls
   one_rises space entry among = by (kept_file entry.number.0 files) (kept_among space files kept entry among)
       (each_among (IsKnown known files) (entries_in space files) entry (known_in space) among)
     where
-      rises : AreRising (known entry.number.0).hulls
+      rises : AreHullsRising (known entry.number.0).hulls
       rises = (each_among (λ (f : File). Describes (known f.number) (told f.number))
           (engine.store.sequence ++ engine.store.unsequence) (listed entry) order.entries
           (in_state space entry among)).rising
 
       by : (o : Option KeptFile) → IsSome o → IfSome o (λ file. known entry.number.0 ≡ entry_of entry file.series)
-          → AreRising entry.hulls
+          → AreHullsRising entry.hulls
       by None some is = absurd cc
-      by (Some file) some is = subst (λ (e : Entry). AreRising e.hulls) is rises
+      by (Some file) some is = subst (λ (e : KnownFile). AreHullsRising e.hulls) is rises
 
   rise : (space : Space) → HaveRisingHulls (entries_in space files)
-  rise space = all_of (λ entry. AreRising entry.hulls) (entries_in space files)
-      (each_from_among (λ entry. AreRising entry.hulls) (entries_in space files) (one_rises space))
+  rise space = all_of (λ entry. AreHullsRising entry.hulls) (entries_in space files)
+      (each_from_among (λ entry. AreHullsRising entry.hulls) (entries_in space files) (one_rises space))
 
 module _ {J F S R P : Type 0} {means : disk.Ghosts J} {counts : counted.Ghosts J} where
   pub hulls_in_order : (core : Core J F S R P means counts) → AreKept core.files → (outside : Outside)

@@ -20,7 +20,7 @@ use Rattle.tsdb_fileset.specs.Room.{more_room}
 use Rattle.tsdb_fileset.specs.declared.room.Spare.{Spare}
 use Rattle.tsdb_base.proofs.Lists.{each_among, each_append, each_left, each_right, each_weaker}
 use Rattle.tsdb_base.specs.Lists.{count}
-use Rattle.tsdb_memory.specs.Logged.{room_of}
+use Rattle.tsdb_memory.specs.Logged.{framed_room}
 use Rattle.tsdb_outside.specs.declared.disk.Disk as disk
 use Rattle.tsdb_outside.specs.declared.faults.Counted as counted_by
 use Rattle.tsdb_tasks.specs.Changes.{more_rights}
@@ -30,7 +30,7 @@ use Rattle.tsdb_state.specs.Jobs.{KeepsRoom, drawn_by, drawn_numbers, flushed_by
 use Rattle.tsdb_state.specs.Jobs.{replaced_bytes}
 use Rattle.tsdb_state.specs.State as state
 use Rattle.tsdb_state.specs.State.{Compaction}
-use Rattle.tsdb_state.specs.Steps.{compaction_room}
+use Rattle.tsdb_state.specs.Steps.{room_for_compaction}
 
 -- ---- the places of a job
 
@@ -62,7 +62,7 @@ none_next next None below = refl
 none_next next (Some file) below = absurd (omega (arith, below))
 
 module _ {J F S R P : Type 0} {means : disk.Ghosts J} {counts : counted_by.Ghosts J} where
-  module _ (core new : Core J F S R P means counts) (job : Job F S R P) (flushes : List state.FlushJob)
+  module _ (core new : Core J F S R P means counts) (job : Job F S R P) (flushes : List state.FlushState)
       (compactions : List Compaction) (compaction : Compaction) (is : IsCompactionOf job compaction)
       (keeps : KeepsJobs core flushes compactions) (output : job.output.0 ≡ next_of core)
       (next : next_of new ≡ next_of core + 1) (rights : ℕ → ℕ)
@@ -70,8 +70,8 @@ module _ {J F S R P : Type 0} {means : disk.Ghosts J} {counts : counted_by.Ghost
       (still_open : (n : ℕ) → IsOpen n core.files → IsOpen n new.files)
       (opened : kept_file job.output.0 core.files ≡ None → IsOpen job.output.0 new.files)
       (room : new.files.spare ≡ more_room core.files.spare (places_of job.space (length job.inputs)))
-      (some : 1 ≤ length job.inputs) (more : room_of core.logged ≤ room_of new.logged)
-      (enough : 39 + 8 * length job.inputs ≤ room_of new.logged) where
+      (some : 1 ≤ length job.inputs) (more : framed_room core.logged ≤ framed_room new.logged)
+      (enough : 39 + 8 * length job.inputs ≤ framed_room new.logged) where
     abbrev drawn : List ℕ
     drawn = drawn_numbers flushes compactions
 
@@ -116,7 +116,7 @@ module _ {J F S R P : Type 0} {means : disk.Ghosts J} {counts : counted_by.Ghost
         (each_left P (flat_map drawn_by flushes) (map (λ (c : Compaction). c.output) compactions) old)
         (one, each_right P (flat_map drawn_by flushes) (map (λ (c : Compaction). c.output) compactions) old)
 
-    kept_with : KeepsRoom (compaction_room (λ a b. a + b) compaction (kept_room core)) flushes
+    kept_with : KeepsRoom (room_for_compaction (λ a b. a + b) compaction (kept_room core)) flushes
         (compaction ∷ compactions)
     kept_with = room_with_compaction compaction (kept_room core) flushes compactions keeps.room
 
@@ -157,12 +157,12 @@ module _ {J F S R P : Type 0} {means : disk.Ghosts J} {counts : counted_by.Ghost
           inputs_are,
           some,
         );
-        flushed = each_weaker (λ (f : state.FlushJob). flushed_bytes ≤ room_of core.logged)
-            (λ f. flushed_bytes ≤ room_of new.logged) (λ f fits. omega (arith, fits, more)) flushes keeps.room.flushed;
+        flushed = each_weaker (λ (f : state.FlushState). flushed_bytes ≤ framed_room core.logged)
+            (λ f. flushed_bytes ≤ framed_room new.logged) (λ f fits. omega (arith, fits, more)) flushes keeps.room.flushed;
         replaced = (
           omega (arith, enough, inputs_are),
-          each_weaker (λ (c : Compaction). replaced_bytes c ≤ room_of core.logged)
-              (λ c. replaced_bytes c ≤ room_of new.logged) (λ c fits. omega (arith, fits, more)) compactions
+          each_weaker (λ (c : Compaction). replaced_bytes c ≤ framed_room core.logged)
+              (λ c. replaced_bytes c ≤ framed_room new.logged) (λ c fits. omega (arith, fits, more)) compactions
               keeps.room.replaced,
         );
       };

@@ -12,7 +12,7 @@ use Rattle.tsdb_tasks.proofs.Coming.{of_store, sent_out, stand_last, tell_on}
 use Rattle.tsdb_tasks.proofs.Committing.{all_there, can_commit, drawn_from_one, ended_stored, least_after}
 use Rattle.tsdb_tasks.proofs.Stored.{stored_with, worlds_with}
 use Rattle.tsdb_tasks.specs.Coming.{AreSentOut, HaveCome, StandLast}
-use Rattle.tsdb_tasks.specs.Files.{AreAllThere, AreOfJob, IsOutAs, NewFile, NewFiles, TellBytes, all_of, number_of}
+use Rattle.tsdb_tasks.specs.Files.{AreAllThere, AreFilesOfJob, IsOutAs, NewFile, NewFiles, TellBytes, all_of, file_number}
 use Rattle.tsdb_tasks.specs.Files.{state_files}
 use Rattle.tsdb_tasks.specs.Files.{with_files}
 use Rattle.tsdb_core.proofs.Claims.{after_commit, claims_stay, same_lists}
@@ -24,10 +24,10 @@ use Rattle.tsdb_core.proofs.Seen.{jobs_stay}
 use Rattle.tsdb_core.specs.Core.{AreClaimed, IsSeen, KeepsJobs}
 use Rattle.tsdb_core.specs.Ending.{IsLeastWith, PartEnds, drawn_for, less_if, number_for}
 use Rattle.tsdb_core.specs.Ending.{numbers_if}
-use Rattle.tsdb_core.specs.Flushes.{AppendsFlush, EndsFlush as EndsInCore, HasNumbersOf, IsAbandoned, IsCommit}
+use Rattle.tsdb_core.specs.Flushes.{AppendsFlush, HasEndedFlush as EndsInCore, HasNumbersOf, IsAbandoned, IsCommit}
 use Rattle.tsdb_core.specs.Flushes.{IsCommitAnswer}
-use Rattle.tsdb_core.specs.Flushes.{IsLoggedAs, IsNotTaken, IsOldest, IsOut}
-use Rattle.tsdb_core.specs.Worlds.{IsWorldOf, KeepsWorld}
+use Rattle.tsdb_core.specs.Flushes.{IsLoggedAs, IsNotTaken, IsOldestPair, IsOut}
+use Rattle.tsdb_core.specs.Worlds.{IsWorldOf, CoreKeepsWorld}
 use Rattle.tsdb_core.specs.declared.commit.Commit.{Commit}
 use Rattle.tsdb_core.specs.declared.commit.Commit.TheVariants.{Device, Done, Gone}
 use Rattle.tsdb_core.specs.declared.engine.Core.{Core}
@@ -50,10 +50,10 @@ use Rattle.tsdb_log.specs.declared.record.LogRecord.TheVariants.{Freeze}
 use Rattle.tsdb_memory.proofs.LogLemmas.Changed.{series_kept}
 use Rattle.tsdb_memory.proofs.LogLemmas.Steps.{no_memory, refuses}
 use Rattle.tsdb_memory.specs.Changes.{KeepsSeries}
-use Rattle.tsdb_memory.specs.Commands.{IsAny, IsPrepared}
+use Rattle.tsdb_memory.specs.Commands.{NeedsNothing, IsPrepared}
 use Rattle.tsdb_memory.specs.Flushes.{CanCommit, IsFlushed}
-use Rattle.tsdb_memory.specs.Logged.{IsSound, LeavesStates, Outside, log_of, memory_of, room_of, with_record}
-use Rattle.tsdb_memory.specs.declared.logged.Logged.{Logged}
+use Rattle.tsdb_memory.specs.Logged.{IsSoundLogged, LeavesStates, Outside, log_of, memory_of, framed_room, with_record}
+use Rattle.tsdb_memory.specs.declared.logged.LoggedMemory.{LoggedMemory}
 use Rattle.tsdb_memory.specs.Least.{IsLeastOf}
 use Rattle.tsdb_memory.specs.Shown.{IsFrozenOf}
 use Rattle.tsdb_memory.specs.Store.{FrozenPair as FrozenInMemory}
@@ -64,18 +64,18 @@ use Rattle.tsdb_outside.specs.declared.faults.Failed.{Failed}
 use Rattle.tsdb_state.proofs.EngineFlush.{flush_keeps}
 use Rattle.tsdb_state.specs.Jobs.{drawn_by, flushed_bytes}
 use Rattle.tsdb_state.specs.State as state
-use Rattle.tsdb_state.specs.State.{Compaction, EngineState, FrozenPair}
+use Rattle.tsdb_state.specs.State.{Compaction, EngineState, FrozenContent}
 use Rattle.tsdb_state.specs.Steps.{committed_flush, ended_flush, failed, flush_record, number_or_none, settled}
 use Rattle.tsdb_state.specs.Worlds.{KeepsWorld as KeepsStoreWorld, StandsFor}
 
 -- the oldest frozen pair of the state, by that in memory
-pub record IsOldestOf (job : FlushJob) (frozen : List FrozenPair) : Type 0 where
-  pub oldest : FrozenPair
-  pub newer : List FrozenPair
+pub record IsOldestOf (job : FlushJob) (frozen : List FrozenContent) : Type 0 where
+  pub oldest : FrozenContent
+  pub newer : List FrozenContent
   pub are : frozen ≡ oldest ∷ newer
   pub born : oldest.born ≡ job.born.0
 
-oldest_of : (job : FlushJob) (series : List Schema) (pairs : List FrozenInMemory) (frozen : List FrozenPair)
+oldest_of : (job : FlushJob) (series : List Schema) (pairs : List FrozenInMemory) (frozen : List FrozenContent)
     → AllZip (IsFrozenOf series) pairs frozen → IsSomeAnd (slice_get pairs 0) (λ pair. pair.born ≡ job.born.0)
     → IsOldestOf job frozen
 oldest_of job series [] frozen zip is = absurd is
@@ -106,16 +106,16 @@ if_numbers P None all = tt
 if_numbers P (Some number) all = all number.0 (inl refl)
 
 module _ {J : Type 0} {means : disk.Ghosts J} {counts : counted.Ghosts J} where
-  pub prepared_sound : (old new : Logged J means counts) → IsPrepared old new → (outside : Outside) (engine :
+  pub prepared_sound : (old new : LoggedMemory J means counts) → IsPrepared old new → (outside : Outside) (engine :
       EngineState)
-      → IsSound old outside engine → IsSound new outside engine
+      → IsSoundLogged old outside engine → IsSoundLogged new outside engine
   prepared_sound old new prepared outside engine sound =
-      (no_memory old new Freeze IsAny prepared.log prepared.same prepared.record_room).step outside engine sound tt
+      (no_memory old new Freeze NeedsNothing prepared.log prepared.same prepared.record_room).step outside engine sound tt
 
 module _ {J F S R P : Type 0} {means : disk.Ghosts J} {counts : counted.Ghosts J} where
   -- ---- memory that was taken
 
-  pub not_taken : (old : Core J F S R P means counts) (logged : Logged J means counts) (files : KeptFiles)
+  pub not_taken : (old : Core J F S R P means counts) (logged : LoggedMemory J means counts) (files : KeptFiles)
       → IsPrepared old.logged logged → KeepsLists old.files files → OnlyMakesPlaces old.files.places files.places
       → files.spare ≡ old.files.spare → IsNotTaken old (record old { logged = logged; files = files })
   not_taken old logged files prepared lists made spare = record {
@@ -140,8 +140,8 @@ module _ {J F S R P : Type 0} {means : disk.Ghosts J} {counts : counted.Ghosts J
       (mid new : KeptFiles) (out : IsOut core job)
       (first : PartEnds commit Sequence job.sequence files.sequence core.files mid)
       (second : PartEnds commit Unsequence job.unsequence files.unsequence mid new)
-      (drawn_first : Each (λ file. Among (number_of file) (numbers_if job.sequence)) (if_some files.sequence))
-      (drawn : Each (λ file. Among (number_of file) (drawn_for job)) (all_of files)) (unread : AreUnreadYet files) where
+      (drawn_first : Each (λ file. Among (file_number file) (numbers_if job.sequence)) (if_some files.sequence))
+      (drawn : Each (λ file. Among (file_number file) (drawn_for job)) (all_of files)) (unread : AreUnreadYet files) where
     come : HaveCome (drawn_for job) files core.files new
     come = both_come commit job.sequence job.unsequence files.sequence files.unsequence core.files mid new first second
         (parts_apart core job out.flush out.others out.flushes out.compactions out.numbers out.out out.keeps)
@@ -198,14 +198,14 @@ module _ {J F S R P : Type 0} {means : disk.Ghosts J} {counts : counted.Ghosts J
 
   -- there is room for its record
   pub record_room : (core : Core J F S R P means counts) (job : FlushJob) → IsOut core job
-      → flushed_bytes ≤ room_of core.logged
-  record_room core job out = with_one_is (λ flush. flushed_bytes ≤ room_of core.logged) out.flush out.others out.flushes
+      → flushed_bytes ≤ framed_room core.logged
+  record_room core job out = with_one_is (λ flush. flushed_bytes ≤ framed_room core.logged) out.flush out.others out.flushes
       out.out out.keeps.room.flushed
 
   -- ---- the record of a flush
 
-  pub logged_out : (old : Core J F S R P means counts) (logged : Logged J means counts) (job : FlushJob)
-      → room_of old.logged ≤ room_of logged → IsOut old job → IsOut (record old { logged = logged }) job
+  pub logged_out : (old : Core J F S R P means counts) (logged : LoggedMemory J means counts) (job : FlushJob)
+      → framed_room old.logged ≤ framed_room logged → IsOut old job → IsOut (record old { logged = logged }) job
   logged_out old logged job more out = record {
     flush = out.flush;
     others = out.others;
@@ -216,13 +216,13 @@ module _ {J F S R P : Type 0} {means : disk.Ghosts J} {counts : counted.Ghosts J
     keeps = jobs_stay old logged more out.flushes out.compactions out.keeps;
   }
 
-  module _ (old : Core J F S R P means counts) (logged : Logged J means counts) (kept : KeptFiles) (job : FlushJob)
-      (files : NewFiles) (store : Store) (of_job : AreOfJob store job files) (commit : Commit)
+  module _ (old : Core J F S R P means counts) (logged : LoggedMemory J means counts) (kept : KeptFiles) (job : FlushJob)
+      (files : NewFiles) (store : Store) (of_job : AreFilesOfJob store job files) (commit : Commit)
       (ends : EndsInCore (record old { logged = logged }) (record old { logged = logged; files = kept }) job files
       commit)
-      (outside : Outside) (engine : EngineState) (flush : state.FlushJob) (others : List state.FlushJob)
+      (outside : Outside) (engine : EngineState) (flush : state.FlushState) (others : List state.FlushState)
       (seen : IsSeen old outside engine) (out : IsOutAs job flush others engine) (tells : TellBytes files)
-      (more : room_of old.logged ≤ room_of logged) where
+      (more : framed_room old.logged ≤ framed_room logged) where
     abbrev new : Core J F S R P means counts
     new = record old { logged = logged; files = kept }
 
@@ -248,7 +248,7 @@ module _ {J F S R P : Type 0} {means : disk.Ghosts J} {counts : counted.Ghosts J
     claims = claims_stay old new engine.compactions (after_commit commit files old.files kept ends.lists) refl seen.claims
 
     -- what the core shows with the files told is sound
-    sound : IsSound old.logged later engine
+    sound : IsSoundLogged old.logged later engine
     sound = record {
       memory = seen.sound.memory;
       log = record { log = seen.sound.log.log; named = seen.sound.log.named };
@@ -278,7 +278,7 @@ module _ {J F S R P : Type 0} {means : disk.Ghosts J} {counts : counted.Ghosts J
     pub ended_seen : AreSentOut files old.files kept → logged ≡ old.logged
         → IsSeen new later (ended_flush flush others (state_files files) engine)
     ended_seen sent same = record {
-      sound = subst (λ log. IsSound log later (ended_flush flush others (state_files files) engine)) (sym same) (record {
+      sound = subst (λ log. IsSoundLogged log later (ended_flush flush others (state_files files) engine)) (sym same) (record {
         memory = seen.sound.memory;
         log = record { log = seen.sound.log.log; named = seen.sound.log.named };
         stored = ended_stored store job files flush others engine out of_job outside seen.sound.stored tells;
@@ -290,7 +290,7 @@ module _ {J F S R P : Type 0} {means : disk.Ghosts J} {counts : counted.Ghosts J
       claims = claims;
     }
 
-    module _ (all : AreAllThere job files) (listed : Option Stamp) (is_oldest : IsOldest job (memory_of old.logged))
+    module _ (all : AreAllThere job files) (listed : Option Stamp) (is_oldest : IsOldestPair job (memory_of old.logged))
         (least : IsLeastWith listed job (listed_borns old.files)) where
       oldest : IsOldestOf job engine.store.frozen
       oldest = oldest_of job (memory_of old.logged).series (memory_of old.logged).frozen engine.store.frozen
@@ -359,7 +359,7 @@ module _ {J F S R P : Type 0} {means : disk.Ghosts J} {counts : counted.Ghosts J
           are = subst (λ list. AreFilesOf kept later.known (ended_flush flush others list engine))
               (all_there store job files flush others engine out of_job all) (gone_files sent)
 
-          shown : (doubt : Option LogRecord) → IsSound logged later (record ended { doubt = doubt })
+          shown : (doubt : Option LogRecord) → IsSoundLogged logged later (record ended { doubt = doubt })
               → IsSeen new later (record ended { doubt = doubt })
           shown doubt is = record {
             sound = is;
@@ -377,8 +377,8 @@ module _ {J F S R P : Type 0} {means : disk.Ghosts J} {counts : counted.Ghosts J
             claims = claims;
           }
 
-          by : IsSound logged later (settled ended)
-              ⊎ (IsSound logged later ended ⊎ IsSound logged later (failed (flush_record flush) ended))
+          by : IsSoundLogged logged later (settled ended)
+              ⊎ (IsSoundLogged logged later ended ⊎ IsSoundLogged logged later (failed (flush_record flush) ended))
               → IsSeen new later (settled ended)
               ⊎ (IsSeen new later ended ⊎ IsSeen new later (failed (flush_record flush) ended))
           by (inl none) = inl (shown None none)
@@ -396,8 +396,8 @@ module _ {J F S R P : Type 0} {means : disk.Ghosts J} {counts : counted.Ghosts J
   -- ---- the calls
 
   -- an end of a flush behind its record is one of the core before it
-  ends_both : (old : Core J F S R P means counts) (logged : Logged J means counts) (kept : KeptFiles) (job : FlushJob)
-      (files : NewFiles) (commit : Commit) → room_of old.logged ≤ room_of logged
+  ends_both : (old : Core J F S R P means counts) (logged : LoggedMemory J means counts) (kept : KeptFiles) (job : FlushJob)
+      (files : NewFiles) (commit : Commit) → framed_room old.logged ≤ framed_room logged
       → EndsInCore (record old { logged = logged }) (record old { logged = logged; files = kept }) job files commit
       → EndsInCore old (record old { logged = logged; files = kept }) job files commit
   ends_both old logged kept job files commit more ends = record {
@@ -414,8 +414,8 @@ module _ {J F S R P : Type 0} {means : disk.Ghosts J} {counts : counted.Ghosts J
     claimed = ends.claimed;
   }
 
-  module _ (old : Core J F S R P means counts) (logged : Logged J means counts) (kept : KeptFiles) (job : FlushJob)
-      (files : NewFiles) (store : Store) (of_job : AreOfJob store job files) (all : AreAllThere job files) where
+  module _ (old : Core J F S R P means counts) (logged : LoggedMemory J means counts) (kept : KeptFiles) (job : FlushJob)
+      (files : NewFiles) (store : Store) (of_job : AreFilesOfJob store job files) (all : AreAllThere job files) where
     abbrev both : Core J F S R P means counts
     both = record old { logged = logged; files = kept }
 
@@ -462,7 +462,7 @@ module _ {J F S R P : Type 0} {means : disk.Ghosts J} {counts : counted.Ghosts J
       moments = λ outside engine flush others seen out tells.
           subst (λ log. LeavesStates old.logged log (with_files flush files outside) engine (flush_record flush)) (sym
           logs)
-          ((refuses old.logged (flush_record flush) IsAny answer.NoPath tt).moments (with_files flush files outside)
+          ((refuses old.logged (flush_record flush) NeedsNothing answer.NoPath tt).moments (with_files flush files outside)
           engine
           (sound old logged kept job files store of_job Gone ends outside engine flush others seen out tells same_room)
           tt);
@@ -485,8 +485,8 @@ module _ {J F S R P : Type 0} {means : disk.Ghosts J} {counts : counted.Ghosts J
       later = subst (λ log. faults_of (log_of old.logged) ≤ faults_of (log_of log)) (sym logs) (omega arith);
     }
       where
-        same_room : room_of old.logged ≤ room_of logged
-        same_room = subst (λ log. room_of old.logged ≤ room_of log) (sym logs) (omega arith)
+        same_room : framed_room old.logged ≤ framed_room logged
+        same_room = subst (λ log. framed_room old.logged ≤ framed_room log) (sym logs) (omega arith)
     is_commit Device answered (fault, logs) ends = record {
       answer = answered;
       ends = ends_both old logged kept job files Device logs.flushed.room ends;
@@ -520,7 +520,7 @@ module _ {J F S R P : Type 0} {means : disk.Ghosts J} {counts : counted.Ghosts J
     }
 
   pub is_abandoned : (old : Core J F S R P means counts) (kept : KeptFiles) (job : FlushJob) (files : NewFiles)
-      (store : Store) → AreOfJob store job files → EndsInCore old (record old { files = kept }) job files Gone
+      (store : Store) → AreFilesOfJob store job files → EndsInCore old (record old { files = kept }) job files Gone
       → IsAbandoned old (record old { files = kept }) job files
   is_abandoned old kept job files store of_job ends = record {
     logged = refl;
@@ -536,7 +536,7 @@ module _ {J F S R P : Type 0} {means : disk.Ghosts J} {counts : counted.Ghosts J
   }
 
   -- where no flush is taken the core stands for the same worlds
-  pub not_taken_world : (old after : Core J F S R P means counts) → IsNotTaken old after → KeepsWorld old after
+  pub not_taken_world : (old after : Core J F S R P means counts) → IsNotTaken old after → CoreKeepsWorld old after
   not_taken_world old after not world is = record {
     outside = is.outside;
     state = is.state;
@@ -546,7 +546,7 @@ module _ {J F S R P : Type 0} {means : disk.Ghosts J} {counts : counted.Ghosts J
 
   -- ---- the calls, from what their parts promise
 
-  pub appended : (old : Core J F S R P means counts) (logged : Logged J means counts) (job : FlushJob)
+  pub appended : (old : Core J F S R P means counts) (logged : LoggedMemory J means counts) (job : FlushJob)
       (listed : Option Stamp) (s u : FileNumber) (outcome result : Result (Unit {0}) Failed)
       → s ≡ number_for job.sequence → u ≡ number_for job.unsequence → outcome ≡ result
       → IsLeastWith listed job (listed_borns old.files) → IsFlushed old.logged logged s u listed outcome
@@ -561,9 +561,9 @@ module _ {J F S R P : Type 0} {means : disk.Ghosts J} {counts : counted.Ghosts J
   }
 
   pub more_logged : (old mid : Core J F S R P means counts) (job : FlushJob) (commit : Commit)
-      → IsLoggedAs old mid job commit → room_of old.logged ≤ room_of mid.logged
+      → IsLoggedAs old mid job commit → framed_room old.logged ≤ framed_room mid.logged
   more_logged old mid job Done logs = logs.flushed.room
-  more_logged old mid job Gone same = subst (λ log. room_of old.logged ≤ room_of log) (sym same) (omega arith)
+  more_logged old mid job Gone same = subst (λ log. framed_room old.logged ≤ framed_room log) (sym same) (omega arith)
   more_logged old mid job Device logs = logs.1.flushed.room
 
   module _ (old mid : Core J F S R P means counts) (job : FlushJob) (commit : Commit)
@@ -573,7 +573,7 @@ module _ {J F S R P : Type 0} {means : disk.Ghosts J} {counts : counted.Ghosts J
         (logged_out old mid.logged job (more_logged old mid job commit logs) out)
 
     pub committed_from : (new : Core J F S R P means counts) (files : NewFiles) (store : Store)
-        → AreOfJob store job files → AreAllThere job files → new ≡ record mid { files = new.files }
+        → AreFilesOfJob store job files → AreAllThere job files → new ≡ record mid { files = new.files }
         → IsCommitAnswer job (memory_of old.logged) commit → EndsInCore mid new job files commit
         → IsCommit old new job files commit
     committed_from new files store of_job all is_new answered ends =
@@ -590,7 +590,7 @@ module _ {J F S R P : Type 0} {means : disk.Ghosts J} {counts : counted.Ghosts J
         whole = is_new ∙ ap (λ (core : Core J F S R P means counts). record core { files = new.files }) is_mid
 
   pub abandoned_from : (old new : Core J F S R P means counts) (job : FlushJob) (files : NewFiles) (store : Store)
-      → AreOfJob store job files → new ≡ record old { files = new.files } → EndsInCore old new job files Gone
+      → AreFilesOfJob store job files → new ≡ record old { files = new.files } → EndsInCore old new job files Gone
       → IsAbandoned old new job files
   abandoned_from old new job files store of_job is_new ends = subst (λ core. IsAbandoned old core job files) (sym
       is_new)

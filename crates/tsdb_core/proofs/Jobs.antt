@@ -10,7 +10,7 @@ use Rattle.tsdb_base.specs.declared.ids.FileNumber.{FileNumber}
 use Rattle.tsdb_base.specs.declared.ids.Space.TheVariants.{Sequence, Unsequence}
 use Rattle.tsdb_tasks.proofs.Coming.{of_each}
 use Rattle.tsdb_tasks.specs.Coming.{HaveCome}
-use Rattle.tsdb_tasks.specs.Files.{NewFiles, all_of, number_of}
+use Rattle.tsdb_tasks.specs.Files.{NewFiles, all_of, file_number}
 use Rattle.tsdb_core.proofs.Parts.{plain}
 use Rattle.tsdb_core.proofs.Seen.{jobs_stay}
 use Rattle.tsdb_core.specs.Core.{KeepsJobs, kept_room, next_of}
@@ -20,15 +20,15 @@ use Rattle.tsdb_core.specs.declared.engine.Core.{Core}
 use Rattle.tsdb_fileset.specs.FlushJob.{FlushJob}
 use Rattle.tsdb_fileset.proofs.Counts.{counted}
 use Rattle.tsdb_fileset.specs.Files.{IsOpen, KeptFiles, kept_file}
-use Rattle.tsdb_fileset.specs.Places.{ArePlacesMade, KeptFile, OnlyMakesPlaces, file_at, place_at}
+use Rattle.tsdb_fileset.specs.Places.{ArePlacesMade, KeptFile, OnlyMakesPlaces, file_at, place_of_number}
 use Rattle.tsdb_fileset.specs.Room.{flush_room, more_room}
 use Rattle.tsdb_fileset.specs.declared.room.Spare.{Spare}
 use Rattle.tsdb_base.proofs.Lists.{any_among, count_append, each_among, each_append, each_from_among, each_left}
 use Rattle.tsdb_base.proofs.Lists.{each_right, each_weaker}
 use Rattle.tsdb_base.proofs.Lists.{each_map, with_one_each}
 use Rattle.tsdb_base.specs.Lists.{Among, IsWithOne, count, if_some}
-use Rattle.tsdb_memory.specs.Logged.{room_of}
-use Rattle.tsdb_memory.specs.declared.logged.Logged.{Logged}
+use Rattle.tsdb_memory.specs.Logged.{framed_room}
+use Rattle.tsdb_memory.specs.declared.logged.LoggedMemory.{LoggedMemory}
 use Rattle.tsdb_outside.specs.declared.disk.Disk as disk
 use Rattle.tsdb_outside.specs.declared.faults.Counted as counted_by
 use Rattle.tsdb_state.proofs.Counting.{numbers_drawn}
@@ -36,7 +36,7 @@ use Rattle.tsdb_state.proofs.Holding.{room_with_flush, room_without_flush}
 use Rattle.tsdb_state.proofs.Numbering.{count_drawn, count_with_one}
 use Rattle.tsdb_state.specs.Jobs.{KeepsRoom, NumbersInOrder, drawn_by, drawn_numbers, flushed_bytes, replaced_bytes}
 use Rattle.tsdb_base.specs.Limits.{end_of_numbers}
-use Rattle.tsdb_state.specs.Steps.{flush_room as job_room}
+use Rattle.tsdb_state.specs.Steps.{room_for_flush as job_room}
 use Rattle.tsdb_state.specs.State as state
 use Rattle.tsdb_state.specs.State.{Compaction}
 
@@ -46,7 +46,7 @@ numbers_plain : (number : Option FileNumber) → if_some (plain number) ≡ numb
 numbers_plain None = refl
 numbers_plain (Some number) = refl
 
-pub drawn_is : (job : FlushJob) (flush : state.FlushJob) → HasNumbersOf job flush → drawn_by flush ≡ drawn_for job
+pub drawn_is : (job : FlushJob) (flush : state.FlushState) → HasNumbersOf job flush → drawn_by flush ≡ drawn_for job
 drawn_is job flush has = (λ i. if_some (has.sequence i) ++ if_some (has.unsequence i))
     ∙ (λ i. numbers_plain job.sequence i ++ numbers_plain job.unsequence i)
 
@@ -81,8 +81,8 @@ some_places (Some number) = refl
 module _ {J F S R P : Type 0} {means : disk.Ghosts J} {counts : counted_by.Ghosts J} where
   -- ---- a flush that is out
 
-  module _ (core : Core J F S R P means counts) (job : FlushJob) (flush : state.FlushJob)
-      (others flushes : List state.FlushJob) (compactions : List Compaction) (has : HasNumbersOf job flush)
+  module _ (core : Core J F S R P means counts) (job : FlushJob) (flush : state.FlushState)
+      (others flushes : List state.FlushState) (compactions : List Compaction) (has : HasNumbersOf job flush)
       (out : IsWithOne flush others flushes) (keeps : KeepsJobs core flushes compactions) where
     -- its numbers, and those of the others
     parted : (n : ℕ) → count n (drawn_numbers flushes compactions)
@@ -138,21 +138,21 @@ module _ {J F S R P : Type 0} {means : disk.Ghosts J} {counts : counted_by.Ghost
       omega (
         arith,
         keeps.room.sequence,
-        one_of (λ (f : state.FlushJob). length (if_some f.sequence)) flush others flushes out,
+        one_of (λ (f : state.FlushState). length (if_some f.sequence)) flush others flushes out,
         ap (λ (o : Option ℕ). length (if_some o)) has.sequence,
         some_places job.sequence,
       ),
       omega (
         arith,
         keeps.room.unsequence,
-        one_of (λ (f : state.FlushJob). length (if_some f.unsequence)) flush others flushes out,
+        one_of (λ (f : state.FlushState). length (if_some f.unsequence)) flush others flushes out,
         ap (λ (o : Option ℕ). length (if_some o)) has.unsequence,
         some_places job.unsequence,
       ),
       omega (
         arith,
         keeps.room.outgoing,
-        one_of (λ (f : state.FlushJob). length (drawn_by f)) flush others flushes out,
+        one_of (λ (f : state.FlushState). length (drawn_by f)) flush others flushes out,
         ap (λ (o : Option ℕ). length (if_some o)) has.sequence,
         ap (λ (o : Option ℕ). length (if_some o)) has.unsequence,
         length-append (if_some flush.sequence) (if_some flush.unsequence),
@@ -163,7 +163,7 @@ module _ {J F S R P : Type 0} {means : disk.Ghosts J} {counts : counted_by.Ghost
 
     -- once its files have come, the core keeps what it kept for the others
     module _ (files : NewFiles) (kept : KeptFiles) (come : HaveCome (drawn_for job) files core.files kept)
-        (drawn : Each (λ file. Among (number_of file) (drawn_for job)) (all_of files))
+        (drawn : Each (λ file. Among (file_number file) (drawn_for job)) (all_of files))
         (room : kept.spare ≡ less_if Unsequence job.unsequence (less_if Sequence job.sequence core.files.spare)) where
       less_both : (s u : Option FileNumber) (spare : Spare)
           → (less_if Unsequence u (less_if Sequence s spare)).sequence ≡ spare.sequence - length (if_some s)
@@ -180,7 +180,7 @@ module _ {J F S R P : Type 0} {means : disk.Ghosts J} {counts : counted_by.Ghost
         from_one = keeps.from_one;
         below = of_each (drawn_for job) files core.files kept come (λ n file. n < next_of core)
             (λ n never. keeps.below n)
-            (each_from_among _ (all_of files) (λ file there. (in_range (number_of file)
+            (each_from_among _ (all_of files) (λ file there. (in_range (file_number file)
             (each_among _ (all_of files) file drawn there)).1));
         differ = λ n. omega (arith, parted n, keeps.differ n);
         range = each_from_among _ (drawn_numbers others compactions) (λ n there.
@@ -251,8 +251,8 @@ module _ {J F S R P : Type 0} {means : disk.Ghosts J} {counts : counted_by.Ghost
 
   -- ---- a flush that is taken
 
-  module _ (core : Core J F S R P means counts) (job : FlushJob) (flush : state.FlushJob)
-      (flushes : List state.FlushJob) (compactions : List Compaction) (has : HasNumbersOf job flush)
+  module _ (core : Core J F S R P means counts) (job : FlushJob) (flush : state.FlushState)
+      (flushes : List state.FlushState) (compactions : List Compaction) (has : HasNumbersOf job flush)
       (keeps : KeepsJobs core flushes compactions) (files : KeptFiles) (k : ℕ)
       (numbers : drawn_for job ≡ range_with_len (next_of core) k) (end : next_of core + k ≤ end_of_numbers)
       (made : OnlyMakesPlaces core.files.places files.places)
@@ -310,7 +310,7 @@ module _ {J F S R P : Type 0} {means : disk.Ghosts J} {counts : counted_by.Ghost
         (each_among (λ n. next_of core ≤ n) (drawn_for job) n
         (subst (Each (λ n. next_of core ≤ n)) (sym numbers) (range_from (next_of core) k)) there))
       where
-        places_made : Each (λ n. file_at (place_at n core.files.places) ≡ None → IsOpen n files) (drawn_for job)
+        places_made : Each (λ n. file_at (place_of_number n core.files.places) ≡ None → IsOpen n files) (drawn_for job)
         places_made = each_append _ (numbers_if job.sequence) (numbers_if job.unsequence)
             (each_map _ (λ (n : FileNumber). n.0) (if_some job.sequence)
             (each_left _ (if_some job.sequence) (if_some job.unsequence) placed))
@@ -321,8 +321,8 @@ module _ {J F S R P : Type 0} {means : disk.Ghosts J} {counts : counted_by.Ghost
         opened n there from = each_among _ (drawn_for job) n places_made there
             (none_kept n (kept_file n core.files) from (keeps.below n))
 
-    pub one_more_kept : (logged : Logged J means counts) (next : ℕ) → next ≡ next_of core + k
-        → room_of core.logged ≤ room_of logged → flushed_bytes ≤ room_of logged
+    pub one_more_kept : (logged : LoggedMemory J means counts) (next : ℕ) → next ≡ next_of core + k
+        → framed_room core.logged ≤ framed_room logged → flushed_bytes ≤ framed_room logged
         → KeepsJobs (record core { logged = logged; files = files; next_file = next }) (flush ∷ flushes) compactions
     one_more_kept logged next is more enough = record {
       from_one = omega (arith, keeps.from_one, is);
@@ -368,11 +368,11 @@ module _ {J F S R P : Type 0} {means : disk.Ghosts J} {counts : counted_by.Ghost
         );
         flushed = (
           enough,
-          each_weaker (λ (f : state.FlushJob). flushed_bytes ≤ room_of core.logged)
-              (λ f. flushed_bytes ≤ room_of logged) (λ f fits. omega (arith, fits, more)) flushes keeps.room.flushed,
+          each_weaker (λ (f : state.FlushState). flushed_bytes ≤ framed_room core.logged)
+              (λ f. flushed_bytes ≤ framed_room logged) (λ f fits. omega (arith, fits, more)) flushes keeps.room.flushed,
         );
-        replaced = each_weaker (λ (c : Compaction). replaced_bytes c ≤ room_of core.logged)
-            (λ c. replaced_bytes c ≤ room_of logged) (λ c fits. omega (arith, fits, more)) compactions
+        replaced = each_weaker (λ (c : Compaction). replaced_bytes c ≤ framed_room core.logged)
+            (λ c. replaced_bytes c ≤ framed_room logged) (λ c fits. omega (arith, fits, more)) compactions
             keeps.room.replaced;
       };
     }
@@ -385,9 +385,9 @@ module _ {J F S R P : Type 0} {means : disk.Ghosts J} {counts : counted_by.Ghost
             are
 
   -- where memory was taken and no flush, what is kept stays
-  pub same_kept : (core : Core J F S R P means counts) (logged : Logged J means counts) (files : KeptFiles)
-      → room_of core.logged ≤ room_of logged → OnlyMakesPlaces core.files.places files.places
-      → files.spare ≡ core.files.spare → (flushes : List state.FlushJob) (compactions : List Compaction)
+  pub same_kept : (core : Core J F S R P means counts) (logged : LoggedMemory J means counts) (files : KeptFiles)
+      → framed_room core.logged ≤ framed_room logged → OnlyMakesPlaces core.files.places files.places
+      → files.spare ≡ core.files.spare → (flushes : List state.FlushState) (compactions : List Compaction)
       → KeepsJobs core flushes compactions
       → KeepsJobs (record core { logged = logged; files = files }) flushes compactions
   same_kept core logged files more made spare flushes compactions keeps = record {
@@ -402,6 +402,6 @@ module _ {J F S R P : Type 0} {means : disk.Ghosts J} {counts : counted_by.Ghost
       sequence = room.sequence;
       unsequence = room.unsequence;
       outgoing = room.outgoing;
-      record_bytes = room_of logged;
+      record_bytes = framed_room logged;
     }) flushes compactions) (sym spare) (jobs_stay core logged more flushes compactions keeps).room;
   }

@@ -9,14 +9,14 @@ use Rattle.tsdb_core.specs.Listings.{ListsStore}
 use Rattle.tsdb_core.specs.declared.engine.Core.{Core}
 use Rattle.tsdb_fileset.specs.Files.{AreKept}
 use Rattle.tsdb_fileset.proofs.Telling.{lines_tell_files}
-use Rattle.tsdb_fileset.specs.Lines.{lines_of}
+use Rattle.tsdb_fileset.specs.Lines.{file_lines_of}
 use Rattle.tsdb_fileset.specs.Listings.{TellFiles}
 use Rattle.tsdb_memory.specs.Logged.{Outside, memory_of}
 use Rattle.tsdb_model.specs.declared.reply.FileLine.{FileLine}
 use Rattle.tsdb_marks.specs.declared.marks.Mark.{Mark}
 use Rattle.tsdb_memory.specs.Model.{frozen_in}
 use Rattle.tsdb_memory.specs.Shown.{IsFrozenOf, IsMemoryOf, part_of}
-use Rattle.tsdb_memory.specs.Store.{Store}
+use Rattle.tsdb_memory.specs.Store.{MemoryState}
 use Rattle.tsdb_memory.specs.declared.store.FrozenPair.{FrozenPair}
 use Rattle.tsdb_outside.specs.declared.disk.Disk as disk
 use Rattle.tsdb_outside.specs.declared.faults.Counted as counted
@@ -24,9 +24,9 @@ use Rattle.tsdb_state.specs.State.{EngineState, StoreState}
 
 module _ {J F S R P : Type 0} {means : disk.Ghosts J} {counts : counted.Ghosts J} where
   pub lists_store : (core : Core J F S R P means counts) (outside : Outside) (state : EngineState)
-      (lines : List FileLine) (memory : Store) (frozen : List FrozenPair) (sequence unsequence : ℕ) (marks : List Mark)
+      (lines : List FileLine) (memory : MemoryState) (frozen : List FrozenPair) (sequence unsequence : ℕ) (marks : List Mark)
       → IsSeen core outside state → memory ≡ memory_of (logged_of core) → AreKept (files_of core)
-      → lines ≡ lines_of Sequence (files_of core).sequence ++ lines_of Unsequence (files_of core).unsequence
+      → lines ≡ file_lines_of Sequence (files_of core).sequence ++ file_lines_of Unsequence (files_of core).unsequence
       → map frozen_in frozen ≡ memory.frozen
       → ((state : StoreState) → IsMemoryOf memory state → sequence ≡ len (part_of Sequence state.working))
       → ((state : StoreState) → IsMemoryOf memory state → unsequence ≡ len (part_of Unsequence state.working))
@@ -39,7 +39,7 @@ module _ {J F S R P : Type 0} {means : disk.Ghosts J} {counts : counted.Ghosts J
       })
   lists_store core outside state lines memory frozen sequence unsequence marks seen same kept are frozen_are in_sequence
       in_unsequence marks_are =
-      let shown = subst (λ (m : Store). IsMemoryOf m state.store) (sym same) seen.sound.memory in
+      let shown = subst (λ (m : MemoryState). IsMemoryOf m state.store) (sym same) seen.sound.memory in
       record {
         files = subst (TellFiles outside.told state.store) (sym are)
             (lines_tell_files (files_of core) outside.told outside.known kept state seen.files

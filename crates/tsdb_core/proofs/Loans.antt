@@ -7,7 +7,7 @@ use Rattle.std.specs.Option.{IsSomeAnd, option_map}
 use Rattle.tsdb_base.specs.declared.ids.FileNumber.{FileNumber}
 use Rattle.tsdb_tasks.specs.Coming.{HaveCome}
 use Rattle.tsdb_tasks.proofs.Coming.{of_each}
-use Rattle.tsdb_tasks.specs.Files.{NewFile, NewFiles, all_of, new_file, new_files, number_of}
+use Rattle.tsdb_tasks.specs.Files.{NewFile, NewFiles, all_of, file_built, new_files, file_number}
 use Rattle.tsdb_core.proofs.LoansInputs.{inputs_grown, inputs_same}
 use Rattle.tsdb_core.proofs.LoansRights.{IsNamedIn, fewer_counted, name_same, no_right_on, none_on}
 use Rattle.tsdb_core.proofs.LoansRights.{rights_given, rights_pass, rights_same, rights_swept, rights_taken}
@@ -38,7 +38,7 @@ use Rattle.tsdb_tasks.specs.Column.{Column}
 use Rattle.tsdb_tasks.specs.Pin.{Pin}
 use Rattle.tsdb_tasks.specs.PinnedSource.{PinnedSource}
 use Rattle.tsdb_tasks.specs.TheVariants.{File, Part}
-use Rattle.tsdb_state.specs.State.{Compaction, FlushJob}
+use Rattle.tsdb_state.specs.State.{Compaction, FlushState}
 
 -- a right to the file that is kept, both ways
 module _ {R : Type 0} (name : R → NamedFile) where
@@ -107,13 +107,13 @@ AreUnreadYet files = Each (λ (file : NewFile). file.token.rights ≡ 0) (all_of
 
 module _ {F S R P : Type 0} (name : S → NamedFile) where
   unread_one : (o : Option (Built F S R P))
-      → Each (λ (file : NewFile). file.token.rights ≡ 0) (if_some (option_map (new_file name) o))
+      → Each (λ (file : NewFile). file.token.rights ≡ 0) (if_some (option_map (file_built name) o))
   unread_one None = tt
   unread_one (Some built) = (refl, tt)
 
   pub unread_yet : (files : Flushed F S R P) → AreUnreadYet (new_files name files)
   unread_yet files = each_append (λ (file : NewFile). file.token.rights ≡ 0)
-      (if_some (option_map (new_file name) files.sequence)) (if_some (option_map (new_file name) files.unsequence))
+      (if_some (option_map (file_built name) files.sequence)) (if_some (option_map (file_built name) files.unsequence))
       (unread_one files.sequence) (unread_one files.unsequence)
 
 inputs_after : (commit : Commit) (files : NewFiles) (old new : KeptFiles) (claimed : Bool)
@@ -132,7 +132,7 @@ module _ {J F S R P : Type 0} {means : disk.Ghosts J} {counts : counted_by.Ghost
   -- the lists, the kept files and the claim of the sequence list stay
   pub same_but_jobs : (old new : Core J F S R P means counts) → (files_of new).sequence ≡ (files_of old).sequence
       → (files_of new).unsequence ≡ (files_of old).unsequence → is_sequence_claimed new ≡ is_sequence_claimed old
-      → ((n : ℕ) → kept_file n (files_of new) ≡ kept_file n (files_of old)) → (flushes others : List FlushJob)
+      → ((n : ℕ) → kept_file n (files_of new) ≡ kept_file n (files_of old)) → (flushes others : List FlushState)
       (compactions : List Compaction) (lent : List (List LentRight)) → KeepsJobs new others compactions
       → KeepsLoans old flushes compactions lent → KeepsLoans new others compactions lent
   same_but_jobs old new first second claimed found flushes others compactions lent jobs keeps = record {
@@ -145,7 +145,7 @@ module _ {J F S R P : Type 0} {means : disk.Ghosts J} {counts : counted_by.Ghost
   pub all_same : (old new : Core J F S R P means counts) → (files_of new).sequence ≡ (files_of old).sequence
       → (files_of new).unsequence ≡ (files_of old).unsequence → is_sequence_claimed new ≡ is_sequence_claimed old
       → ((n : ℕ) → kept_file n (files_of new) ≡ kept_file n (files_of old))
-      → ((flushes : List FlushJob) (compactions : List Compaction) → KeepsJobs old flushes compactions
+      → ((flushes : List FlushState) (compactions : List Compaction) → KeepsJobs old flushes compactions
       → KeepsJobs new flushes compactions) → KeepsAllLoans old new
   all_same old new first second claimed found jobs flushes compactions lent keeps =
       same_but_jobs old new first second claimed found flushes flushes compactions lent
@@ -154,7 +154,7 @@ module _ {J F S R P : Type 0} {means : disk.Ghosts J} {counts : counted_by.Ghost
   -- a sweep takes away files on which no right is out
   pub all_swept : (old : Core J F S R P means counts) (files : KeptFiles) (doubted : List (Option FileNumber))
       (part : List Outgoing) → LeavesWithout (free_numbers doubted old.files.places part) old.files files
-      → ((flushes : List FlushJob) (compactions : List Compaction) → KeepsJobs old flushes compactions
+      → ((flushes : List FlushState) (compactions : List Compaction) → KeepsJobs old flushes compactions
       → KeepsJobs (record old { files = files }) flushes compactions)
       → KeepsAllLoans old (record old { files = files })
   all_swept old files doubted part leaves jobs flushes compactions lent keeps = record {
@@ -166,8 +166,8 @@ module _ {J F S R P : Type 0} {means : disk.Ghosts J} {counts : counted_by.Ghost
   -- a flush ends: its files get places that no right is on
   pub flush_loans : (old : Core J F S R P means counts) (kept : KeptFiles) (commit : Commit) (drawn : List ℕ)
       (files : NewFiles) → AreAfterCommit commit files old.files kept → HaveCome drawn files old.files kept
-      → Each (λ file. Among (number_of file) drawn) (all_of files) → AreUnreadYet files
-      → ((n : ℕ) → Among n drawn → IsOpen n old.files) → (others flushes : List FlushJob)
+      → Each (λ file. Among (file_number file) drawn) (all_of files) → AreUnreadYet files
+      → ((n : ℕ) → Among n drawn → IsOpen n old.files) → (others flushes : List FlushState)
       (compactions : List Compaction) (lent : List (List LentRight))
       → KeepsJobs (record old { files = kept }) others compactions → KeepsLoans old flushes compactions lent
       → KeepsLoans (record old { files = kept }) others compactions lent
@@ -180,9 +180,9 @@ module _ {J F S R P : Type 0} {means : disk.Ghosts J} {counts : counted_by.Ghost
             no_right_on old.files (all_lent lent) keeps.rights n (ap file_at (is_open n among)) some))))
             (of_each drawn files old.files kept come (λ n file. file.rights ≡ count n (lent_numbers (all_lent lent)))
             (λ n never. keeps.rights.counted n)
-            (each_both (λ (file : NewFile). Among (number_of file) drawn) (λ (file : NewFile). file.token.rights ≡ 0)
-            (λ (file : NewFile). file.token.rights ≡ count (number_of file) (lent_numbers (all_lent lent)))
-            (λ file among none. none ∙ sym (none_on old.files (number_of file) (ap file_at (is_open (number_of file) among))
+            (each_both (λ (file : NewFile). Among (file_number file) drawn) (λ (file : NewFile). file.token.rights ≡ 0)
+            (λ (file : NewFile). file.token.rights ≡ count (file_number file) (lent_numbers (all_lent lent)))
+            (λ file among none. none ∙ sym (none_on old.files (file_number file) (ap file_at (is_open (file_number file) among))
             (all_lent lent) keeps.rights.named)) (all_of files) of_drawn unread)) keeps.rights;
       }
 
@@ -191,8 +191,8 @@ module _ {J F S R P : Type 0} {means : disk.Ghosts J} {counts : counted_by.Ghost
   pub pinned_loans : (name : R → NamedFile) (old : Core J F S R P means counts) (files : KeptFiles)
       (pin : Pin F S R P) → TakesRights (column_numbers pin.columns) old.files files
       → AreColumnsHeld name old.files pin.columns
-      → ((flushes : List FlushJob) (compactions : List Compaction) → KeepsJobs old flushes compactions
-      → KeepsJobs (record old { files = files }) flushes compactions) → (flushes : List FlushJob)
+      → ((flushes : List FlushState) (compactions : List Compaction) → KeepsJobs old flushes compactions
+      → KeepsJobs (record old { files = files }) flushes compactions) → (flushes : List FlushState)
       (compactions : List Compaction) (lent : List (List LentRight)) → KeepsLoans old flushes compactions lent
       → KeepsLoans (record old { files = files }) flushes compactions (pin_rights name pin ∷ lent)
   pinned_loans name old files pin rights held jobs flushes compactions lent keeps = record {
@@ -208,8 +208,8 @@ module _ {J F S R P : Type 0} {means : disk.Ghosts J} {counts : counted_by.Ghost
 
   pub unpinned_loans : (old : Core J F S R P means counts) (files : KeptFiles) (pin : Pin F S R P)
       → GivesRights (column_numbers pin.columns) old.files files
-      → ((flushes : List FlushJob) (compactions : List Compaction) → KeepsJobs old flushes compactions
-      → KeepsJobs (record old { files = files }) flushes compactions) → (flushes : List FlushJob)
+      → ((flushes : List FlushState) (compactions : List Compaction) → KeepsJobs old flushes compactions
+      → KeepsJobs (record old { files = files }) flushes compactions) → (flushes : List FlushState)
       (compactions : List Compaction) (mine : List LentRight) (others lent : List (List LentRight))
       → AreOnColumns pin mine → IsWithOne mine others lent → KeepsLoans old flushes compactions lent
       → KeepsLoans (record old { files = files }) flushes compactions others

@@ -13,7 +13,7 @@ use Rattle.tsdb_base.specs.declared.ids.Space.TheVariants.{Sequence, Unsequence}
 use Rattle.tsdb_tasks.proofs.InState.{counted_among}
 use Rattle.tsdb_tasks.specs.Finishing.{IsRunOf, StandInSequence}
 use Rattle.tsdb_tasks.specs.Jobs.{plain_numbers}
-use Rattle.tsdb_core.specs.Loans.{AreApart, KeepsInputs, StandClaimed, StandFrom, StandsIn}
+use Rattle.tsdb_core.specs.Loans.{AreJobNumbersApart, KeepsInputs, StandClaimed, StandFrom, StandsIn}
 use Rattle.tsdb_core.specs.Replacements.{without_claim}
 use Rattle.tsdb_fileset.proofs.Replaced.{run_parts}
 use Rattle.tsdb_fileset.specs.Files.{KeptFiles, entry_numbers}
@@ -214,31 +214,31 @@ sequence_beside Unsequence Sequence run numbers place theirs output old new apar
 
 -- ---- the others, where a compaction ends
 
-turn : (a b : Compaction) → AreApart a b → AreApart b a
+turn : (a b : Compaction) → AreJobNumbersApart a b → AreJobNumbersApart b a
 turn a b apart = record {
   one = λ first second. apart.one second first;
   late = λ n first second. apart.late n second first;
 }
 
 pub others_free : (space : Space) (claimed : Bool) (job : Compaction) (others compactions : List Compaction)
-    → job.space ≡ space → IsWithOne job others compactions → EachPair AreApart compactions
+    → job.space ≡ space → IsWithOne job others compactions → EachPair AreJobNumbersApart compactions
     → (claimed ≡ false → IsSequenceFree compactions) → without_claim space claimed ≡ false → IsSequenceFree others
 others_free Sequence claimed job others compactions is out apart free now =
-    each_weaker (AreApart job) (λ other. other.space ≡ Sequence → ⊥) (λ other a same. a.one is same) others
-    (with_one_apart AreApart turn job others compactions out apart)
+    each_weaker (AreJobNumbersApart job) (λ other. other.space ≡ Sequence → ⊥) (λ other a same. a.one is same) others
+    (with_one_apart AreJobNumbersApart turn job others compactions out apart)
 others_free Unsequence claimed job others compactions is out apart free now =
     with_one_each (λ other. other.space ≡ Sequence → ⊥) job others compactions out (free now)
 
 -- the inputs of each other stand where they do of each that is apart from the one that ends
 pub inputs_left : (old new : KeptFiles) (space : Space) (claimed : Bool) (job : Compaction)
     (others compactions : List Compaction) → job.space ≡ space → IsWithOne job others compactions
-    → ((other : Compaction) → AreApart job other → StandsIn old other → StandsIn new other)
+    → ((other : Compaction) → AreJobNumbersApart job other → StandsIn old other → StandsIn new other)
     → KeepsInputs old claimed compactions → KeepsInputs new (without_claim space claimed) others
 inputs_left old new space claimed job others compactions is out still keeps = record {
-  stand = each_both (AreApart job) (StandsIn old) (StandsIn new) still others
-      (with_one_apart AreApart turn job others compactions out keeps.apart)
+  stand = each_both (AreJobNumbersApart job) (StandsIn old) (StandsIn new) still others
+      (with_one_apart AreJobNumbersApart turn job others compactions out keeps.apart)
       (with_one_each (StandsIn old) job others compactions out keeps.stand);
-  apart = with_one_pairs AreApart job others compactions out keeps.apart;
+  apart = with_one_pairs AreJobNumbersApart job others compactions out keeps.apart;
   free = others_free space claimed job others compactions is out keeps.apart keeps.free;
 }
 

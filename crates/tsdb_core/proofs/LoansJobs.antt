@@ -17,7 +17,7 @@ use Rattle.tsdb_tasks.specs.Finishing.{AreRunsOf, Finishes, StandInSequence}
 use Rattle.tsdb_tasks.specs.Inputs.{AreHeld, input_numbers}
 use Rattle.tsdb_tasks.specs.declared.finishing.InputRuns.{InputRuns}
 use Rattle.tsdb_tasks.specs.Files.{NewFile}
-use Rattle.tsdb_tasks.specs.Jobs.{IsCompactionOf, IsFormed, input_file, plain_numbers}
+use Rattle.tsdb_tasks.specs.Jobs.{IsCompactionOf, IsJobFormed, input_file, plain_numbers}
 use Rattle.tsdb_tasks.specs.Input.{Input}
 use Rattle.tsdb_tasks.specs.Job.{Job}
 use Rattle.tsdb_core.proofs.Loans.{named_right}
@@ -28,13 +28,13 @@ use Rattle.tsdb_core.proofs.LoansRights.{rights_taken}
 use Rattle.tsdb_core.specs.Beginnings.{ArePlanned, claimed_by}
 use Rattle.tsdb_core.specs.Compactions.{AreOnInputs, job_rights}
 use Rattle.tsdb_core.specs.Core.{files_of, is_sequence_claimed}
-use Rattle.tsdb_core.specs.Loans.{AreApart, AreRightsKept, KeepsInputs, LentRight, StandClaimed, StandFrom, StandsIn}
+use Rattle.tsdb_core.specs.Loans.{AreJobNumbersApart, AreRightsKept, KeepsInputs, LentRight, StandClaimed, StandFrom, StandsIn}
 use Rattle.tsdb_core.specs.Loans.{all_lent, lent_numbers}
 use Rattle.tsdb_core.specs.Replacements.{EndsFiles, without_claim}
 use Rattle.tsdb_core.specs.declared.engine.Core.{Core}
 use Rattle.tsdb_fileset.proofs.Replaced.{run_parts}
 use Rattle.tsdb_fileset.specs.Files.{AreKept, IsOpen, KeptFiles, entry_numbers, kept_file}
-use Rattle.tsdb_fileset.specs.Places.{KeptFile, file_at, place_at}
+use Rattle.tsdb_fileset.specs.Places.{KeptFile, file_at, place_of_number}
 use Rattle.tsdb_fileset.specs.Replacing.{IsWithin, claim_run, output_in, with_claim}
 use Rattle.tsdb_base.proofs.Lists.{each_among, each_from_among, each_weaker}
 use Rattle.tsdb_base.specs.Lists.{Among, IsWithOne, count, if_some}
@@ -92,7 +92,7 @@ module _ {F S R P : Type 0} where
           → kept_file n new ≡ option_map (fewer_rights (count n (lent_numbers mine))) (kept_file n old)
       given n other = subst (λ ns. kept_file n new ≡ option_map (fewer_rights (count n ns)) (kept_file n old)) (sym on)
           (ap file_at (gives n other)
-          ∙ file_changed (fewer_rights (count n (input_numbers job.inputs))) (place_at n old.places))
+          ∙ file_changed (fewer_rights (count n (input_numbers job.inputs))) (place_of_number n old.places))
 
       of_output : (o : Option NewFile) → IfSome o (λ one. one.token.rights ≡ 0)
           → IfSome (option_map (λ (one : NewFile). one.token) o)
@@ -159,7 +159,7 @@ module _ {F S R P : Type 0} where
           }) compactions keeps.stand,
         );
         apart = (
-          each_from_among (AreApart made) compactions (λ other among. record {
+          each_from_among (AreJobNumbersApart made) compactions (λ other among. record {
             one = λ first second. each_among (λ (c : Compaction). c.space ≡ Sequence → ⊥) compactions other
                 (keeps.free (was (sym is.space ∙ first))) among second;
             late = λ n first second. shares_none other
@@ -234,13 +234,13 @@ module _ {F S R P : Type 0} where
     none_early same = subst (λ (space : Space). StandInSequence space job.place job.sequence old.sequence) same stands
 
     -- a job of late files has some, and so a place for its output
-    late_output : IsFormed job → plain_numbers job.unsequence ≡ [] → (output : Option FileEntry) (space : Space)
+    late_output : IsJobFormed job → plain_numbers job.unsequence ≡ [] → (output : Option FileEntry) (space : Space)
         → job.space ≡ space → if_some (output_in Unsequence space output) ≡ []
     late_output formed none output Sequence same = refl
     late_output formed none output Unsequence same = absurd (formed.some (no_inputs job.inputs
         (formed.numbers ∙ (λ i. plain_numbers (none_early same i) ++ none i))))
 
-    pub finished_inputs : IsFormed job → (runs : InputRuns) (file : Option NewFile) → AreRunsOf job runs old
+    pub finished_inputs : IsJobFormed job → (runs : InputRuns) (file : Option NewFile) → AreRunsOf job runs old
         → Finishes old new job runs file → LeavesInputs job old new claimed
     finished_inputs formed runs file stand up made others compactions is out =
         inputs_left old new job.space claimed made others compactions is.space out (λ other apart there. record {
@@ -274,7 +274,7 @@ module _ {F S R P : Type 0} where
         mid : List FileEntry
         mid = slice_range old.unsequence up.unsequence.run.first up.unsequence.run.end
 
-    pub left_as : IsFormed job → (runs : InputRuns) (file : Option NewFile) (outcome : Result (Unit {0}) Failed)
+    pub left_as : IsJobFormed job → (runs : InputRuns) (file : Option NewFile) (outcome : Result (Unit {0}) Failed)
         → AreRunsOf job runs old → EndsFiles job runs file old new outcome → LeavesInputs job old new claimed
     left_as formed runs file (Ok done) stand up = finished_inputs formed runs file stand up
     left_as formed runs file (Err fault) stand up = given_up_inputs file up

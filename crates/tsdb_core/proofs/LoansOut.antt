@@ -42,7 +42,7 @@ use Rattle.tsdb_tasks.specs.TheVariants.{File, Part}
 use Rattle.tsdb_plan.specs.declared.entry.FileEntry.{FileEntry}
 use Rattle.tsdb_state.specs.Jobs.{drawn_by, outgoing_places, output_places}
 use Rattle.tsdb_state.specs.Records.{numbers_of}
-use Rattle.tsdb_state.specs.State.{Compaction, File as FileOf, FlushJob}
+use Rattle.tsdb_state.specs.State.{Compaction, File as FileOf, FlushState}
 
 some_in : {X : Type 0} (xs : List X) → xs ≢ [] → 1 ≤ length xs
 some_in [] is = absurd (is refl)
@@ -125,7 +125,7 @@ module _ {F S R P : Type 0} (name : R → NamedFile) where
 
 module _ {J F S R P : Type 0} {means : disk.Ghosts J} {counts : counted_by.Ghosts J} where
   -- where no compaction and no right is out, nothing is kept but for flushes
-  pub nothing_lent : (core : Core J F S R P means counts) (flushes : List FlushJob) → KeepsJobs core flushes []
+  pub nothing_lent : (core : Core J F S R P means counts) (flushes : List FlushState) → KeepsJobs core flushes []
       → AreUnread (files_of core).places → KeepsLoans core flushes [] []
   nothing_lent core flushes jobs unread = record {
     jobs = jobs;
@@ -134,12 +134,12 @@ module _ {J F S R P : Type 0} {means : disk.Ghosts J} {counts : counted_by.Ghost
   }
 
   -- where no job and no pin has a right, none is out
-  pub none_lent : (core : Core J F S R P means counts) (flushes : List FlushJob) (compactions : List Compaction)
+  pub none_lent : (core : Core J F S R P means counts) (flushes : List FlushState) (compactions : List Compaction)
       → KeepsLoans core flushes compactions [] → AreUnread (files_of core).places
   none_lent core flushes compactions keeps = keeps.rights.counted
 
-  pub flush_out : (core : Core J F S R P means counts) (job : plain.FlushJob) (flush : FlushJob)
-      (others flushes : List FlushJob) (compactions : List Compaction) (lent : List (List LentRight))
+  pub flush_out : (core : Core J F S R P means counts) (job : plain.FlushJob) (flush : FlushState)
+      (others flushes : List FlushState) (compactions : List Compaction) (lent : List (List LentRight))
       → HasNumbersOf job flush → IsWithOne flush others flushes → KeepsLoans core flushes compactions lent
       → IsOut core job
   flush_out core job flush others flushes compactions lent numbers out keeps = record {
@@ -153,14 +153,14 @@ module _ {J F S R P : Type 0} {means : disk.Ghosts J} {counts : counted_by.Ghost
   }
 
   pub pin_held : (name : R → NamedFile) (core : Core J F S R P means counts) (pin : Pin F S R P)
-      (flushes : List FlushJob) (compactions : List Compaction) (lent : List (List LentRight))
+      (flushes : List FlushState) (compactions : List Compaction) (lent : List (List LentRight))
       → Among (pin_rights name pin) lent → KeepsLoans core flushes compactions lent
       → AreColumnsHeld name (files_of core) pin.columns
   pin_held name core pin flushes compactions lent among keeps = held_columns name (files_of core) pin.columns
       (named_of (files_of core) (pin_rights name pin) lent among keeps.rights)
 
   module _ (name : R → NamedFile) (core : Core J F S R P means counts) (job : Job F S R P) (compaction : Compaction)
-      (others compactions : List Compaction) (flushes : List FlushJob) (lent : List (List LentRight))
+      (others compactions : List Compaction) (flushes : List FlushState) (lent : List (List LentRight))
       (handed : IsHandedOut job) (is : IsCompactionOf job compaction) (out : IsWithOne compaction others compactions)
       (among : Among (job_rights name job) lent) (keeps : KeepsLoans core flushes compactions lent) where
     some : 1 ≤ length job.inputs

@@ -12,7 +12,7 @@ use Rattle.tsdb_core.specs.Loans.{AreRightsKept, LentRight, all_lent, lent_numbe
 use Rattle.tsdb_fileset.proofs.StateSweeps.{of_those_that_stay}
 use Rattle.tsdb_fileset.proofs.Counts.{counted}
 use Rattle.tsdb_fileset.specs.Files.{KeptFiles, kept_file, outgoing_numbers}
-use Rattle.tsdb_fileset.specs.Places.{KeptFile, Places, file_at, is_one_of, place_at}
+use Rattle.tsdb_fileset.specs.Places.{KeptFile, Places, file_at, is_one_of, place_of_number}
 use Rattle.tsdb_fileset.specs.Sweeps.{LeavesWithout, free_numbers, has_no_right, is_free, is_that}
 use Rattle.tsdb_fileset.specs.declared.files.Outgoing.{Outgoing}
 use Rattle.tsdb_base.proofs.Lists.{among_left, among_map, among_right, any_among, count_append, each_among, each_append}
@@ -220,19 +220,19 @@ first_of false b both = absurd (false≢true both)
 -- a number that may go is one of which no right is out
 free_unread : (doubted : List (Option FileNumber)) (places : Places) (part : List Outgoing) (n : ℕ)
     → list_any (nat_eq n) (free_numbers doubted places part) ≡ true
-    → has_no_right (file_at (place_at n places)) ≡ true
+    → has_no_right (file_at (place_of_number n places)) ≡ true
 free_unread doubted places [] n found = absurd (false≢true found)
 free_unread doubted places (file ∷ part) n found =
     by (λ rest. free_unread doubted places part n rest) (is_free doubted places file) refl found
   where
     Goal : Type 0
-    Goal = has_no_right (file_at (place_at n places)) ≡ true
+    Goal = has_no_right (file_at (place_of_number n places)) ≡ true
 
     at : (list_any (nat_eq n) (free_numbers doubted places part) ≡ true → Goal) → is_free doubted places file ≡ true
         → (t : Bool) → nat_eq n file.number.0 ≡ t
         → (t || list_any (nat_eq n) (free_numbers doubted places part)) ≡ true → Goal
-    at next free true same found = subst (λ m. has_no_right (file_at (place_at m places)) ≡ true)
-        (sym (eqb-true n file.number.0 same)) (first_of (has_no_right (file_at (place_at file.number.0 places)))
+    at next free true same found = subst (λ m. has_no_right (file_at (place_of_number m places)) ≡ true)
+        (sym (eqb-true n file.number.0 same)) (first_of (has_no_right (file_at (place_of_number file.number.0 places)))
         (not (list_any (is_that file.number.0) doubted)) free)
     at next free false other found = next found
 
@@ -257,12 +257,12 @@ rights_swept old new doubted part rights leaves kept =
     read n (Some file) some fits free = omega (arith, some, fits, eqb-true file.rights 0 free)
 
     stays : (n : ℕ) → 1 ≤ count n (lent_numbers rights)
-        → cond (is_one_of (free_numbers doubted old.places part) n) None (place_at n old.places)
-        ≡ place_at n old.places
+        → cond (is_one_of (free_numbers doubted old.places part) n) None (place_of_number n old.places)
+        ≡ place_of_number n old.places
     stays n some = by (is_one_of (free_numbers doubted old.places part) n) refl
       where
         by : (b : Bool) → is_one_of (free_numbers doubted old.places part) n ≡ b
-            → cond b None (place_at n old.places) ≡ place_at n old.places
+            → cond b None (place_of_number n old.places) ≡ place_of_number n old.places
         by true gone = absurd (read n (kept_file n old) some (kept.counted n)
             (free_unread doubted old.places part n gone))
         by false rest = refl

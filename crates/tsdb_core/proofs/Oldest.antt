@@ -8,10 +8,10 @@ use Rattle.std.specs.Option.{IsSomeAnd}
 use Rattle.std.specs.Prelude.{◌↔◌, IsTrue, slice_get}
 use Rattle.tsdb_fileset.specs.FlushJob.{FlushJob}
 use Rattle.tsdb_memory.specs.Model.{AreFrozenInTurn, frozen_in}
-use Rattle.tsdb_memory.specs.Store.{FrozenPair, Store}
+use Rattle.tsdb_memory.specs.Store.{FrozenPair, MemoryState}
 use Rattle.tsdb_memory.specs.declared.store.FrozenPair as declared
 use Rattle.tsdb_core.specs.Ending.{IsLeastWith, drawn_for, numbers_if}
-use Rattle.tsdb_core.specs.Flushes.{IsDue, IsOldest}
+use Rattle.tsdb_core.specs.Flushes.{IsDue, IsOldestPair}
 use Rattle.tsdb_base.specs.declared.ids.FileNumber.{FileNumber}
 use Rattle.tsdb_base.specs.declared.ids.Stamp.{Stamp}
 use Rattle.tsdb_base.proofs.Lists.{among_left, among_right, each_all, each_append, each_left, each_map, each_right}
@@ -19,13 +19,13 @@ use Rattle.tsdb_base.proofs.Lists.{each_weaker}
 use Rattle.tsdb_base.specs.Lists.{if_some}
 use Rattle.tsdb_memory.proofs.Borns.{least_push}
 use Rattle.tsdb_memory.proofs.Counts.{among_either}
-use Rattle.tsdb_memory.specs.Least.{IsLeastOf, lesser}
+use Rattle.tsdb_memory.specs.Least.{IsLeastOf, lesser_born}
 use Rattle.std.proofs.lemmas.List.{append-nil, length-map}
 
-pub first_pair : (pairs : List declared.FrozenPair) (pair : declared.FrozenPair) (store : Store) (job : FlushJob) (born
+pub first_pair : (pairs : List declared.FrozenPair) (pair : declared.FrozenPair) (store : MemoryState) (job : FlushJob) (born
     : ℕ)
     → map frozen_in pairs ≡ store.frozen → Some pair ≡ slice_get pairs 0 → born ≡ (frozen_in pair).born
-    → IsTrue (nat_eq born job.born.0) ↔ IsOldest job store
+    → IsTrue (nat_eq born job.born.0) ↔ IsOldestPair job store
 first_pair [] pair store job born are first is = absurd cc
 first_pair (other ∷ pairs) pair store job born are first is = (
   λ same. subst (λ (list : List FrozenPair). IsSomeAnd (slice_get list 0) (λ p. p.born ≡ job.born.0)) are
@@ -40,8 +40,8 @@ first_pair (other ∷ pairs) pair store job born are first is = (
     born_is : (frozen_in other).born ≡ born
     born_is = ap (λ (p : declared.FrozenPair). (frozen_in p).born) (sym same_pair) ∙ sym is
 
-pub no_pair : (pairs : List declared.FrozenPair) (store : Store) (job : FlushJob) → map frozen_in pairs ≡ store.frozen
-    → None ≡ slice_get pairs 0 → IsTrue false ↔ IsOldest job store
+pub no_pair : (pairs : List declared.FrozenPair) (store : MemoryState) (job : FlushJob) → map frozen_in pairs ≡ store.frozen
+    → None ≡ slice_get pairs 0 → IsTrue false ↔ IsOldestPair job store
 no_pair [] store job are none = (
   (λ is. absurd (false≢true is)),
   (λ oldest. absurd (subst (λ (list : List FrozenPair). IsSomeAnd (slice_get list 0) (λ p. p.born ≡ job.born.0)) (sym
@@ -107,25 +107,25 @@ module _ (least : Option Stamp) (born : ℕ) (borns : List ℕ) (is : IsLeastOf 
   with_none (n ∷ numbers) none = absurd (omega (arith, none))
 
   with_some : (numbers : List ℕ) → 1 ≤ length numbers
-      → IsLeastOf (Some (lesser least born)) (borns ++ map (λ n. born) numbers)
+      → IsLeastOf (Some (lesser_born least born)) (borns ++ map (λ n. born) numbers)
   with_some [] some = absurd (omega (arith, some))
   with_some (n ∷ numbers) some = (
-    ⊎_elim (λ there. among_left borns (born ∷ map (λ n. born) numbers) (lesser least born).0 there)
-        (λ there. among_right borns (born ∷ map (λ n. born) numbers) (lesser least born).0
-        (among_left (born ∷ []) (map (λ n. born) numbers) (lesser least born).0 there))
-        (among_either borns (born ∷ []) (lesser least born).0 pushed.0),
+    ⊎_elim (λ there. among_left borns (born ∷ map (λ n. born) numbers) (lesser_born least born).0 there)
+        (λ there. among_right borns (born ∷ map (λ n. born) numbers) (lesser_born least born).0
+        (among_left (born ∷ []) (map (λ n. born) numbers) (lesser_born least born).0 there))
+        (among_either borns (born ∷ []) (lesser_born least born).0 pushed.0),
     each_append Above borns (born ∷ map (λ n. born) numbers) (each_left Above borns (born ∷ []) pushed.1)
         (last, each_map Above (λ (m : ℕ). born) numbers (each_all (λ m. Above born) (λ m. last) numbers)),
   )
     where
       Above : ℕ → Type 0
-      Above b = (lesser least born).0 ≤ b
+      Above b = (lesser_born least born).0 ≤ b
 
-      pushed : IsLeastOf (Some (lesser least born)) (borns ++ born ∷ [])
+      pushed : IsLeastOf (Some (lesser_born least born)) (borns ++ born ∷ [])
       pushed = least_push least borns born is
 
-      last : (lesser least born).0 ≤ born
-      last = (each_right (λ b. (lesser least born).0 ≤ b) borns (born ∷ []) pushed.1).0
+      last : (lesser_born least born).0 ≤ born
+      last = (each_right (λ b. (lesser_born least born).0 ≤ b) borns (born ∷ []) pushed.1).0
 
 pub not_none : (n m : ℕ) → n ≡ m → (n ≡ 0 → ⊥) → 1 ≤ m
 not_none zero m is never = absurd (never refl)
@@ -138,6 +138,6 @@ least_without least job borns none is = with_none least job.born.0 borns is (dra
 
 pub least_with_job : (least : Option Stamp) (job : FlushJob) (borns : List ℕ)
     → 1 ≤ length (if_some job.sequence) + length (if_some job.unsequence) → IsLeastOf least borns
-    → IsLeastWith (Some (lesser least job.born.0)) job borns
+    → IsLeastWith (Some (lesser_born least job.born.0)) job borns
 least_with_job least job borns some is =
     with_some least job.born.0 borns is (drawn_for job) (omega (arith, some, count_is job))

@@ -1,16 +1,16 @@
 -- A core with no job out keeps what its jobs need.
 use Rattle.std.proofs.Common.{◌≡◌, ℕ, [], arith}
-use Rattle.tsdb_core.specs.Core.{IsAbove, IsSeen, KeepsJobs, files_of, logged_of, next_of}
+use Rattle.tsdb_core.specs.Core.{IsAboveNumbers, IsSeen, KeepsJobs, files_of, logged_of, next_of}
 use Rattle.tsdb_core.specs.declared.engine.Core.{Core}
 use Rattle.tsdb_fileset.specs.Held.{AreFilesOf, TellTheirBytes}
-use Rattle.tsdb_memory.specs.Logged.{IsSound, Outside}
+use Rattle.tsdb_memory.specs.Logged.{IsSoundLogged, Outside}
 use Rattle.tsdb_outside.specs.declared.disk.Disk as disk
 use Rattle.tsdb_outside.specs.declared.faults.Counted as counted
 use Rattle.tsdb_state.specs.NewStore.{opened}
 use Rattle.tsdb_state.specs.State.{StoreState}
 
 module _ {J F S R P : Type 0} {means : disk.Ghosts J} {counts : counted.Ghosts J} where
-  pub quiet_jobs : (core : Core J F S R P means counts) → IsAbove (next_of core) (files_of core) → KeepsJobs core [] []
+  pub quiet_jobs : (core : Core J F S R P means counts) → IsAboveNumbers (next_of core) (files_of core) → KeepsJobs core [] []
   quiet_jobs core above = record {
     from_one = above.from_one;
     below = above.below;
@@ -27,7 +27,7 @@ module _ {J F S R P : Type 0} {means : disk.Ghosts J} {counts : counted.Ghosts J
   }
 
   pub opened_seen : (core : Core J F S R P means counts) (outside : Outside) (store : StoreState) (next : ℕ)
-      → next_of core ≡ next → IsAbove (next_of core) (files_of core) → IsSound (logged_of core) outside (opened next store)
+      → next_of core ≡ next → IsAboveNumbers (next_of core) (files_of core) → IsSoundLogged (logged_of core) outside (opened next store)
       → AreFilesOf (files_of core) outside.known (opened next store) → TellTheirBytes (files_of core) outside.kept
       → IsSeen core outside (opened next store)
   opened_seen core outside store next is above sound files told = record {

@@ -11,12 +11,12 @@ use Rattle.tsdb_core.specs.Beginnings.{IsBegun, IsNotBegun}
 use Rattle.tsdb_core.specs.Commands.{KeepsFiles}
 use Rattle.tsdb_core.specs.Compactions.{IsHandedOut, IsJobKept, IsJobOut, job_rights}
 use Rattle.tsdb_core.specs.Core.{KeepsJobs, files_of}
-use Rattle.tsdb_core.specs.Flushes.{EndsFlush, HasNumbersOf, IsNotTaken, IsOut, IsTaken, TakesMemory}
+use Rattle.tsdb_core.specs.Flushes.{HasEndedFlush, HasNumbersOf, IsNotTaken, IsOut, IsFlushTaken, TakesMemory}
 use Rattle.tsdb_core.specs.Loans.{KeepsLoans}
 use Rattle.tsdb_core.specs.Out.{HandsOn, IsWithJob, KeepsOut, Loans, compaction_of, flush_of, nothing_out, with_flush}
 use Rattle.tsdb_core.specs.Out.{with_job, with_pin}
 use Rattle.tsdb_core.specs.Pins.{IsNotPinned, IsPinned, IsUnpinned, pin_rights}
-use Rattle.tsdb_core.specs.Replacements.{EndsJob}
+use Rattle.tsdb_core.specs.Replacements.{HasEndedJob}
 use Rattle.tsdb_core.specs.Sweeps.{IsSwept}
 use Rattle.tsdb_core.specs.declared.commit.Commit.{Commit}
 use Rattle.tsdb_core.specs.declared.engine.Core.{Core}
@@ -135,7 +135,7 @@ module _ {J F S R P : Type 0} {means : disk.Ghosts J} {counts : counted.Ghosts J
 
   -- ---- flushes
 
-  pub flush_joins : (old new : Core J F S R P means counts) (job : FlushJob) → TakesMemory old new → IsTaken old new job
+  pub flush_joins : (old new : Core J F S R P means counts) (job : FlushJob) → TakesMemory old new → IsFlushTaken old new job
       → (store : Store) (out : Loans) → KeepsOut store out old → KeepsOut store (with_flush job out) new
   flush_joins old new job takes taken store out kept = record {
     loans = taken.loans (flush_of job) out.flushes out.compactions out.lent (has_numbers job) kept.loans;
@@ -148,7 +148,7 @@ module _ {J F S R P : Type 0} {means : disk.Ghosts J} {counts : counted.Ghosts J
       out.compactions out.lent (has_numbers job) (first_one (flush_of job) out.flushes) kept.loans
 
   pub flush_leaves : (old new : Core J F S R P means counts) (job : FlushJob) (files : NewFiles) (commit : Commit)
-      → EndsFlush old new job files commit → (store : Store) (out : Loans)
+      → HasEndedFlush old new job files commit → (store : Store) (out : Loans)
       → Each (λ file. file.token.name.store ≡ store) (all_of files) → KeepsOut store (with_flush job out) old
       → KeepsOut store out new
   flush_leaves old new job files commit ended store out in_store kept = record {
@@ -183,7 +183,7 @@ module _ {J F S R P : Type 0} {means : disk.Ghosts J} {counts : counted.Ghosts J
         (one_among (job_rights name job) others.lent all.lent is.lent) kept.loans
 
     pub job_leaves : (old new : Core J F S R P means counts) (job : Job F S R P) (file : Option NewFile)
-        → EndsJob old new job file → (store : Store) (others all : Loans) → IsHandedOut job
+        → HasEndedJob old new job file → (store : Store) (others all : Loans) → IsHandedOut job
         → IfSome file (λ one. one.token.name.store ≡ store) → IsWithJob name job others all → KeepsOut store all old
         → KeepsOut store others new
     job_leaves old new job file ended store others all handed in_store is kept = record {

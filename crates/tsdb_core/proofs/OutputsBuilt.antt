@@ -8,14 +8,14 @@ use Rattle.tsdb_base.specs.declared.ids.FileNumber.{FileNumber}
 use Rattle.tsdb_base.specs.declared.ids.Space.{Space}
 use Rattle.tsdb_base.specs.declared.ids.Space.TheVariants.{Sequence, Unsequence}
 use Rattle.tsdb_tasks.specs.Coming.{outgoing_of}
-use Rattle.tsdb_tasks.specs.Files.{AreAllThere, AreDone, AreDoneSoFar, AreOfJob, IsOfPart, all_of, new_file}
+use Rattle.tsdb_tasks.specs.Files.{AreAllThere, AreDone, AreDoneSoFar, AreFilesOfJob, IsOfPart, all_of, file_built}
 use Rattle.tsdb_tasks.specs.Files.{new_files}
-use Rattle.tsdb_tasks.specs.Files.{NewFile, number_of}
+use Rattle.tsdb_tasks.specs.Files.{NewFile, file_number}
 use Rattle.tsdb_core.proofs.Parts.{part_listed, part_sent, some_is}
-use Rattle.tsdb_core.specs.Ending.{IsNumbered, PartEnds, drawn_for, less_if, numbers_if}
+use Rattle.tsdb_core.specs.Ending.{IsNumberedOutput, PartEnds, drawn_for, less_if, numbers_if}
 use Rattle.tsdb_core.specs.declared.commit.Commit.{Commit}
 use Rattle.tsdb_core.specs.declared.commit.Commit.TheVariants.{Device, Done, Gone}
-use Rattle.tsdb_fileset.specs.FlushBuilt.{IsDone}
+use Rattle.tsdb_fileset.specs.FlushBuilt.{IsPartDone}
 use Rattle.tsdb_fileset.specs.Jobs.{job_part}
 use Rattle.tsdb_fileset.specs.Parts.{Filled}
 use Rattle.tsdb_fileset.specs.Built.{Built}
@@ -33,9 +33,9 @@ module _ {F S R P : Type 0} (file : S → NamedFile) (rights : S → ℕ) where
   -- ---- one part
 
   module _ (store : Store) (born : ℕ) (part : List Filled) where
-    of_done : (number : Option FileNumber) (built : Option (Built F S R P)) → IsDone file rights store born part number
+    of_done : (number : Option FileNumber) (built : Option (Built F S R P)) → IsPartDone file rights store born part number
         built
-        → IsOfPart store born part number (option_map (new_file file) built)
+        → IsOfPart store born part number (option_map (file_built file) built)
     of_done None None done = tt
     of_done None (Some built) done = absurd done
     of_done (Some number) None done = absurd done
@@ -50,14 +50,14 @@ module _ {F S R P : Type 0} (file : S → NamedFile) (rights : S → ℕ) where
     }
 
     all_done : (number : Option FileNumber) (built : Option (Built F S R P))
-        → IsDone file rights store born part number built → is_some number ≡ is_some (option_map (new_file file) built)
+        → IsPartDone file rights store born part number built → is_some number ≡ is_some (option_map (file_built file) built)
     all_done None None done = refl
     all_done None (Some built) done = absurd done
     all_done (Some number) None done = absurd done
     all_done (Some number) (Some built) done = refl
 
     numbered_done : (number : Option FileNumber) (built : Option (Built F S R P))
-        → IsDone file rights store born part number built → IfSome built (IsNumbered rights number)
+        → IsPartDone file rights store born part number built → IfSome built (IsNumberedOutput rights number)
     numbered_done None None done = tt
     numbered_done None (Some built) done = absurd done
     numbered_done (Some number) None done = absurd done
@@ -67,22 +67,22 @@ module _ {F S R P : Type 0} (file : S → NamedFile) (rights : S → ℕ) where
     }
 
     of_part : (number : Option FileNumber) (built : Option (Built F S R P))
-        → (built ≡ None) ⊎ IsDone file rights store born part number built
-        → IsOfPart store born part number (option_map (new_file file) built)
+        → (built ≡ None) ⊎ IsPartDone file rights store born part number built
+        → IsOfPart store born part number (option_map (file_built file) built)
     of_part number built (inl none) =
-        subst (λ (b : Option (Built F S R P)). IsOfPart store born part number (option_map (new_file file) b)) (sym
+        subst (λ (b : Option (Built F S R P)). IsOfPart store born part number (option_map (file_built file) b)) (sym
         none) tt
     of_part number built (inr done) = of_done number built done
 
     numbered : (number : Option FileNumber) (built : Option (Built F S R P))
-        → (built ≡ None) ⊎ IsDone file rights store born part number built → IfSome built (IsNumbered rights number)
+        → (built ≡ None) ⊎ IsPartDone file rights store born part number built → IfSome built (IsNumberedOutput rights number)
     numbered number built (inl none) =
-        subst (λ (b : Option (Built F S R P)). IfSome b (IsNumbered rights number)) (sym none) tt
+        subst (λ (b : Option (Built F S R P)). IfSome b (IsNumberedOutput rights number)) (sym none) tt
     numbered number built (inr done) = numbered_done number built done
 
-  pub drawn_part : (number : Option FileNumber) (built : Option (Built F S R P)) → IfSome built (IsNumbered rights
+  pub drawn_part : (number : Option FileNumber) (built : Option (Built F S R P)) → IfSome built (IsNumberedOutput rights
       number)
-      → Each (λ (f : NewFile). Among (number_of f) (numbers_if number)) (if_some (option_map (new_file file) built))
+      → Each (λ (f : NewFile). Among (file_number f) (numbers_if number)) (if_some (option_map (file_built file) built))
   drawn_part number None numbered = tt
   drawn_part None (Some built) numbered = let drawn = numbered.drawn in absurd cc
   drawn_part (Some number) (Some built) numbered = (inl (some_is number.0 built.entry.number.0 numbered.drawn), tt)
@@ -100,7 +100,7 @@ module _ {F S R P : Type 0} (file : S → NamedFile) (rights : S → ℕ) where
           done.unsequence;
     }
 
-    pub of_job_done : (done : AreDone file rights job files) → AreOfJob done.store job (new_files file files)
+    pub of_job_done : (done : AreDone file rights job files) → AreFilesOfJob done.store job (new_files file files)
     of_job_done done = record {
       sequence = of_done done.store job.born.0 (job_part Sequence job) job.sequence files.sequence done.sequence;
       unsequence = of_done done.store job.born.0 (job_part Unsequence job) job.unsequence files.unsequence
@@ -108,31 +108,31 @@ module _ {F S R P : Type 0} (file : S → NamedFile) (rights : S → ℕ) where
     }
 
     module _ (done : AreDoneSoFar file rights job files) where
-      pub of_job : AreOfJob done.store job (new_files file files)
+      pub of_job : AreFilesOfJob done.store job (new_files file files)
       of_job = record {
         sequence = of_part done.store job.born.0 (job_part Sequence job) job.sequence files.sequence done.sequence;
         unsequence = of_part done.store job.born.0 (job_part Unsequence job) job.unsequence files.unsequence
             done.unsequence;
       }
 
-      pub sequence_numbered : IfSome files.sequence (IsNumbered rights job.sequence)
+      pub sequence_numbered : IfSome files.sequence (IsNumberedOutput rights job.sequence)
       sequence_numbered = numbered done.store job.born.0 (job_part Sequence job) job.sequence files.sequence
           done.sequence
 
-      pub unsequence_numbered : IfSome files.unsequence (IsNumbered rights job.unsequence)
+      pub unsequence_numbered : IfSome files.unsequence (IsNumberedOutput rights job.unsequence)
       unsequence_numbered =
           numbered done.store job.born.0 (job_part Unsequence job) job.unsequence files.unsequence done.unsequence
 
-      pub all_drawn : Each (λ (f : NewFile). Among (number_of f) (drawn_for job)) (all_of (new_files file files))
-      all_drawn = each_append _ (if_some (option_map (new_file file) files.sequence))
-          (if_some (option_map (new_file file) files.unsequence))
+      pub all_drawn : Each (λ (f : NewFile). Among (file_number f) (drawn_for job)) (all_of (new_files file files))
+      all_drawn = each_append _ (if_some (option_map (file_built file) files.sequence))
+          (if_some (option_map (file_built file) files.unsequence))
           (each_weaker _ _ (λ (f : NewFile). among_left (numbers_if job.sequence) (numbers_if job.unsequence)
-          (number_of f))
-          (if_some (option_map (new_file file) files.sequence))
+          (file_number f))
+          (if_some (option_map (file_built file) files.sequence))
           (drawn_part job.sequence files.sequence sequence_numbered))
           (each_weaker _ _ (λ (f : NewFile). among_right (numbers_if job.sequence) (numbers_if job.unsequence)
-          (number_of f))
-          (if_some (option_map (new_file file) files.unsequence))
+          (file_number f))
+          (if_some (option_map (file_built file) files.unsequence))
           (drawn_part job.unsequence files.unsequence unsequence_numbered))
 
 -- ---- room for each part
@@ -153,9 +153,9 @@ room_second (Some s) (Some u) spare places outgoing = (omega (arith, places), om
 
 module _ {F S R P : Type 0} (file : S → NamedFile) (rights : S → ℕ) (space : Space) (number : Option FileNumber)
     (given : Option (Built F S R P)) (built : Built F S R P) (is : given ≡ Some built)
-    (numbered : IfSome given (IsNumbered rights number)) where
-  of_built : IsNumbered rights number built
-  of_built = subst (λ (b : Option (Built F S R P)). IfSome b (IsNumbered rights number)) is numbered
+    (numbered : IfSome given (IsNumberedOutput rights number)) where
+  of_built : IsNumberedOutput rights number built
+  of_built = subst (λ (b : Option (Built F S R P)). IfSome b (IsNumberedOutput rights number)) is numbered
 
   pub unread : rights built.sealed ≡ 0
   unread = of_built.unread
@@ -169,30 +169,30 @@ module _ {F S R P : Type 0} (file : S → NamedFile) (rights : S → ℕ) (space
   pub of_number : (P : ℕ → Type 0) → IfSome number (λ n. P n.0) → P built.entry.number.0
   of_number P holds = some_as P number built.entry.number.0 of_built.drawn holds
 
-  as_given : (commit : Commit) (old new : KeptFiles) → PartEnds commit space number (Some (new_file file built)) old new
-      → PartEnds commit space number (option_map (new_file file) given) old new
+  as_given : (commit : Commit) (old new : KeptFiles) → PartEnds commit space number (Some (file_built file built)) old new
+      → PartEnds commit space number (option_map (file_built file) given) old new
   as_given commit old new ends = subst
-      (λ (b : Option (Built F S R P)). PartEnds commit space number (option_map (new_file file) b) old new) (sym is)
+      (λ (b : Option (Built F S R P)). PartEnds commit space number (option_map (file_built file) b) old new) (sym is)
       ends
 
   pub listed_as : (commit : Commit) (old new : KeptFiles) → commit ≡ Done → Appends space built.entry old new
-      → new.outgoing ≡ old.outgoing → kept_file built.entry.number.0 new ≡ Some (new_file file built).token
+      → new.outgoing ≡ old.outgoing → kept_file built.entry.number.0 new ≡ Some (file_built file built).token
       → OthersStay built.entry.number.0 old.places new.places → new.spare ≡ less_room space old.spare
-      → PartEnds commit space number (option_map (new_file file) given) old new
+      → PartEnds commit space number (option_map (file_built file) given) old new
   listed_as commit old new done appends outgoing kept others room = as_given commit old new
-      (subst (λ c. PartEnds c space number (Some (new_file file built)) old new) (sym done)
-      (part_listed old new space number (new_file file built) of_built.drawn appends outgoing kept others room))
+      (subst (λ c. PartEnds c space number (Some (file_built file built)) old new) (sym done)
+      (part_listed old new space number (file_built file built) of_built.drawn appends outgoing kept others room))
 
   pub sent_as : (commit : Commit) (old new : KeptFiles) → (commit ≡ Gone) ⊎ (commit ≡ Device)
       → new.sequence ≡ old.sequence → new.unsequence ≡ old.unsequence
-      → new.outgoing ≡ old.outgoing ++ outgoing_of (new_file file built) ∷ []
-      → kept_file built.entry.number.0 new ≡ Some (new_file file built).token
+      → new.outgoing ≡ old.outgoing ++ outgoing_of (file_built file built) ∷ []
+      → kept_file built.entry.number.0 new ≡ Some (file_built file built).token
       → OthersStay built.entry.number.0 old.places new.places → new.spare ≡ less_room space old.spare
-      → PartEnds commit space number (option_map (new_file file) given) old new
+      → PartEnds commit space number (option_map (file_built file) given) old new
   sent_as commit old new how sequence unsequence outgoing kept others room = as_given commit old new
       (part_sent old new commit (⊎_elim (λ gone done. not_gone (sym gone ∙ done)) (λ device done. not_device (sym
       device ∙ done))
-      how) space number (new_file file built) of_built.drawn sequence unsequence outgoing kept others room)
+      how) space number (file_built file built) of_built.drawn sequence unsequence outgoing kept others room)
     where
       not_gone : Gone ≡ Done → ⊥
       not_gone same = cc

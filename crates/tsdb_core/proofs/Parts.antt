@@ -9,12 +9,12 @@ use Rattle.tsdb_base.specs.declared.ids.FileNumber.{FileNumber}
 use Rattle.tsdb_base.specs.declared.ids.Space.{Space}
 use Rattle.tsdb_base.specs.declared.ids.Space.TheVariants.{Sequence, Unsequence}
 use Rattle.tsdb_tasks.specs.Coming.{AreSentOut, HaveCome, StandLast, outgoing_of}
-use Rattle.tsdb_tasks.specs.Files.{NewFile, NewFiles, number_of, numbers_of}
+use Rattle.tsdb_tasks.specs.Files.{NewFile, NewFiles, file_number, built_numbers}
 use Rattle.tsdb_core.specs.Ending.{AreAfterCommit, PartEnds, less_if, numbers_if, only}
 use Rattle.tsdb_core.specs.declared.commit.Commit.{Commit}
 use Rattle.tsdb_core.specs.declared.commit.Commit.TheVariants.{Device, Done, Gone}
 use Rattle.tsdb_fileset.specs.Files.{Appends, KeepsLists, KeptFiles, kept_file}
-use Rattle.tsdb_fileset.specs.Places.{OthersStay, file_at, place_at}
+use Rattle.tsdb_fileset.specs.Places.{OthersStay, file_at, place_of_number}
 use Rattle.tsdb_fileset.specs.Room.{less_room}
 use Rattle.tsdb_base.proofs.Lists.{among_left, among_right, each_append, each_among, each_from_among, each_left}
 use Rattle.tsdb_base.specs.Lists.{Among, if_some}
@@ -29,16 +29,16 @@ some_is a b same = cc
 
 module _ (old new : KeptFiles) where
   -- a token is put at its place
-  one_come : (space : Space) (number : Option FileNumber) (file : NewFile) → plain number ≡ Some (number_of file)
-      → kept_file (number_of file) new ≡ Some file.token → OthersStay (number_of file) old.places new.places
+  one_come : (space : Space) (number : Option FileNumber) (file : NewFile) → plain number ≡ Some (file_number file)
+      → kept_file (file_number file) new ≡ Some file.token → OthersStay (file_number file) old.places new.places
       → HaveCome (numbers_if number) (only space (Some file)) old new
   one_come space None file is kept others = absurd cc
   one_come space (Some number) file is kept others = by space
     where
-      same : number_of file ≡ number.0
-      same = sym (some_is number.0 (number_of file) is)
+      same : file_number file ≡ number.0
+      same = sym (some_is number.0 (file_number file) is)
 
-      stay : (n : ℕ) → (Among n (number.0 ∷ []) → ⊥) → place_at n new.places ≡ place_at n old.places
+      stay : (n : ℕ) → (Among n (number.0 ∷ []) → ⊥) → place_of_number n new.places ≡ place_of_number n old.places
       stay n never = others n (λ is. never (inl (sym same ∙ is)))
 
       by : (space : Space) → HaveCome (number.0 ∷ []) (only space (Some file)) old new
@@ -50,14 +50,14 @@ module _ (old new : KeptFiles) where
   less_of space None n is room = absurd cc
   less_of space (Some number) n is room = room
 
-  pub part_listed : (space : Space) (number : Option FileNumber) (file : NewFile) → plain number ≡ Some (number_of file)
+  pub part_listed : (space : Space) (number : Option FileNumber) (file : NewFile) → plain number ≡ Some (file_number file)
       → Appends space file.entry old new → new.outgoing ≡ old.outgoing
-      → kept_file (number_of file) new ≡ Some file.token → OthersStay (number_of file) old.places new.places
+      → kept_file (file_number file) new ≡ Some file.token → OthersStay (file_number file) old.places new.places
       → new.spare ≡ less_room space old.spare → PartEnds Done space number (Some file) old new
   part_listed space number file is appends outgoing kept others room = record {
     come = one_come space number file is kept others;
     lists = last space appends;
-    room = less_of space number (number_of file) is room;
+    room = less_of space number (file_number file) is room;
   }
     where
       last : (space : Space) → Appends space file.entry old new → StandLast (only space (Some file)) old new
@@ -80,20 +80,20 @@ module _ (old new : KeptFiles) where
       record { sequence = sequence; unsequence = unsequence; outgoing = outgoing }
 
   pub part_sent : (commit : Commit) → commit ≢ Done → (space : Space) (number : Option FileNumber) (file : NewFile)
-      → plain number ≡ Some (number_of file) → new.sequence ≡ old.sequence → new.unsequence ≡ old.unsequence
-      → new.outgoing ≡ old.outgoing ++ outgoing_of file ∷ [] → kept_file (number_of file) new ≡ Some file.token
-      → OthersStay (number_of file) old.places new.places → new.spare ≡ less_room space old.spare
+      → plain number ≡ Some (file_number file) → new.sequence ≡ old.sequence → new.unsequence ≡ old.unsequence
+      → new.outgoing ≡ old.outgoing ++ outgoing_of file ∷ [] → kept_file (file_number file) new ≡ Some file.token
+      → OthersStay (file_number file) old.places new.places → new.spare ≡ less_room space old.spare
       → PartEnds commit space number (Some file) old new
   part_sent Done not space number file is sequence unsequence outgoing kept others room = absurd (not refl)
   part_sent Gone not space number file is sequence unsequence outgoing kept others room = record {
     come = one_come space number file is kept others;
     lists = sent space file sequence unsequence outgoing;
-    room = less_of space number (number_of file) is room;
+    room = less_of space number (file_number file) is room;
   }
   part_sent Device not space number file is sequence unsequence outgoing kept others room = record {
     come = one_come space number file is kept others;
     lists = sent space file sequence unsequence outgoing;
-    room = less_of space number (number_of file) is room;
+    room = less_of space number (file_number file) is room;
   }
 
   -- no list changes
@@ -123,7 +123,7 @@ module _ (old new : KeptFiles) where
       by Device Unsequence = out
 
   pub part_given_up : (commit : Commit) (space : Space) (number : FileNumber) → KeepsLists old new
-      → place_at number.0 new.places ≡ None → OthersStay number.0 old.places new.places
+      → place_of_number number.0 new.places ≡ None → OthersStay number.0 old.places new.places
       → new.spare ≡ less_room space old.spare → PartEnds commit space (Some number) None old new
   part_given_up commit space number lists none others room = record {
     come = by space;
@@ -131,7 +131,7 @@ module _ (old new : KeptFiles) where
     room = room;
   }
     where
-      stay : (n : ℕ) → (Among n (number.0 ∷ []) → ⊥) → place_at n new.places ≡ place_at n old.places
+      stay : (n : ℕ) → (Among n (number.0 ∷ []) → ⊥) → place_of_number n new.places ≡ place_of_number n old.places
       stay n never = others n (λ is. never (inl is))
 
       by : (space : Space) → HaveCome (number.0 ∷ []) (only space None) old new
@@ -158,17 +158,17 @@ module _ (commit : Commit) (s u : Option FileNumber) (f g : Option NewFile) (old
   files = record { sequence = f; unsequence = g }
 
   module _ (apart : (n : ℕ) → Among n (numbers_if s) → Among n (numbers_if u) → ⊥)
-      (drawn : Each (λ file. Among (number_of file) (numbers_if s)) (if_some f)) where
+      (drawn : Each (λ file. Among (file_number file) (numbers_if s)) (if_some f)) where
     -- a number of the first part keeps its place in the second
-    stays : (n : ℕ) → Among n (numbers_if s) → place_at n new.places ≡ place_at n mid.places
+    stays : (n : ℕ) → Among n (numbers_if s) → place_of_number n new.places ≡ place_of_number n mid.places
     stays n among = second.come.others n (apart n among)
 
     pub both_come : HaveCome (numbers_if s ++ numbers_if u) files old new
     both_come = record {
-      kept = each_append (λ file. kept_file (number_of file) new ≡ Some file.token) (if_some f) (if_some g)
+      kept = each_append (λ file. kept_file (file_number file) new ≡ Some file.token) (if_some f) (if_some g)
           (each_from_among _ (if_some f) (λ file there.
-          ap file_at (stays (number_of file) (each_among _ (if_some f) file drawn there))
-          ∙ each_among (λ file. kept_file (number_of file) mid ≡ Some file.token) (if_some f) file
+          ap file_at (stays (file_number file) (each_among _ (if_some f) file drawn there))
+          ∙ each_among (λ file. kept_file (file_number file) mid ≡ Some file.token) (if_some f) file
           (each_left _ (if_some f) [] first.come.kept) there))
           second.come.kept;
       gone = each_append _ (numbers_if s) (numbers_if u)
@@ -180,21 +180,21 @@ module _ (commit : Commit) (s u : Option FileNumber) (f g : Option NewFile) (old
           ∙ first.come.others n (λ among. never (among_left (numbers_if s) (numbers_if u) n among));
     }
       where
-        all : map number_of (if_some f ++ if_some g) ≡ map number_of (if_some f) ++ map number_of (if_some g)
-        all = map-append number_of (if_some f) (if_some g)
+        all : map file_number (if_some f ++ if_some g) ≡ map file_number (if_some f) ++ map file_number (if_some g)
+        all = map-append file_number (if_some f) (if_some g)
 
         of_first : (n : ℕ) → Among n (numbers_if s)
-            → Among n (map number_of (if_some f ++ [])) ⊎ (place_at n mid.places ≡ None)
-            → Among n (numbers_of files) ⊎ (place_at n new.places ≡ None)
+            → Among n (map file_number (if_some f ++ [])) ⊎ (place_of_number n mid.places ≡ None)
+            → Among n (built_numbers files) ⊎ (place_of_number n new.places ≡ None)
         of_first n there (inl among) = inl (subst (Among n) (sym all)
-            (among_left (map number_of (if_some f)) (map number_of (if_some g)) n
-            (subst (λ list. Among n (map number_of list)) (append-nil (if_some f)) among)))
+            (among_left (map file_number (if_some f)) (map file_number (if_some g)) n
+            (subst (λ list. Among n (map file_number list)) (append-nil (if_some f)) among)))
         of_first n there (inr none) = inr (stays n there ∙ none)
 
-        of_second : (n : ℕ) → Among n (map number_of (if_some g)) ⊎ (place_at n new.places ≡ None)
-            → Among n (numbers_of files) ⊎ (place_at n new.places ≡ None)
+        of_second : (n : ℕ) → Among n (map file_number (if_some g)) ⊎ (place_of_number n new.places ≡ None)
+            → Among n (built_numbers files) ⊎ (place_of_number n new.places ≡ None)
         of_second n (inl among) = inl (subst (Among n) (sym all)
-            (among_right (map number_of (if_some f)) (map number_of (if_some g)) n among))
+            (among_right (map file_number (if_some f)) (map file_number (if_some g)) n among))
         of_second n (inr none) = inr none
 
   pub both_lists : AreAfterCommit commit files old new

@@ -6,7 +6,7 @@ use Rattle.tsdb_core.proofs.Claims.{claims_stay, same_lists}
 use Rattle.tsdb_core.proofs.Loans.{all_same, pinned_loans, unpinned_loans}
 use Rattle.tsdb_core.specs.Core.{AreClaimed, IsSeen, KeepsJobs, next_of}
 use Rattle.tsdb_core.specs.Pins.{ChangesRights, IsNotPinned, IsPinStep, IsPinned, IsUnpinned}
-use Rattle.tsdb_core.specs.Worlds.{KeepsWorld}
+use Rattle.tsdb_core.specs.Worlds.{CoreKeepsWorld}
 use Rattle.tsdb_core.specs.declared.engine.Core.{Core}
 use Rattle.tsdb_fileset.specs.Held.{TellTheirBytes}
 use Rattle.tsdb_state.proofs.ImageLemmas.Storing.{pin_stored, unpin_stored}
@@ -16,23 +16,23 @@ use Rattle.tsdb_fileset.specs.Places.{KeptFile}
 use Rattle.tsdb_fileset.specs.declared.room.Spare.{Spare}
 use Rattle.tsdb_base.proofs.Lists.{each_weaker}
 use Rattle.tsdb_base.specs.Lists.{IsWithOne, count}
-use Rattle.tsdb_memory.specs.Logged.{Outside, memory_of, room_of}
-use Rattle.tsdb_memory.specs.Store.{Store}
+use Rattle.tsdb_memory.specs.Logged.{Outside, memory_of, framed_room}
+use Rattle.tsdb_memory.specs.Store.{MemoryState}
 use Rattle.tsdb_outside.specs.Files.{NamedFile, StoredFile}
 use Rattle.tsdb_outside.specs.declared.disk.Disk as disk
 use Rattle.tsdb_outside.specs.declared.faults.Counted as counted
 use Rattle.tsdb_tasks.proofs.Changing.{LeavesNames, gives_names, kept_changed, takes_names}
 use Rattle.tsdb_tasks.proofs.Gathered.{columns_stay}
 use Rattle.tsdb_tasks.proofs.Pinned.{files_with}
-use Rattle.tsdb_tasks.specs.Changes.{ChangesFiles, GivesRights, KeepsFiles, TakesRights, column_numbers, fewer_rights, more_rights}
-use Rattle.tsdb_tasks.specs.Pins.{AreColumnsHeld, IsTakenOrNot}
+use Rattle.tsdb_tasks.specs.Changes.{ChangesFiles, GivesRights, ChangesNoFile, TakesRights, column_numbers, fewer_rights, more_rights}
+use Rattle.tsdb_tasks.specs.Pins.{AreColumnsHeld, IsPinTakenOrNot}
 use Rattle.tsdb_tasks.specs.Shown.{IsPinOf, IsPinOfState, LeavesState}
 use Rattle.tsdb_tasks.specs.Pin.{Pin}
 use Rattle.tsdb_tasks.specs.PinFault.{PinFault}
 use Rattle.tsdb_state.proofs.Pinning.{pin_stands}
 use Rattle.tsdb_state.specs.Jobs.{KeepsRoom, drawn_numbers}
 use Rattle.tsdb_state.specs.State as state
-use Rattle.tsdb_state.specs.State.{Compaction, EngineState, FlushJob}
+use Rattle.tsdb_state.specs.State.{Compaction, EngineState, FlushState}
 use Rattle.tsdb_state.specs.Steps.{pinned, unpinned}
 
 -- what holds of the name of each kept file goes on to hold
@@ -52,7 +52,7 @@ module _ {J F S R P : Type 0} {means : disk.Ghosts J} {counts : counted.Ghosts J
 
   module _ (old : Core J F S R P means counts) (files : KeptFiles) (change : ℕ → KeptFile → KeptFile)
       (leaves : LeavesNames change) (changes : ChangesFiles change old.files files) where
-    jobs_stay : (flushes : List FlushJob) (compactions : List Compaction) → KeepsJobs old flushes compactions
+    jobs_stay : (flushes : List FlushState) (compactions : List Compaction) → KeepsJobs old flushes compactions
         → KeepsJobs (with_files old files) flushes compactions
     jobs_stay flushes compactions kept = record {
       from_one = kept.from_one;
@@ -66,7 +66,7 @@ module _ {J F S R P : Type 0} {means : disk.Ghosts J} {counts : counted.Ghosts J
         sequence = spare.sequence;
         unsequence = spare.unsequence;
         outgoing = spare.outgoing;
-        record_bytes = room_of old.logged;
+        record_bytes = framed_room old.logged;
       }) flushes compactions) (sym changes.room) kept.room;
     }
 
@@ -131,7 +131,7 @@ module _ {J F S R P : Type 0} {means : disk.Ghosts J} {counts : counted.Ghosts J
                 one.shown one.takes;
           }
 
-  pub not_pinned : (old : Core J F S R P means counts) (files : KeptFiles) → KeepsFiles old.files files
+  pub not_pinned : (old : Core J F S R P means counts) (files : KeptFiles) → ChangesNoFile old.files files
       → IsNotPinned old (with_files old files)
   not_pinned old files keeps = record {
     rest = rest_stays old files same leaves keeps;
@@ -180,7 +180,7 @@ module _ {J F S R P : Type 0} {means : disk.Ghosts J} {counts : counted.Ghosts J
       leaves : LeavesNames change
       leaves = gives_names (column_numbers pin.columns)
 
-      step : (outside : Outside) (engine : EngineState) (shown : state.Pin) (others : List state.Pin)
+      step : (outside : Outside) (engine : EngineState) (shown : state.PinState) (others : List state.PinState)
           → IsSeen old outside engine → IsPinOf pin shown → IsWithOne shown others engine.pins
           → IsSeen (with_files old files) outside (unpinned shown others engine)
       step outside engine shown others seen is out = record {
@@ -199,7 +199,7 @@ module _ {J F S R P : Type 0} {means : disk.Ghosts J} {counts : counted.Ghosts J
   -- worlds
 
   pub pinned_world : (name : R → NamedFile) (old new : Core J F S R P means counts) (pin : Pin F S R P)
-      → IsPinned name old new pin → KeepsWorld old new
+      → IsPinned name old new pin → CoreKeepsWorld old new
   pinned_world name old new pin is world of = let one = is.step of.outside of.state of.seen in record {
     outside = of.outside;
     state = pinned one.shown of.state;
@@ -207,7 +207,7 @@ module _ {J F S R P : Type 0} {means : disk.Ghosts J} {counts : counted.Ghosts J
     stands = of.stands;
   }
 
-  pub not_pinned_world : (old new : Core J F S R P means counts) → IsNotPinned old new → KeepsWorld old new
+  pub not_pinned_world : (old new : Core J F S R P means counts) → IsNotPinned old new → CoreKeepsWorld old new
   not_pinned_world old new is world of = record {
     outside = of.outside;
     state = of.state;
@@ -216,21 +216,21 @@ module _ {J F S R P : Type 0} {means : disk.Ghosts J} {counts : counted.Ghosts J
   }
 
   -- how a call for a pin ends
-  module _ (name : R → NamedFile) (old : Core J F S R P means counts) (files : KeptFiles) (memory : Store)
+  module _ (name : R → NamedFile) (old : Core J F S R P means counts) (files : KeptFiles) (memory : MemoryState)
       (is_memory : memory ≡ memory_of old.logged) where
-    pub pinned_if : (result : Result (Pin F S R P) PinFault) → IsTakenOrNot name old.files files result
+    pub pinned_if : (result : Result (Pin F S R P) PinFault) → IsPinTakenOrNot name old.files files result
         → IfOk result (IsPinOfState old.files files memory) → IfOk result (IsPinned name old (with_files old files))
     pinned_if (Ok pin) taken stated = is_pinned name old files pin taken.0 taken.1
         (subst (λ store. IsPinOfState old.files files store pin) is_memory stated)
     pinned_if (Err fault) taken stated = tt
 
-    pub not_if : (result : Result (Pin F S R P) PinFault) → IsTakenOrNot name old.files files result
+    pub not_if : (result : Result (Pin F S R P) PinFault) → IsPinTakenOrNot name old.files files result
         → OnErr result (IsNotPinned old (with_files old files))
     not_if (Ok pin) taken = tt
     not_if (Err fault) taken = not_pinned old files taken
 
-    pub either_world : (result : Result (Pin F S R P) PinFault) → IsTakenOrNot name old.files files result
-        → IfOk result (IsPinOfState old.files files memory) → KeepsWorld old (with_files old files)
+    pub either_world : (result : Result (Pin F S R P) PinFault) → IsPinTakenOrNot name old.files files result
+        → IfOk result (IsPinOfState old.files files memory) → CoreKeepsWorld old (with_files old files)
     either_world (Ok pin) taken stated =
         pinned_world name old (with_files old files) pin (pinned_if (Ok pin) taken stated)
     either_world (Err fault) taken stated = not_pinned_world old (with_files old files) (not_if (Err fault) taken)

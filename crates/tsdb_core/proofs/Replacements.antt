@@ -8,13 +8,13 @@ use Rattle.std.specs.Prelude.{IfSome}
 use Rattle.tsdb_base.specs.declared.ids.FileNumber.{FileNumber}
 use Rattle.tsdb_base.specs.declared.ids.Space.{Space}
 use Rattle.tsdb_base.specs.declared.ids.Stamp.{Stamp}
-use Rattle.tsdb_tasks.specs.Files.{NewFile, new_file}
+use Rattle.tsdb_tasks.specs.Files.{NewFile, file_built}
 use Rattle.tsdb_tasks.specs.Ending.{GivesUp, IsOutputNumbered}
 use Rattle.tsdb_tasks.specs.Finishing.{AreRunsOf, Finishes}
 use Rattle.tsdb_tasks.specs.States.{sent_files}
 use Rattle.tsdb_tasks.specs.declared.finishing.InputRuns.{InputRuns}
 use Rattle.tsdb_tasks.proofs.Outputs.{no_output}
-use Rattle.tsdb_tasks.specs.Jobs.{IsCompactionOf, IsFormed, input_file, input_files, plain_numbers}
+use Rattle.tsdb_tasks.specs.Jobs.{IsCompactionOf, IsJobFormed, input_file, input_files, plain_numbers}
 use Rattle.tsdb_tasks.specs.CompactionsOutputs.{IsOutputOf, TellsInputs}
 use Rattle.tsdb_tasks.specs.Job.{Job}
 use Rattle.tsdb_core.proofs.LoansJobs.{LeavesInputs, given_up_inputs, job_rights_given, left_as}
@@ -25,7 +25,7 @@ use Rattle.tsdb_core.proofs.ReplacementsFiles.{worlds_later}
 use Rattle.tsdb_core.proofs.ReplacementsJobs.{IsGone, gone_finished, gone_up, others_kept, store_of_each}
 use Rattle.tsdb_core.specs.Compactions.{IsJobOut}
 use Rattle.tsdb_core.specs.Core.{AreClaimed, IsSeen, KeepsJobs}
-use Rattle.tsdb_core.specs.Replacements.{AppendsEnd, CommitsIn, EndsFiles, EndsJob, IsJobAbandoned, IsJobCommit}
+use Rattle.tsdb_core.specs.Replacements.{AppendsEnd, CommitsIn, EndsFiles, HasEndedJob, IsJobAbandoned, IsJobCommit}
 use Rattle.tsdb_core.specs.Replacements.{IsOutputIn, IsSeenAfterEnd, TellsNew, output_place, with_new, without_claim}
 use Rattle.tsdb_core.specs.Worlds.{IsWorldOf}
 use Rattle.tsdb_core.specs.declared.engine.Core.{Core}
@@ -38,9 +38,9 @@ use Rattle.tsdb_base.specs.Lists.{IsWithOne}
 use Rattle.tsdb_state.specs.Places.{Content}
 use Rattle.tsdb_log.specs.declared.record.LogRecord.{LogRecord}
 use Rattle.tsdb_log.specs.declared.record.LogRecord.TheVariants.{Replaced}
-use Rattle.tsdb_memory.specs.Logged.{HasLog, IsSound, Outside, room_of, with_record}
-use Rattle.tsdb_memory.specs.Replacing.{CanReplace, IsReplaced, IsReplacement}
-use Rattle.tsdb_memory.specs.declared.logged.Logged.{Logged}
+use Rattle.tsdb_memory.specs.Logged.{HasLog, IsSoundLogged, Outside, framed_room, with_record}
+use Rattle.tsdb_memory.specs.Replacing.{CanCommitReplacement, IsReplaced, IsReplacement}
+use Rattle.tsdb_memory.specs.declared.logged.LoggedMemory.{LoggedMemory}
 use Rattle.tsdb_model.specs.World.{World}
 use Rattle.tsdb_memory.specs.Least.{IsLeastOf}
 use Rattle.tsdb_outside.specs.Files.{NamedFile}
@@ -51,7 +51,7 @@ use Rattle.tsdb_plan.specs.declared.entry.FileEntry.{FileEntry}
 use Rattle.tsdb_tasks.proofs.OutputsBuilt.{new_output}
 use Rattle.tsdb_state.proofs.EngineCompaction.{commit_keeps}
 use Rattle.tsdb_state.specs.Jobs.{replaced_bytes}
-use Rattle.tsdb_state.specs.State.{Compaction, EngineState, FlushJob, Told}
+use Rattle.tsdb_state.specs.State.{Compaction, EngineState, FlushState, ToldContents}
 use Rattle.tsdb_state.specs.Steps.{IsOutput, committed, compaction_record, ended, failed, output_number, settled}
 use Rattle.tsdb_state.specs.Worlds.{KeepsWorld, StandsFor}
 
@@ -63,23 +63,23 @@ module _ {F S R P : Type 0} (name : R → NamedFile) (file : S → NamedFile) (r
   output_numbered (Some built) of =
       record { number = of.file_is.kept.number_is; unread = of.file_is.unread }
 
-  module _ (told : Told) (compaction : Compaction) (is : IsCompactionOf job compaction)
+  module _ (told : ToldContents) (compaction : Compaction) (is : IsCompactionOf job compaction)
       (tells : TellsInputs name told job) where
     -- what it has
     output_in : (built : Option (Built F S R P)) → IsOutputOf name file rights job built
-        → TellsNew (option_map (new_file file) built)
-        → (content : Content) × IsOutputIn told compaction (option_map (new_file file) built) content
+        → TellsNew (option_map (file_built file) built)
+        → (content : Content) × IsOutputIn told compaction (option_map (file_built file) built) content
     output_in None of some = (empty, tt)
     output_in (Some built) of some = new_output name file rights told job built compaction is of tells some
 
     no_output_in : (built : Option (Built F S R P)) → IsOutputOf name file rights job built
-        → option_map (new_file file) built ≡ None → IsOutput told compaction []
+        → option_map (file_built file) built ≡ None → IsOutput told compaction []
     no_output_in None of none = no_output name told job compaction is of tells
     no_output_in (Some built) of none = absurd cc
 
 -- the output as a core keeps it
 abbrev made_of : {F S R P : Type 0} → (S → NamedFile) → Option (Built F S R P) → Option NewFile
-made_of sealed built = option_map (new_file sealed) built
+made_of sealed built = option_map (file_built sealed) built
 
 -- no right on it is out
 made_unread : {F S R P : Type 0} (sealed : S → NamedFile) (o : Option (Built F S R P))
@@ -95,7 +95,7 @@ same_born sealed None = refl
 same_born sealed (Some one) = refl
 
 -- the lists of the job have the numbers of all its inputs
-pub all_inputs : {F S R P : Type 0} (job : Job F S R P) → IsFormed job
+pub all_inputs : {F S R P : Type 0} (job : Job F S R P) → IsJobFormed job
     → length job.sequence + length job.unsequence ≡ length job.inputs
 all_inputs job formed = omega (
   arith,
@@ -113,9 +113,9 @@ gone_as job runs file old after (Ok done) up = gone_finished job file runs old a
 gone_as job runs file old after (Err fault) up = gone_up job file old after up
 
 module _ {J F S R P : Type 0} {means : disk.Ghosts J} {counts : counted.Ghosts J} where
-  module _ (old : Core J F S R P means counts) (logged : Logged J means counts) (kept : KeptFiles)
+  module _ (old : Core J F S R P means counts) (logged : LoggedMemory J means counts) (kept : KeptFiles)
       (job : Job F S R P) (file : Option NewFile) (name : R → NamedFile) (job_out : IsJobOut name old job)
-      (are_kept : AreKept old.files) (more : room_of old.logged ≤ room_of logged) where
+      (are_kept : AreKept old.files) (more : framed_room old.logged ≤ framed_room logged) where
     abbrev new : Core J F S R P means counts
     new = record old {
       logged = logged;
@@ -124,14 +124,14 @@ module _ {J F S R P : Type 0} {means : disk.Ghosts J} {counts : counted.Ghosts J
     }
 
     jobs_left : IsGone job file old.files kept → (compaction : Compaction) (others compactions : List Compaction)
-        (flushes : List FlushJob) → IsCompactionOf job compaction → IsWithOne compaction others compactions
+        (flushes : List FlushState) → IsCompactionOf job compaction → IsWithOne compaction others compactions
         → KeepsJobs old flushes compactions → KeepsJobs new flushes others
     jobs_left gone compaction others compactions flushes is out keeps = others_kept old logged kept
         (without_claim job.space old.sequence_claimed) job file more job_out.kept.held.some gone compaction others
         compactions flushes is out keeps
 
     ends_job : IsGone job file old.files kept → LeavesInputs job old.files kept old.sequence_claimed
-        → IfSome file (λ one. one.token.rights ≡ 0) → EndsJob old new job file
+        → IfSome file (λ one. one.token.rights ≡ 0) → HasEndedJob old new job file
     ends_job gone left unread = record {
       claimed = refl;
       next = refl;
@@ -161,7 +161,7 @@ module _ {J F S R P : Type 0} {means : disk.Ghosts J} {counts : counted.Ghosts J
           (sym (items_later job outside engine compaction others file content seen.sound.stored is out output))
           seen.sound.log
 
-      sound : IsSound old.logged later engine
+      sound : IsSoundLogged old.logged later engine
       sound = record {
         memory = seen.sound.memory;
         log = log_later;
@@ -203,7 +203,7 @@ module _ {J F S R P : Type 0} {means : disk.Ghosts J} {counts : counted.Ghosts J
         are_given_up = files_given_up job outside engine compaction others file content seen.sound.stored is out output
             old.files seen.files are_kept job_out.kept.held.place kept up
 
-        shown : (doubt : Option LogRecord) → IsSound logged later (record gone_state { doubt = doubt })
+        shown : (doubt : Option LogRecord) → IsSoundLogged logged later (record gone_state { doubt = doubt })
             → IsSeen new later (record gone_state { doubt = doubt })
         shown doubt is_sound = record {
           sound = is_sound;
@@ -222,7 +222,7 @@ module _ {J F S R P : Type 0} {means : disk.Ghosts J} {counts : counted.Ghosts J
         }
 
         given_up_seen : logged ≡ old.logged → IsSeen new later gone_state
-        given_up_seen same = shown engine.doubt (subst (λ log. IsSound log later gone_state) (sym same) (record {
+        given_up_seen same = shown engine.doubt (subst (λ log. IsSoundLogged log later gone_state) (sym same) (record {
           memory = seen.sound.memory;
           log = log_later;
           stored = ended_later job outside engine compaction others file content seen.sound.stored is out output;
@@ -241,7 +241,7 @@ module _ {J F S R P : Type 0} {means : disk.Ghosts J} {counts : counted.Ghosts J
 
         module _ (outcome : Result (Unit {0}) Failed)
             (appends : AppendsEnd old (record old { logged = logged }) job runs file outcome) where
-          can : CanReplace item appends.listed later engine compaction others (sent_files file) output_at
+          can : CanCommitReplacement item appends.listed later engine compaction others (sent_files file) output_at
           can = can_replace job outside engine compaction others file content seen.sound.stored is out output old.files
               seen.files are_kept job_out.kept.held.place runs stand none appends.listed appends.least
 
@@ -306,8 +306,8 @@ module _ {J F S R P : Type 0} {means : disk.Ghosts J} {counts : counted.Ghosts J
         commits_in (Err fault) appends up =
             commits (Err fault) appends after (λ world stands. in_world world stands after)
           where
-            from : IsSound logged later (settled gone_state)
-                ⊎ (IsSound logged later gone_state ⊎ IsSound logged later (failed item gone_state))
+            from : IsSoundLogged logged later (settled gone_state)
+                ⊎ (IsSoundLogged logged later gone_state ⊎ IsSoundLogged logged later (failed item gone_state))
                 → IsSeen new later (settled gone_state)
                 ⊎ (IsSeen new later gone_state ⊎ IsSeen new later (failed item gone_state))
             from (inl none) = inl (shown up None none)
@@ -329,13 +329,13 @@ module _ {J F S R P : Type 0} {means : disk.Ghosts J} {counts : counted.Ghosts J
   -- there is room for the record of a job that is out
   pub room_for : (name : R → NamedFile) (core : Core J F S R P means counts) (job : Job F S R P) (born : Stamp)
       (space : Space) (spot : ℕ) (number : FileNumber) → IsJobOut name core job
-      → IsReplacement (room_of core.logged) (Replaced born space spot number job.sequence job.unsequence)
+      → IsReplacement (framed_room core.logged) (Replaced born space spot number job.sequence job.unsequence)
   room_for name core job born space spot number out = (
     out.kept.few_sequence,
     out.kept.few_late,
     omega (
       arith,
-      with_one_is (λ (c : Compaction). replaced_bytes c ≤ room_of core.logged) out.compaction out.others
+      with_one_is (λ (c : Compaction). replaced_bytes c ≤ framed_room core.logged) out.compaction out.others
           out.compactions out.out out.keeps.room.replaced,
       all_inputs job out.kept.formed,
       ap length out.is.inputs ∙ length-map job.inputs input_file,
@@ -346,7 +346,7 @@ module _ {J F S R P : Type 0} {means : disk.Ghosts J} {counts : counted.Ghosts J
 
   module _ (name : R → NamedFile) (sealed : S → NamedFile) (rights : S → ℕ) (job : Job F S R P)
       (built : Option (Built F S R P)) where
-    is_commit : (old : Core J F S R P means counts) (logged : Logged J means counts) (kept : KeptFiles)
+    is_commit : (old : Core J F S R P means counts) (logged : LoggedMemory J means counts) (kept : KeptFiles)
         (runs : InputRuns) (outcome : Result (Unit {0}) Failed) → IsJobOut name old job → AreKept old.files
         → IsOutputOf name sealed rights job built → AreRunsOf job runs old.files
         → AppendsEnd old (record old { logged = logged }) job runs (made_of sealed built) outcome
@@ -377,7 +377,7 @@ module _ {J F S R P : Type 0} {means : disk.Ghosts J} {counts : counted.Ghosts J
       cause = appends.replaced.cause;
     }
 
-    pub appends_end : (old : Core J F S R P means counts) (logged : Logged J means counts) (runs : InputRuns)
+    pub appends_end : (old : Core J F S R P means counts) (logged : LoggedMemory J means counts) (runs : InputRuns)
         (outcome : Result (Unit {0}) Failed) (listed born : Option Stamp) (spot : ℕ) (number : FileNumber)
         → spot ≡ output_place job.space runs
         → number ≡ record { 0 = output_number (sent_files (made_of sealed built)) }

@@ -35,7 +35,7 @@ use Rattle.tsdb_state.specs.Jobs.{AreApart, HasKind, Stands}
 use Rattle.tsdb_state.specs.Order.{IsInOrder}
 use Rattle.tsdb_state.specs.Plans.{IsSequenceFree}
 use Rattle.tsdb_state.specs.Records.{numbers_of}
-use Rattle.tsdb_state.specs.State.{Compaction, EngineState, Entries, File, Told}
+use Rattle.tsdb_state.specs.State.{Compaction, EngineState, KnownFiles, File, ToldContents}
 
 -- ---- claims in a list of which a run is replaced
 
@@ -130,20 +130,20 @@ in_run : (run all : List File) → IsRun run all → (file : File) → Among fil
 in_run run all is file among =
     subst (Among file) (sym is.is) (among_right is.before (run ++ is.behind) file (among_left run is.behind file among))
 
-late_in : (told : Told) (sequence unsequence : List File) (job : Compaction) (space : Space)
+late_in : (told : ToldContents) (sequence unsequence : List File) (job : Compaction) (space : Space)
     → Stands space told sequence unsequence job → (file : File) → Among file job.unsequence → Among file unsequence
 late_in told sequence unsequence job Sequence gap file among =
     subst (Among file) (sym gap.first) (among_left job.unsequence gap.later file among)
 late_in told sequence unsequence job Unsequence run file among = in_run job.unsequence unsequence run file among
 
-sequence_in : (told : Told) (sequence unsequence : List File) (job : Compaction) (space : Space) → HasKind space job
+sequence_in : (told : ToldContents) (sequence unsequence : List File) (job : Compaction) (space : Space) → HasKind space job
     → Stands space told sequence unsequence job → (file : File) → Among file job.sequence → Among file sequence
 sequence_in told sequence unsequence job Sequence kind gap file among =
     in_run job.sequence sequence gap.run file among
 sequence_in told sequence unsequence job Unsequence kind run file among =
     absurd (subst (Among file) kind.0 among)
 
-module _ (told : Told) (known : Entries) (named : List ℕ) (engine : EngineState)
+module _ (told : ToldContents) (known : KnownFiles) (named : List ℕ) (engine : EngineState)
     (order : IsInOrder told known named engine) (job : Compaction) (others : List Compaction)
     (out : IsWithOne job others engine.compactions) where
   once : (n : ℕ) → count n (numbers_of engine.store.sequence) + count n (numbers_of engine.store.unsequence) ≤ 1

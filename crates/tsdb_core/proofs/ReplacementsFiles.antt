@@ -11,7 +11,7 @@ use Rattle.tsdb_base.specs.declared.ids.Space.{Space}
 use Rattle.tsdb_base.specs.declared.ids.Space.TheVariants.{Sequence, Unsequence}
 use Rattle.tsdb_base.specs.declared.ids.Stamp.{Stamp}
 use Rattle.tsdb_tasks.proofs.Numbers.{at_itself, at_other, kept_new, kept_other}
-use Rattle.tsdb_tasks.specs.Files.{NewFile, kept_with, known_entry, number_of}
+use Rattle.tsdb_tasks.specs.Files.{NewFile, kept_with, known_entry, file_number}
 use Rattle.tsdb_tasks.specs.Files as committing
 use Rattle.tsdb_tasks.proofs.InCommit.{committed_in_state}
 use Rattle.tsdb_tasks.proofs.InRuns.{inputs_stand}
@@ -33,14 +33,14 @@ use Rattle.tsdb_fileset.specs.Held.{AreFilesOf, TellTheirBytes, entry_of, listed
 use Rattle.tsdb_state.specs.Stored.{kept_bytes}
 use Rattle.tsdb_fileset.proofs.PlaceFacts.{other_number, same_number}
 use Rattle.tsdb_fileset.specs.Files.{AreKept, IsOpen, KeptFiles, kept_file, listed_borns}
-use Rattle.tsdb_fileset.specs.Places.{KeptFile, Places, file_at, is_number, place_at}
+use Rattle.tsdb_fileset.specs.Places.{KeptFile, Places, file_at, is_same_number, place_of_number}
 use Rattle.tsdb_fileset.specs.Replacing.{HasReplaced, leaving_run, less_compaction, output_in, replace_run}
 use Rattle.tsdb_base.proofs.Lists.{among_left, among_map, among_right, each_among, each_from_among}
 use Rattle.tsdb_base.specs.Lists.{Among, IsWithOne, count, if_some}
 use Rattle.tsdb_state.specs.Places.{Content}
 use Rattle.tsdb_log.specs.declared.record.LogRecord.TheVariants.{Replaced}
 use Rattle.tsdb_memory.specs.Logged.{IsStoredIn, Outside}
-use Rattle.tsdb_memory.specs.Replacing.{CanReplace}
+use Rattle.tsdb_memory.specs.Replacing.{CanCommitReplacement}
 use Rattle.tsdb_model.specs.World.{World}
 use Rattle.tsdb_memory.specs.Least.{IsLeastOf}
 use Rattle.tsdb_memory.specs.Shown.{file_borns}
@@ -51,9 +51,9 @@ use Rattle.tsdb_tasks.proofs.OutputsTold.{not_a_file, stored_with, worlds_with}
 use Rattle.tsdb_tasks.specs.Outputs.{only_output}
 use Rattle.tsdb_state.proofs.Numbering.{count_drawn, count_map_one}
 use Rattle.tsdb_state.specs.Jobs.{HasKind, Stands, drawn_numbers, held_numbers}
-use Rattle.tsdb_state.specs.Order.{files_of}
+use Rattle.tsdb_state.specs.Order.{all_files}
 use Rattle.tsdb_state.specs.Records.{numbers_of}
-use Rattle.tsdb_state.specs.State.{Compaction, EngineState, Entry, File}
+use Rattle.tsdb_state.specs.State.{Compaction, EngineState, KnownFile, File}
 use Rattle.tsdb_state.specs.Steps.{IsOutput, IsOutputPlace, committed, compaction_record, ended, file_numbers}
 use Rattle.tsdb_state.specs.Steps.{output_number}
 use Rattle.tsdb_state.specs.Worlds.{StandsFor}
@@ -100,17 +100,17 @@ abbrev give_all : List ℕ → Places → Places
 give_all held places =
     map (λ (entry : ℕ × Option KeptFile). (entry.0, option_map (fewer_rights (count entry.0 held)) entry.1)) places
 
-given_at : (held : List ℕ) (number : ℕ) (places : Places) → place_at number (give_all held places)
-    ≡ option_map (λ place. option_map (fewer_rights (count number held)) place) (place_at number places)
+given_at : (held : List ℕ) (number : ℕ) (places : Places) → place_of_number number (give_all held places)
+    ≡ option_map (λ place. option_map (fewer_rights (count number held)) place) (place_of_number number places)
 given_at held number [] = refl
-given_at held number (entry ∷ places) = by (is_number number entry.0) refl (given_at held number places)
+given_at held number (entry ∷ places) = by (is_same_number number entry.0) refl (given_at held number places)
   where
-    by : (b : Bool) → is_number number entry.0 ≡ b → place_at number (give_all held places)
-        ≡ option_map (λ place. option_map (fewer_rights (count number held)) place) (place_at number places)
+    by : (b : Bool) → is_same_number number entry.0 ≡ b → place_of_number number (give_all held places)
+        ≡ option_map (λ place. option_map (fewer_rights (count number held)) place) (place_of_number number places)
         → cond b (Some (option_map (fewer_rights (count entry.0 held)) entry.1))
-        (place_at number (give_all held places))
+        (place_of_number number (give_all held places))
         ≡ option_map (λ place. option_map (fewer_rights (count number held)) place)
-        (cond b (Some entry.1) (place_at number places))
+        (cond b (Some entry.1) (place_of_number number places))
     by true e rest = ap (λ n. Some (option_map (fewer_rights (count n held)) entry.1))
         (sym (same_number number entry.0 e))
     by false e rest = rest
@@ -133,10 +133,10 @@ module _ {F S R P : Type 0} (job : Job F S R P) (old : KeptFiles) (runs : InputR
   imagined_finishes = record {
     lists = record { sequence_is = refl; unsequence_is = refl; outgoing_is = refl };
     here = ap (λ b. file_at (cond b (Some (option_map (λ (one : NewFile). one.token) file))
-        (place_at job.output.0 (give_all (input_numbers job.inputs) old.places))))
+        (place_of_number job.output.0 (give_all (input_numbers job.inputs) old.places))))
         (ap is_eq (tied_itself nat_cmp_total job.output.0));
     others = λ number apart. ap (λ b. cond b (Some (option_map (λ (one : NewFile). one.token) file))
-        (place_at number (give_all (input_numbers job.inputs) old.places)))
+        (place_of_number number (give_all (input_numbers job.inputs) old.places)))
         (other_number number job.output.0 (λ same. apart (sym same)))
         ∙ given_at (input_numbers job.inputs) number old.places;
     room = refl;
@@ -191,7 +191,7 @@ module _ {F S R P : Type 0} (job : Job F S R P) (outside : Outside) (engine : En
           → TellsOutput job.output.0 o outside.kept (with_new content o outside).kept
       by None none = record { others = λ n apart. refl; here = tt }
       by (Some one) new =
-          let same : number_of one ≡ job.output.0 = new.number_is ∙ is.output in
+          let same : file_number one ≡ job.output.0 = new.number_is ∙ is.output in
           record {
             others = λ n apart. kept_other (only_output one) outside.kept n (never one n same apart);
             here = (
@@ -201,8 +201,8 @@ module _ {F S R P : Type 0} (job : Job F S R P) (outside : Outside) (engine : En
             );
           }
         where
-          never : (one : NewFile) (n : ℕ) → number_of one ≡ job.output.0 → job.output.0 ≢ n
-              → Among n (committing.numbers_of (only_output one)) → ⊥
+          never : (one : NewFile) (n : ℕ) → file_number one ≡ job.output.0 → job.output.0 ≢ n
+              → Among n (committing.built_numbers (only_output one)) → ⊥
           never one n same apart (inl here) = apart (sym same ∙ here)
           never one n same apart (inr none) = absurd none
 
@@ -211,7 +211,7 @@ module _ {F S R P : Type 0} (job : Job F S R P) (outside : Outside) (engine : En
   told_later old new gone told = tell_with outside.kept later.kept old new job.output.0 file
       (λ n. fewer_rights (count n (input_numbers job.inputs))) (λ n one. refl) tells gone.here
       (λ n apart. ap file_at (gone.others n apart)
-      ∙ file_changed (fewer_rights (count n (input_numbers job.inputs))) (place_at n old.places)) told
+      ∙ file_changed (fewer_rights (count n (input_numbers job.inputs))) (place_of_number n old.places)) told
 
   -- the number of the output is drawn
   drawn : (n : ℕ) → compaction.output ≡ n → 1 ≤ count n (drawn_numbers engine.flushes engine.compactions)
@@ -238,7 +238,7 @@ module _ {F S R P : Type 0} (job : Job F S R P) (outside : Outside) (engine : En
   }
     where
       by : (o : Option NewFile) → IsOutputIn outside.told compaction o content
-          → IfSome o (λ one. (number_of one ≡ job.output.0) × (one.token.rights ≡ 0))
+          → IfSome o (λ one. (file_number one ≡ job.output.0) × (one.token.rights ≡ 0))
       by None none = tt
       by (Some one) new = (new.number_is ∙ is.output, new.unread)
 
@@ -250,22 +250,22 @@ module _ {F S R P : Type 0} (job : Job F S R P) (outside : Outside) (engine : En
       by None none = tt
       by (Some one) new = record { number = new.number_is ∙ is.output; born = new.born_is ∙ is.born }
 
-  output_known : IfSome file (λ one. later.known (number_of one) ≡ known_entry one)
+  output_known : IfSome file (λ one. later.known (file_number one) ≡ known_entry one)
   output_known = by file
     where
-      by : (o : Option NewFile) → IfSome o (λ one. (with_new content o outside).known (number_of one) ≡ known_entry one)
+      by : (o : Option NewFile) → IfSome o (λ one. (with_new content o outside).known (file_number one) ≡ known_entry one)
       by None = tt
       by (Some one) = at_itself one known_entry outside.known
 
   module _ (old : KeptFiles) (are : AreFilesOf old outside.known engine) (kept : AreKept old)
       (open_place : IsOpen job.output.0 old) where
-    in_sequence : (entry : FileEntry) → Among entry old.sequence → Among (listed entry) (files_of engine)
+    in_sequence : (entry : FileEntry) → Among entry old.sequence → Among (listed entry) (all_files engine)
     in_sequence entry there =
         among_left (engine.store.sequence ++ engine.store.unsequence) engine.outgoing (listed entry)
         (among_left engine.store.sequence engine.store.unsequence (listed entry)
         (subst (Among (listed entry)) are.sequence (among_map listed old.sequence entry there)))
 
-    in_unsequence : (entry : FileEntry) → Among entry old.unsequence → Among (listed entry) (files_of engine)
+    in_unsequence : (entry : FileEntry) → Among entry old.unsequence → Among (listed entry) (all_files engine)
     in_unsequence entry there =
         among_left (engine.store.sequence ++ engine.store.unsequence) engine.outgoing (listed entry)
         (among_right engine.store.sequence engine.store.unsequence (listed entry)
@@ -280,18 +280,18 @@ module _ {F S R P : Type 0} (job : Job F S R P) (outside : Outside) (engine : En
         by None none = refl
         by (Some one) new = at_other (Some one) known_entry outside.known n (differs one new.number_is)
           where
-            differs : (one : NewFile) → number_of one ≡ compaction.output → Among n (number_of one ∷ []) → ⊥
+            differs : (one : NewFile) → file_number one ≡ compaction.output → Among n (file_number one ∷ []) → ⊥
             differs one same (inl here) = never (sym here ∙ same)
             differs one same (inr none) = absurd none
 
     still : (entries : List FileEntry)
-        → ((entry : FileEntry) → Among entry entries → Among (listed entry) (files_of engine))
+        → ((entry : FileEntry) → Among entry entries → Among (listed entry) (all_files engine))
         → Each (λ entry. IfSome (kept_file entry.number.0 old)
         (λ token. outside.known entry.number.0 ≡ entry_of entry token.series)) entries
         → Each (λ entry. IfSome (kept_file entry.number.0 old)
         (λ token. later.known entry.number.0 ≡ entry_of entry token.series)) entries
     still entries of_state all = each_from_among _ entries (λ entry there.
-        subst (λ (e : Entry). IfSome (kept_file entry.number.0 old) (λ token. e ≡ entry_of entry token.series))
+        subst (λ (e : KnownFile). IfSome (kept_file entry.number.0 old) (λ token. e ≡ entry_of entry token.series))
         (sym (same_known entry.number.0
         (not_a_file outside engine compaction others stored out (listed entry) (of_state entry there))))
         (each_among _ entries entry all there))
@@ -351,14 +351,14 @@ module _ {F S R P : Type 0} (job : Job F S R P) (outside : Outside) (engine : En
       pub can_replace : (file ≡ None → IsOutput outside.told compaction []) → (least : Option Stamp)
           → ((files : KeptFiles) → HasReplaced job.space runs.sequence runs.unsequence
           (option_map (λ (one : NewFile). one.entry) file) old files → IsLeastOf least (listed_borns files))
-          → CanReplace (compaction_record compaction (sent_files file) place) least later engine compaction others
+          → CanCommitReplacement (compaction_record compaction (sent_files file) place) least later engine compaction others
           (sent_files file) place
       can_replace none least is_least = by file output none (least_later least is_least)
         where
           by : (o : Option NewFile) → IsOutputIn outside.told compaction o content
               → (o ≡ None → IsOutput outside.told compaction [])
               → IsLeastOf least (file_borns (committed compaction others (sent_files o) place engine).store)
-              → CanReplace (compaction_record compaction (sent_files o) place) least (with_new content o outside) engine
+              → CanCommitReplacement (compaction_record compaction (sent_files o) place) least (with_new content o outside) engine
               compaction others (sent_files o) place
           by None of none at = none_can outside engine compaction others out place least (none refl) output_stands at
           by (Some one) of none at =

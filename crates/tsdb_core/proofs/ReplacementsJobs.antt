@@ -20,13 +20,13 @@ use Rattle.tsdb_core.proofs.Jobs.{is_counted, is_there}
 use Rattle.tsdb_core.specs.Core.{KeepsJobs, kept_room, next_of}
 use Rattle.tsdb_core.specs.declared.engine.Core.{Core}
 use Rattle.tsdb_fileset.specs.Files.{IsOpen, KeptFiles, kept_file}
-use Rattle.tsdb_fileset.specs.Places.{AreOfStore, KeptFile, file_at, place_at}
+use Rattle.tsdb_fileset.specs.Places.{AreOfStore, KeptFile, file_at, place_of_number}
 use Rattle.tsdb_fileset.specs.Replacing.{less_compaction}
 use Rattle.tsdb_fileset.specs.declared.room.Spare.{Spare}
 use Rattle.tsdb_base.proofs.Lists.{each_among, each_from_among, each_weaker, with_one_each}
 use Rattle.tsdb_base.specs.Lists.{Among, IsWithOne, count}
-use Rattle.tsdb_memory.specs.Logged.{room_of}
-use Rattle.tsdb_memory.specs.declared.logged.Logged.{Logged}
+use Rattle.tsdb_memory.specs.Logged.{framed_room}
+use Rattle.tsdb_memory.specs.declared.logged.LoggedMemory.{LoggedMemory}
 use Rattle.tsdb_outside.specs.Files.{Store}
 use Rattle.tsdb_outside.specs.declared.disk.Disk as disk
 use Rattle.tsdb_outside.specs.declared.faults.Counted as counted_by
@@ -37,7 +37,7 @@ use Rattle.tsdb_state.specs.Jobs.{KeepsRoom, drawn_numbers, flushed_bytes, outgo
 use Rattle.tsdb_state.specs.Jobs.{output_places, replaced_bytes}
 use Rattle.tsdb_state.specs.State as state
 use Rattle.tsdb_state.specs.State.{Compaction}
-use Rattle.tsdb_state.specs.Steps.{compaction_room}
+use Rattle.tsdb_state.specs.Steps.{room_for_compaction}
 
 -- The job is gone from the files: its output is there, if there is one, all others have given the rights of the job
 -- back, and it needs its places no more.
@@ -93,7 +93,7 @@ name_of_each P job file old new gone fewer output all n = by (job.output.0 == n)
         let k = count n (input_numbers job.inputs) in
         subst (λ found. IfSome found (P n)) (sym (ap file_at (gone.others n
         (λ same. false≢true (sym e ∙ (unsigned_Decides job.output.0 n).1 same)))
-        ∙ file_changed (fewer_rights k) (place_at n old.places)))
+        ∙ file_changed (fewer_rights k) (place_of_number n old.places)))
         (less k (kept_file n old) (all n))
 
 pub store_of_each : {F S R P : Type 0} (job : Job F S R P) (file : Option NewFile) (old new : KeptFiles)
@@ -103,10 +103,10 @@ store_of_each job file old new gone store all output =
     name_of_each (λ n one. one.name.store ≡ store) job file old new gone (λ n k one is. is) output all
 
 module _ {J F S R P : Type 0} {means : disk.Ghosts J} {counts : counted_by.Ghosts J} where
-  module _ (core : Core J F S R P means counts) (logged : Logged J means counts) (kept : KeptFiles) (claimed : Bool)
-      (job : Job F S R P) (file : Option NewFile) (more : room_of core.logged ≤ room_of logged)
+  module _ (core : Core J F S R P means counts) (logged : LoggedMemory J means counts) (kept : KeptFiles) (claimed : Bool)
+      (job : Job F S R P) (file : Option NewFile) (more : framed_room core.logged ≤ framed_room logged)
       (some : 1 ≤ length job.inputs) (gone : IsGone job file core.files kept)
-      (compaction : Compaction) (others compactions : List Compaction) (flushes : List state.FlushJob)
+      (compaction : Compaction) (others compactions : List Compaction) (flushes : List state.FlushState)
       (is : IsCompactionOf job compaction) (out : IsWithOne compaction others compactions)
       (keeps : KeepsJobs core flushes compactions) where
     parted : (n : ℕ) → count n (drawn_numbers flushes compactions)
@@ -148,7 +148,7 @@ module _ {J F S R P : Type 0} {means : disk.Ghosts J} {counts : counted_by.Ghost
         ∙ ap (λ place. option_map (λ p. option_map (fewer_rights (count n (input_numbers job.inputs))) p) place)
         (each_among (λ m. IsOpen m core.files) (drawn_numbers flushes compactions) n keeps.places (also n there))
 
-    less : KeepsRoom (compaction_room (λ a b. a - b) compaction (kept_room core)) flushes others
+    less : KeepsRoom (room_for_compaction (λ a b. a - b) compaction (kept_room core)) flushes others
     less = room_without_compaction compaction others (kept_room core) flushes compactions out keeps.room
 
     pub others_kept : KeepsJobs (record core { logged = logged; files = kept; sequence_claimed = claimed }) flushes
@@ -183,11 +183,11 @@ module _ {J F S R P : Type 0} {means : disk.Ghosts J} {counts : counted_by.Ghost
           less_outgoing job.space (length job.inputs) core.files.spare,
           places_are,
         );
-        flushed = each_weaker (λ (f : state.FlushJob). flushed_bytes ≤ room_of core.logged)
-            (λ f. flushed_bytes ≤ room_of logged) (λ f fits. omega (arith, fits, more)) flushes keeps.room.flushed;
-        replaced = each_weaker (λ (c : Compaction). replaced_bytes c ≤ room_of core.logged)
-            (λ c. replaced_bytes c ≤ room_of logged) (λ c fits. omega (arith, fits, more)) others
-            (with_one_each (λ (c : Compaction). replaced_bytes c ≤ room_of core.logged) compaction others compactions
+        flushed = each_weaker (λ (f : state.FlushState). flushed_bytes ≤ framed_room core.logged)
+            (λ f. flushed_bytes ≤ framed_room logged) (λ f fits. omega (arith, fits, more)) flushes keeps.room.flushed;
+        replaced = each_weaker (λ (c : Compaction). replaced_bytes c ≤ framed_room core.logged)
+            (λ c. replaced_bytes c ≤ framed_room logged) (λ c fits. omega (arith, fits, more)) others
+            (with_one_each (λ (c : Compaction). replaced_bytes c ≤ framed_room core.logged) compaction others compactions
             out keeps.room.replaced);
       };
     }

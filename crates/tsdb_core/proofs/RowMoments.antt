@@ -6,7 +6,7 @@ use Rattle.tsdb_base.specs.declared.answers.Answer.TheVariants as answer
 use Rattle.tsdb_core.proofs.Worlds.{order_seen}
 use Rattle.tsdb_core.specs.Core.{IsSeen, logged_of}
 use Rattle.tsdb_core.specs.RowSteps.{CanFreezeFor}
-use Rattle.tsdb_core.specs.Rows.{HasPlace, IsFrozenFor, IsPut, IsRowCommand, LeavesRow}
+use Rattle.tsdb_core.specs.Rows.{HasRowPlace, IsFrozenFor, IsRowPut, IsRowCommand, LeavesRow}
 use Rattle.tsdb_core.specs.declared.engine.Core.{Core}
 use Rattle.tsdb_frames.proofs.MomentLemmas.{leaves_on, weaker}
 use Rattle.tsdb_frames.specs.Frames.{disk_of, slot_of}
@@ -30,7 +30,7 @@ use Rattle.tsdb_state.specs.Stores.{IsStateOf}
 use Rattle.tsdb_state.proofs.Inserting.{inserted_stands}
 use Rattle.tsdb_state.specs.Commands.{AreCells}
 use Rattle.tsdb_state.specs.Records.{CanFreeze, froze}
-use Rattle.tsdb_state.specs.State.{EngineState, StoreState, Told}
+use Rattle.tsdb_state.specs.State.{EngineState, StoreState, ToldContents}
 use Rattle.tsdb_state.specs.Steps.{wrote}
 use Rattle.tsdb_state.specs.StoreOrder.{StoreInOrder}
 
@@ -44,7 +44,7 @@ abbrev after_row : List ℕ → Row → plain.State → plain.State
 after_row device row at = state_after at (command.Insert device row) (Plain answer.Done)
 
 -- a freeze keeps the state
-frozen_state : (told : Told) (store : StoreState) (at : plain.State) → StoreInOrder told store → CanFreeze store
+frozen_state : (told : ToldContents) (store : StoreState) (at : plain.State) → StoreInOrder told store → CanFreeze store
     → IsStateOf told store at → IsStateOf told (froze store) at
 frozen_state told store at order can stands =
     record { world = froze_stands told store at.world order can stands.world; stamp = stands.stamp }
@@ -102,7 +102,7 @@ module _ {J F S R P : Type 0} {means : disk.Ghosts J} {counts : counted.Ghosts J
 
     -- the record of the row, of a core that shows this state
     record_moments : (between new : Core J F S R P means counts) (result : Answer)
-        (put : IsPut device row old new result) → put.between ≡ between → (outside : Outside) (state : EngineState)
+        (put : IsRowPut device row old new result) → put.between ≡ between → (outside : Outside) (state : EngineState)
         (at : plain.State) (next : Option plain.State) → IsSeen put.between outside state
         → IsStateOf outside.told state.store at → LeadsTo outside.told state.store state.doubt next
         → LeavesOnly (disk_in put.between) (disk_in new)
@@ -116,14 +116,14 @@ module _ {J F S R P : Type 0} {means : disk.Ghosts J} {counts : counted.Ghosts J
           stamp = ap (λ n. n + 1) stands.stamp;
         })
 
-    put_leaves : (new : Core J F S R P means counts) (result : Answer) (put : IsPut device row old new result)
+    put_leaves : (new : Core J F S R P means counts) (result : Answer) (put : IsRowPut device row old new result)
         → LeavesRow device row old new
     put_leaves new result put outside state at next seen stands leads = by put.place
       where
         after : plain.State
         after = after_row device row at
 
-        by : HasPlace row old put.between
+        by : HasRowPlace row old put.between
             → LeavesOnly (disk_in old) (disk_in new) (Leaves outside.kept (slot_in old) at next after)
         by (inl same) = subst (λ core. LeavesOnly (disk_in core) (disk_in new)
             (Leaves outside.kept (slot_in core) at next after)) same.1

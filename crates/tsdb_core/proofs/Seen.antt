@@ -20,23 +20,23 @@ use Rattle.tsdb_fileset.proofs.StateSweeps.{borns_are, of_those_that_stay, place
 use Rattle.tsdb_fileset.specs.Held.{AreFilesOf, AreSomeOf, IsDoubtOf, TellTheirBytes, may_go, told_numbers}
 use Rattle.tsdb_state.proofs.ImageLemmas.Storing.{sweep_stored}
 use Rattle.tsdb_fileset.specs.Files.{IsOpen, KeptFiles, kept_file, listed_borns}
-use Rattle.tsdb_fileset.specs.Sweeps.{LeavesWithout, StopsAt, tried_numbers}
+use Rattle.tsdb_fileset.specs.Sweeps.{LeavesWithout, StopsSweepAt, tried_numbers}
 use Rattle.tsdb_fileset.specs.declared.files.Outgoing.{Outgoing}
 use Rattle.tsdb_fileset.specs.declared.room.Spare.{Spare}
 use Rattle.tsdb_base.proofs.Lists.{among_left, each_weaker}
 use Rattle.tsdb_base.specs.Lists.{Among, if_some}
 use Rattle.tsdb_log.specs.declared.record.LogRecord.{LogRecord}
 use Rattle.tsdb_log.specs.declared.record.LogRecord.TheVariants.{Delete}
-use Rattle.tsdb_memory.specs.Commands.{HasLeast, IsAfter, IsAny, IsCommand}
-use Rattle.tsdb_memory.specs.Logged.{HasLog, IsSound, Outside, log_of, room_of, two_numbers, with_record}
-use Rattle.tsdb_memory.specs.declared.logged.Logged.{Logged}
+use Rattle.tsdb_memory.specs.Commands.{HasLeast, IsAfter, NeedsNothing, HasCommandEffect}
+use Rattle.tsdb_memory.specs.Logged.{HasLog, IsSoundLogged, Outside, log_of, framed_room, two_numbers, with_record}
+use Rattle.tsdb_memory.specs.declared.logged.LoggedMemory.{LoggedMemory}
 use Rattle.tsdb_memory.specs.Least.{IsLeastOf}
 use Rattle.tsdb_outside.specs.declared.disk.Disk as disk
 use Rattle.tsdb_outside.specs.declared.faults.Counted as counted
 use Rattle.tsdb_outside.specs.declared.faults.Failed.{Failed}
 use Rattle.tsdb_state.specs.Jobs.{KeepsRoom, drawn_numbers, flushed_bytes, replaced_bytes}
 use Rattle.tsdb_state.specs.Records.{after, names}
-use Rattle.tsdb_state.specs.State.{Compaction, EngineState, Entries, FlushJob, StoreState}
+use Rattle.tsdb_state.specs.State.{Compaction, EngineState, KnownFiles, FlushState, StoreState}
 use Rattle.tsdb_state.specs.Steps.{failed, settled, swept, wrote}
 
 -- the record leaves the lists of files alone
@@ -45,7 +45,7 @@ pub record KeepsLists (item : LogRecord) : Type 0 where
   pub unsequence : (store : StoreState) → (after item store).unsequence ≡ store.unsequence
 
 -- files of a state are those of each with the same lists, outgoing files and rights
-files_as : (files : KeptFiles) (known : Entries) (state other : EngineState)
+files_as : (files : KeptFiles) (known : KnownFiles) (state other : EngineState)
     → other.store.sequence ≡ state.store.sequence → other.store.unsequence ≡ state.store.unsequence
     → other.outgoing ≡ state.outgoing → other.rights ≡ state.rights → AreFilesOf files known state
     → AreFilesOf files known other
@@ -73,8 +73,8 @@ tried_some outgoing before behind file are other among = subst (Among other)
 
 module _ {J F S R P : Type 0} {means : disk.Ghosts J} {counts : counted.Ghosts J} where
   -- where the log has room for at least as many bytes of a record, what is kept for jobs stays
-  pub jobs_stay : (old : Core J F S R P means counts) (logged : Logged J means counts)
-      → room_of old.logged ≤ room_of logged → (flushes : List FlushJob) (compactions : List Compaction)
+  pub jobs_stay : (old : Core J F S R P means counts) (logged : LoggedMemory J means counts)
+      → framed_room old.logged ≤ framed_room logged → (flushes : List FlushState) (compactions : List Compaction)
       → KeepsJobs old flushes compactions → KeepsJobs (record old { logged = logged }) flushes compactions
   jobs_stay old logged more flushes compactions jobs = record {
     from_one = jobs.from_one;
@@ -86,14 +86,14 @@ module _ {J F S R P : Type 0} {means : disk.Ghosts J} {counts : counted.Ghosts J
       sequence = jobs.room.sequence;
       unsequence = jobs.room.unsequence;
       outgoing = jobs.room.outgoing;
-      flushed = each_weaker (λ flush. flushed_bytes ≤ room_of old.logged) (λ flush. flushed_bytes ≤ room_of logged)
+      flushed = each_weaker (λ flush. flushed_bytes ≤ framed_room old.logged) (λ flush. flushed_bytes ≤ framed_room logged)
           (λ flush enough. omega (arith, enough, more)) flushes jobs.room.flushed;
-      replaced = each_weaker (λ job. replaced_bytes job ≤ room_of old.logged) (λ job. replaced_bytes job ≤ room_of logged)
+      replaced = each_weaker (λ job. replaced_bytes job ≤ framed_room old.logged) (λ job. replaced_bytes job ≤ framed_room logged)
           (λ job enough. omega (arith, enough, more)) compactions jobs.room.replaced;
     };
   }
 
-  module _ (old : Core J F S R P means counts) (logged : Logged J means counts) (item : LogRecord)
+  module _ (old : Core J F S R P means counts) (logged : LoggedMemory J means counts) (item : LogRecord)
       (keeps : KeepsLists item) (outside : Outside) (state : EngineState) (seen : IsSeen old outside state)
       (jobs : KeepsJobs (record old { logged = logged }) state.flushes state.compactions) where
     abbrev new : Core J F S R P means counts
@@ -107,11 +107,11 @@ module _ {J F S R P : Type 0} {means : disk.Ghosts J} {counts : counted.Ghosts J
         → other.store.sequence ≡ state.store.sequence → other.store.unsequence ≡ state.store.unsequence
         → other.outgoing ≡ state.outgoing → other.rights ≡ state.rights → other.next_file ≡ state.next_file
         → KeepsJobs new other.flushes other.compactions → AreClaimed new other.compactions
-        → IsSound logged later other → IsSeen new later other
+        → IsSoundLogged logged later other → IsSeen new later other
     shown later other known kept sequence unsequence outgoing rights next still claims sound = record {
       sound = sound;
       files = files_as old.files later.known state other sequence unsequence outgoing rights
-          (subst (λ (entries : Entries). AreFilesOf old.files entries state) (sym known) seen.files);
+          (subst (λ (entries : KnownFiles). AreFilesOf old.files entries state) (sym known) seen.files);
       told = subst (λ stored. TellTheirBytes old.files stored) (sym kept) seen.told;
       next = seen.next ∙ sym next;
       jobs = still;
@@ -131,10 +131,10 @@ module _ {J F S R P : Type 0} {means : disk.Ghosts J} {counts : counted.Ghosts J
     seen_after answer.Memory sound = shown outside state refl refl refl refl refl refl refl jobs claimed sound
     seen_after (answer.Full counter) sound = shown outside state refl refl refl refl refl refl refl jobs claimed sound
 
-  pub core_command : (old : Core J F S R P means counts) (logged : Logged J means counts) (item : LogRecord)
+  pub core_command : (old : Core J F S R P means counts) (logged : LoggedMemory J means counts) (item : LogRecord)
       (Needs Asks : EngineState → Type 0) (result : Answer) → KeepsLists item
       → ((outside : Outside) (state : EngineState) → IsSeen old outside state → Needs state → Asks state)
-      → IsCommand old.logged logged item Asks result
+      → HasCommandEffect old.logged logged item Asks result
       → IsCoreCommand old (record old { logged = logged }) item Needs result
   core_command old logged item Needs Asks result keeps asks command = record {
     step = λ outside state seen needs. seen_after old logged item keeps outside state seen
@@ -157,12 +157,12 @@ module _ {J F S R P : Type 0} {means : disk.Ghosts J} {counts : counted.Ghosts J
   }
 
   -- a deletion, where the least born of the listed files is known
-  pub delete_command : (old : Core J F S R P means counts) (logged : Logged J means counts) (path : List ℕ) (range : Range)
+  pub delete_command : (old : Core J F S R P means counts) (logged : LoggedMemory J means counts) (path : List ℕ) (range : Range)
       (listed : Option Stamp) (result : Answer) → IsLeastOf listed (listed_borns old.files)
-      → IsCommand old.logged logged (Delete path range) (HasLeast listed) result
-      → IsCoreCommand old (record old { logged = logged }) (Delete path range) IsAny result
+      → HasCommandEffect old.logged logged (Delete path range) (HasLeast listed) result
+      → IsCoreCommand old (record old { logged = logged }) (Delete path range) NeedsNothing result
   delete_command old logged path range listed result least command =
-      core_command old logged (Delete path range) IsAny (HasLeast listed) result
+      core_command old logged (Delete path range) NeedsNothing (HasLeast listed) result
       (record { sequence = λ store. refl; unsequence = λ store. refl })
       (λ outside state seen any. subst (λ (borns : List ℕ). IsLeastOf listed borns)
       (borns_are old.files outside.known state seen.files) least) command
@@ -197,7 +197,7 @@ module _ {J F S R P : Type 0} {means : disk.Ghosts J} {counts : counted.Ghosts J
     step = step;
   }
     where
-      jobs : (flushes : List FlushJob) (compactions : List Compaction) → KeepsJobs old flushes compactions
+      jobs : (flushes : List FlushState) (compactions : List Compaction) → KeepsJobs old flushes compactions
           → KeepsJobs (record old { files = files }) flushes compactions
       jobs flushes compactions kept = record {
         from_one = kept.from_one;
@@ -212,7 +212,7 @@ module _ {J F S R P : Type 0} {means : disk.Ghosts J} {counts : counted.Ghosts J
           sequence = spare.sequence;
           unsequence = spare.unsequence;
           outgoing = spare.outgoing;
-          record_bytes = room_of old.logged;
+          record_bytes = framed_room old.logged;
         }) flushes compactions) (sym leaves.spare) kept.room;
       }
 
@@ -243,7 +243,7 @@ module _ {J F S R P : Type 0} {means : disk.Ghosts J} {counts : counted.Ghosts J
       → (is_in_doubt (log_of old.logged) ≡ false → told_numbers doubted ≡ [])
       → IfOk outcome (λ count. count ≡ length (may_go doubted old.files old.files.outgoing))
       → OnOk outcome (LeavesWithout (may_go doubted old.files old.files.outgoing) old.files files)
-      → OnErr outcome ((stop : StopsAt doubted old.files.places old.files.outgoing)
+      → OnErr outcome ((stop : StopsSweepAt doubted old.files.places old.files.outgoing)
       × LeavesWithout (tried_numbers doubted old.files.places stop) old.files files)
       → IsSwept old (record old { files = files }) outcome
   is_swept old files doubted (Ok count) named none counted leaves stops = record {

@@ -14,8 +14,8 @@ use Rattle.tsdb_core.proofs.Loans.{same_but_jobs}
 use Rattle.tsdb_core.proofs.Jobs.{one_more_kept}
 use Rattle.tsdb_core.specs.Core.{IsSeen, next_of}
 use Rattle.tsdb_core.specs.Ending.{drawn_for, numbers_if}
-use Rattle.tsdb_core.specs.Flushes.{IsTaken}
-use Rattle.tsdb_core.specs.Worlds.{KeepsWorld}
+use Rattle.tsdb_core.specs.Flushes.{IsFlushTaken}
+use Rattle.tsdb_core.specs.Worlds.{CoreKeepsWorld}
 use Rattle.tsdb_core.specs.declared.engine.Core.{Core}
 use Rattle.tsdb_fileset.proofs.States.{taken_flush}
 use Rattle.tsdb_fileset.specs.Flushes.{IsFlushOf}
@@ -30,8 +30,8 @@ use Rattle.tsdb_fileset.specs.Places.{ArePlacesMade, OnlyMakesPlaces}
 use Rattle.tsdb_fileset.specs.Room.{flush_room, more_room}
 use Rattle.tsdb_base.specs.Lists.{if_some}
 use Rattle.tsdb_memory.specs.Commands.{IsPrepared}
-use Rattle.tsdb_memory.specs.Logged.{IsSound, Outside, memory_of, room_of}
-use Rattle.tsdb_memory.specs.declared.logged.Logged.{Logged}
+use Rattle.tsdb_memory.specs.Logged.{IsSoundLogged, Outside, memory_of, framed_room}
+use Rattle.tsdb_memory.specs.declared.logged.LoggedMemory.{LoggedMemory}
 use Rattle.tsdb_memory.specs.Shown.{number_of}
 use Rattle.tsdb_memory.specs.Store.{FrozenPair}
 use Rattle.tsdb_model.specs.declared.command.Schema.{Schema}
@@ -44,7 +44,7 @@ use Rattle.tsdb_state.specs.State.{EngineState}
 use Rattle.tsdb_state.specs.Steps.{TakesFlush, took_flush}
 
 -- the numbers of a job, in both words
-one_list : (job : FlushJob) → drawn_for job ≡ flushing.drawn_numbers job
+one_list : (job : FlushJob) → drawn_for job ≡ flushing.job_numbers job
 one_list job = sym (map-append (λ (n : FileNumber). n.0) (if_some job.sequence) (if_some job.unsequence))
 
 one_at_most : {X : Type 0} (o : Option X) → length (if_some o) ≤ 1
@@ -64,11 +64,11 @@ two_at_most job = omega (
 )
 
 module _ {J F S R P : Type 0} {means : disk.Ghosts J} {counts : counted.Ghosts J} where
-  module _ (old : Core J F S R P means counts) (logged : Logged J means counts) (files : KeptFiles) (job : FlushJob)
-      (next : ℕ) (prepared : IsPrepared old.logged logged) (enough : flushed_bytes ≤ room_of logged) (is_job : IsJob
+  module _ (old : Core J F S R P means counts) (logged : LoggedMemory J means counts) (files : KeptFiles) (job : FlushJob)
+      (next : ℕ) (prepared : IsPrepared old.logged logged) (enough : flushed_bytes ≤ framed_room logged) (is_job : IsJob
       job)
-      (taken : flushing.IsTaken (memory_of logged) (next_of old) job)
-      (drawn : 0 < length (flushing.drawn_numbers job)) (left : next_of old + 2 ≤ end_of_numbers)
+      (taken : flushing.IsJobTaken (memory_of logged) (next_of old) job)
+      (drawn : 0 < length (flushing.job_numbers job)) (left : next_of old + 2 ≤ end_of_numbers)
       (lists : KeepsLists old.files files) (made : OnlyMakesPlaces old.files.places files.places)
       (placed : ArePlacesMade (if_some job.sequence ++ if_some job.unsequence) old.files.places files.places)
       (room : files.spare ≡ more_room old.files.spare (flush_room job.sequence job.unsequence))
@@ -81,7 +81,7 @@ module _ {J F S R P : Type 0} {means : disk.Ghosts J} {counts : counted.Ghosts J
         job))
 
     step : (outside : Outside) (engine : EngineState) → IsSeen old outside engine
-        → (flush : state.FlushJob) × IsFlushOf job flush × TakesFlush flush engine
+        → (flush : state.FlushState) × IsFlushOf job flush × TakesFlush flush engine
         × IsSeen new outside (took_flush flush engine)
     step outside engine seen = (
       flush.0,
@@ -114,23 +114,23 @@ module _ {J F S R P : Type 0} {means : disk.Ghosts J} {counts : counted.Ghosts J
       },
     )
       where
-        sound : IsSound logged outside engine
+        sound : IsSoundLogged logged outside engine
         sound = prepared_sound old.logged logged prepared outside engine seen.sound
 
         are : AreFilesOf files outside.known engine
         are = only_places old.files files outside.known engine seen.files lists made
 
-        flush : (flush : state.FlushJob) × IsFlushOf job flush × TakesFlush flush engine
-            × (drawn_by flush ≡ flushing.drawn_numbers job)
+        flush : (flush : state.FlushState) × IsFlushOf job flush × TakesFlush flush engine
+            × (drawn_by flush ≡ flushing.job_numbers job)
         flush = taken_flush (memory_of logged) job engine sound.memory
-            (subst (λ n. flushing.IsTaken (memory_of logged) n job) seen.next taken) is_job
+            (subst (λ n. flushing.IsJobTaken (memory_of logged) n job) seen.next taken) is_job
             (subst (λ n. n + 2 ≤ end_of_numbers) seen.next left)
 
         same_drawn : drawn_for job ≡ drawn_by flush.0
         same_drawn = one_list job ∙ sym flush.3
 
     -- what it takes of memory, memory had before
-    of_memory : flushing.IsTaken (memory_of old.logged) (next_of old) job
+    of_memory : flushing.IsJobTaken (memory_of old.logged) (next_of old) job
     of_memory = record {
       oldest = taken.oldest;
       newer = taken.newer;
@@ -149,7 +149,7 @@ module _ {J F S R P : Type 0} {means : disk.Ghosts J} {counts : counted.Ghosts J
       numbers = taken.numbers;
     }
 
-    pub flush_taken : IsTaken old new job
+    pub flush_taken : IsFlushTaken old new job
     flush_taken = record {
       is_job = is_job;
       of_memory = of_memory;
@@ -170,7 +170,7 @@ module _ {J F S R P : Type 0} {means : disk.Ghosts J} {counts : counted.Ghosts J
     }
 
   -- the state after a flush is taken has the same store
-  pub taken_world : (old after : Core J F S R P means counts) (job : FlushJob) → IsTaken old after job → KeepsWorld old
+  pub taken_world : (old after : Core J F S R P means counts) (job : FlushJob) → IsFlushTaken old after job → CoreKeepsWorld old
       after
   taken_world old after job taken world is =
       let stepped = taken.step is.outside is.state is.seen in

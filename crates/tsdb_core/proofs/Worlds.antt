@@ -7,14 +7,14 @@ use Rattle.tsdb_base.specs.declared.answers.Answer.TheVariants as answer
 use Rattle.tsdb_core.specs.Commands.{IsCoreCommand, IsSeenAfter}
 use Rattle.tsdb_core.specs.Core.{IsSeen, files_of, logged_of}
 use Rattle.tsdb_core.specs.Sweeps.{IsSwept, without_files}
-use Rattle.tsdb_core.specs.Worlds.{FollowsMap, IsWorldOf, KeepsWorld}
+use Rattle.tsdb_core.specs.Worlds.{CoreFollowsMap, IsWorldOf, CoreKeepsWorld}
 use Rattle.tsdb_core.specs.declared.engine.Core.{Core}
 use Rattle.tsdb_fileset.specs.Held.{may_go}
 use Rattle.tsdb_fileset.specs.Sweeps.{tried_numbers}
 use Rattle.tsdb_log.specs.declared.record.CellRecord.{CellRecord}
 use Rattle.tsdb_log.specs.declared.record.LogRecord.{LogRecord}
 use Rattle.tsdb_log.specs.declared.record.LogRecord.TheVariants.{Freeze, Insert}
-use Rattle.tsdb_memory.specs.Commands.{CanPut, IsAny}
+use Rattle.tsdb_memory.specs.Commands.{CanPut, NeedsNothing}
 use Rattle.tsdb_memory.specs.Logged.{Outside, memory_of, with_record}
 use Rattle.tsdb_model.specs.Apply.{accepted, after_reply}
 use Rattle.tsdb_model.specs.World.{World}
@@ -22,7 +22,7 @@ use Rattle.tsdb_model.specs.declared.command.Command.{Command}
 use Rattle.tsdb_model.specs.declared.command.Command.TheVariants as command
 use Rattle.tsdb_model.specs.declared.command.Row.{Row}
 use Rattle.tsdb_model.specs.declared.reply.Reply.TheVariants.{Plain}
-use Rattle.tsdb_memory.specs.Shown.{IsMemoryOf, entry_of}
+use Rattle.tsdb_memory.specs.Shown.{IsMemoryOf, series_entry}
 use Rattle.tsdb_outside.specs.declared.disk.Disk as disk
 use Rattle.tsdb_outside.specs.declared.faults.Counted as counted
 use Rattle.tsdb_outside.specs.declared.faults.Failed.{Failed}
@@ -98,10 +98,10 @@ module _ {J F S R P : Type 0} {means : disk.Ghosts J} {counts : counted.Ghosts J
 
   -- a command whose answer and record follow the map in each state that the core shows
   pub map_step : (old new : Core J F S R P means counts) (item : LogRecord) (command : Command) (result : Answer)
-      → IsCoreCommand old new item IsAny result
+      → IsCoreCommand old new item NeedsNothing result
       → ((outside : Outside) (state : EngineState) → IsSeen old outside state
       → StateFollows outside.told state.store command item result)
-      → FollowsMap old new command result
+      → CoreFollowsMap old new command result
   map_step old new item command result step follows = record {
     answers = λ world is. (follows is.outside is.state is.seen).answers world is.stands;
     world = λ world is. subst (IsWorldOf new) (map_world command result world)
@@ -112,9 +112,9 @@ module _ {J F S R P : Type 0} {means : disk.Ghosts J} {counts : counted.Ghosts J
 
   -- a freeze
   pub freeze_keeps : (old new : Core J F S R P means counts) (result : Answer)
-      → IsCoreCommand old new Freeze IsAny result
+      → IsCoreCommand old new Freeze NeedsNothing result
       → ((outside : Outside) (state : EngineState) → IsSeen old outside state → CanFreeze state.store)
-      → KeepsWorld old new
+      → CoreKeepsWorld old new
   freeze_keeps old new result step can world is = subst (IsWorldOf new) (same_world result world)
       (world_left new Freeze is.outside is.state world world is.stands result
       (step.step is.outside is.state is.seen tt)
@@ -123,8 +123,8 @@ module _ {J F S R P : Type 0} {means : disk.Ghosts J} {counts : counted.Ghosts J
 
   -- a row whose cells can be put into the state
   pub row_step : (old new : Core J F S R P means counts) (device : List ℕ) (row : Row) (cells : List CellRecord)
-      (result : Answer) → IsCoreCommand old new (Insert row.time cells) IsAny result
-      → AreCells (map entry_of (memory_of (logged_of old)).series) device row.cells cells
+      (result : Answer) → IsCoreCommand old new (Insert row.time cells) NeedsNothing result
+      → AreCells (map series_entry (memory_of (logged_of old)).series) device row.cells cells
       → ((outside : Outside) (state : EngineState) → IsSeen old outside state → CanPut row.time cells state)
       → (world : World) → IsWorldOf old world
       → IsWorldOf new (after_reply world (command.Insert device row) (Plain result))
@@ -138,7 +138,7 @@ module _ {J F S R P : Type 0} {means : disk.Ghosts J} {counts : counted.Ghosts J
 
   -- a sweep
   pub swept_keeps : (old new : Core J F S R P means counts) (outcome : Result ℕ Failed) → IsSwept old new outcome
-      → KeepsWorld old new
+      → CoreKeepsWorld old new
   swept_keeps old new (Ok count) swept world is = record {
     outside = without_files (may_go swept.doubted (files_of old) (files_of old).outgoing) is.outside;
     state = swept_state (may_go swept.doubted (files_of old) (files_of old).outgoing) is.state;

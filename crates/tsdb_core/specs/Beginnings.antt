@@ -8,7 +8,7 @@ use Rattle.tsdb_base.specs.declared.ids.Space.{Space}
 use Rattle.tsdb_base.specs.declared.ids.Space.TheVariants.{Sequence, Unsequence}
 use Rattle.tsdb_tasks.specs.Beginning.{run_files}
 use Rattle.tsdb_tasks.specs.Inputs.{input_numbers}
-use Rattle.tsdb_tasks.specs.Series.{AreOfJob, run_paths}
+use Rattle.tsdb_tasks.specs.Series.{AreSeriesOfJob, run_paths}
 use Rattle.tsdb_tasks.specs.declared.finishing.InputRuns.{InputRuns}
 use Rattle.tsdb_tasks.specs.Jobs.{IsCompactionOf, input_files}
 use Rattle.tsdb_tasks.specs.CompactionsOutputs.{TellsTruth}
@@ -39,7 +39,7 @@ use Rattle.tsdb_plan.specs.declared.entry.CrossRun.{CrossRun}
 use Rattle.tsdb_plan.specs.declared.entry.FileEntry.{FileEntry}
 use Rattle.tsdb_plan.specs.declared.entry.Run.{Run}
 use Rattle.tsdb_base.specs.Limits.{end_of_numbers}
-use Rattle.tsdb_state.specs.State.{Compaction, EngineState, FlushJob}
+use Rattle.tsdb_state.specs.State.{Compaction, EngineState, FlushState}
 use Rattle.tsdb_state.specs.Steps.{Begins, began}
 
 -- no file of a list
@@ -70,20 +70,20 @@ IsBeginAnswer IsPlan next (Err (Full counter)) = HasPlan IsPlan × (end_of_numbe
 
 module _ {J F S R P : Type 0} {means : disk.Ghosts J} {counts : counted.Ghosts J} where
   -- the first run is that of the inner plan of the sequence list, which no job has claimed
-  pub record IsInnerSequence (core : Core J F S R P means counts) (runs : InputRuns) : Type 0 where
+  pub record HasInnerSequenceRun (core : Core J F S R P means counts) (runs : InputRuns) : Type 0 where
     pub plan : IsInnerPlan (files_of core).sequence runs.sequence
     pub none : runs.unsequence ≡ no_files
     pub free : is_sequence_claimed core ≡ false
 
   -- the second run is that of the inner plan of the unsequence list
-  pub record IsInnerUnsequence (core : Core J F S R P means counts) (runs : InputRuns) : Type 0 where
+  pub record HasInnerUnsequenceRun (core : Core J F S R P means counts) (runs : InputRuns) : Type 0 where
     pub plan : IsInnerPlan (files_of core).unsequence runs.unsequence
     pub none : runs.sequence ≡ no_files
 
   -- the runs of the inner plan of the list of a space
   abbrev pub IsInnerRuns : Space → Core J F S R P means counts → InputRuns → Type 0
-  IsInnerRuns Sequence = IsInnerSequence
-  IsInnerRuns Unsequence = IsInnerUnsequence
+  IsInnerRuns Sequence = HasInnerSequenceRun
+  IsInnerRuns Unsequence = HasInnerUnsequenceRun
 
   -- the runs of the cross plan, where no job has claimed the sequence list
   pub record IsCrossRuns (core : Core J F S R P means counts) (runs : InputRuns) : Type 0 where
@@ -114,7 +114,7 @@ module _ {J F S R P : Type 0} {means : disk.Ghosts J} {counts : counted.Ghosts J
         (slice_range (files_of core).unsequence runs.unsequence.first runs.unsequence.end)
     pub marks : job.marks.marks
         ≡ filter (is_of (run_paths runs (files_of core))) (memory_of (logged_of core)).marks.marks
-    pub series : AreOfJob (run_paths runs (files_of core)) (memory_of (logged_of core))
+    pub series : AreSeriesOfJob (run_paths runs (files_of core)) (memory_of (logged_of core))
         (record { marks = job.marks; schemas = job.schemas })
     pub output : job.output.0 ≡ next_of core
 
@@ -133,7 +133,7 @@ module _ {J F S R P : Type 0} {means : disk.Ghosts J} {counts : counted.Ghosts J
   pub record IsBegun (name : R → NamedFile) (space : Space) (runs : InputRuns) (old new : Core J F S R P means counts)
       (job : Job F S R P) : Type 0 where
     pub is_new : IsNewJob space runs old job
-    pub kept : (flushes : List FlushJob) (compactions : List Compaction) → KeepsJobs old flushes compactions
+    pub kept : (flushes : List FlushState) (compactions : List Compaction) → KeepsJobs old flushes compactions
         → IsJobKept name new job
     pub next : next_of new ≡ next_of old + 1
     pub claimed : is_sequence_claimed new ≡ claimed_by space (is_sequence_claimed old)
@@ -141,10 +141,10 @@ module _ {J F S R P : Type 0} {means : disk.Ghosts J} {counts : counted.Ghosts J
     -- one right more is out on each input, and no file comes or goes
     pub rights : (number : ℕ) → kept_file number (files_of new)
         ≡ option_map (more_rights (count number (input_numbers job.inputs))) (kept_file number (files_of old))
-    pub jobs : (compaction : Compaction) (flushes : List FlushJob) (compactions : List Compaction)
+    pub jobs : (compaction : Compaction) (flushes : List FlushState) (compactions : List Compaction)
         → IsCompactionOf job compaction → KeepsJobs old flushes compactions
         → KeepsJobs new flushes (compaction ∷ compactions)
-    pub loans : (compaction : Compaction) (flushes : List FlushJob) (compactions : List Compaction)
+    pub loans : (compaction : Compaction) (flushes : List FlushState) (compactions : List Compaction)
         (lent : List (List LentRight)) → IsCompactionOf job compaction → KeepsLoans old flushes compactions lent
         → KeepsLoans new flushes (compaction ∷ compactions) (job_rights name job ∷ lent)
     pub step : (outside : Outside) (engine : EngineState) → IsSeen old outside engine

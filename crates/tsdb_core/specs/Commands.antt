@@ -17,7 +17,7 @@ use Rattle.tsdb_memory.specs.Logged.{LeavesStates, Outside, log_of, memory_of, w
 use Rattle.tsdb_base.specs.Causes.{Rose}
 use Rattle.tsdb_outside.specs.declared.disk.Disk as disk
 use Rattle.tsdb_outside.specs.declared.faults.Counted as counted
-use Rattle.tsdb_state.specs.State.{Compaction, EngineState, FlushJob}
+use Rattle.tsdb_state.specs.State.{Compaction, EngineState, FlushState}
 use Rattle.tsdb_state.specs.Steps.{failed, settled, wrote}
 
 module _ {J F S R P : Type 0} {means : disk.Ghosts J} {counts : counted.Ghosts J} where
@@ -40,7 +40,7 @@ module _ {J F S R P : Type 0} {means : disk.Ghosts J} {counts : counted.Ghosts J
     pub next : next_of new ≡ next_of old
     pub limit : limit_of new ≡ limit_of old
     pub claimed : is_sequence_claimed new ≡ is_sequence_claimed old
-    pub jobs : (flushes : List FlushJob) (compactions : List Compaction) → KeepsJobs old flushes compactions
+    pub jobs : (flushes : List FlushState) (compactions : List Compaction) → KeepsJobs old flushes compactions
         → KeepsJobs new flushes compactions
     pub loans : KeepsAllLoans old new
 

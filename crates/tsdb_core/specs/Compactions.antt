@@ -3,7 +3,7 @@ use Rattle.std.specs.Prelude.{◌≡◌, ◌≤◌, List, length, map}
 use Rattle.tsdb_tasks.specs.Ending.{IsOutIn}
 use Rattle.tsdb_tasks.specs.Finishing.{StandInSequence}
 use Rattle.tsdb_tasks.specs.Inputs.{input_numbers}
-use Rattle.tsdb_tasks.specs.Jobs.{IsCompactionOf, IsFormed}
+use Rattle.tsdb_tasks.specs.Jobs.{IsCompactionOf, IsJobFormed}
 use Rattle.tsdb_tasks.specs.Input.{Input}
 use Rattle.tsdb_tasks.specs.Job.{Job}
 use Rattle.tsdb_core.specs.Core.{KeepsJobs, files_of}
@@ -13,7 +13,7 @@ use Rattle.tsdb_base.specs.Lists.{IsWithOne}
 use Rattle.tsdb_outside.specs.Files.{NamedFile}
 use Rattle.tsdb_outside.specs.declared.disk.Disk as disk
 use Rattle.tsdb_outside.specs.declared.faults.Counted as counted
-use Rattle.tsdb_state.specs.State.{Compaction, FlushJob}
+use Rattle.tsdb_state.specs.State.{Compaction, FlushState}
 
 module _ {F S R P : Type 0} where
   -- rights on the inputs of the job, one on each
@@ -22,7 +22,7 @@ module _ {F S R P : Type 0} where
 
   -- what holds of a job that a core hands out, whatever comes later
   pub record IsHandedOut (job : Job F S R P) : Type 0 where
-    pub formed : IsFormed job
+    pub formed : IsJobFormed job
     pub few_sequence : length job.sequence ≤ 100000000
     pub few_late : length job.unsequence ≤ 100000000
 
@@ -34,7 +34,7 @@ module _ {F S R P : Type 0} (name : R → NamedFile) where
 module _ {J F S R P : Type 0} {means : disk.Ghosts J} {counts : counted.Ghosts J} (name : R → NamedFile) where
   -- The job is as a core hands it out, its inputs stand in the lists and are held, and few enough for one record.
   pub record IsJobKept (core : Core J F S R P means counts) (job : Job F S R P) : Type 0 where
-    pub formed : IsFormed job
+    pub formed : IsJobFormed job
     pub held : IsOutIn name (files_of core) job
     pub stands : StandInSequence job.space job.place job.sequence (files_of core).sequence
     pub few_sequence : length job.sequence ≤ 100000000
@@ -46,7 +46,7 @@ module _ {J F S R P : Type 0} {means : disk.Ghosts J} {counts : counted.Ghosts J
     pub compaction : Compaction
     pub others : List Compaction
     pub compactions : List Compaction
-    pub flushes : List FlushJob
+    pub flushes : List FlushState
     pub is : IsCompactionOf job compaction
     pub out : IsWithOne compaction others compactions
     pub keeps : KeepsJobs core flushes compactions

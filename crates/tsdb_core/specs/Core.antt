@@ -7,18 +7,18 @@ use Rattle.tsdb_core.specs.declared.engine.Core.{Core}
 use Rattle.tsdb_fileset.specs.Held.{AreFilesOf, TellTheirBytes}
 use Rattle.tsdb_fileset.specs.Files.{IsOpen, KeptFiles, kept_file}
 use Rattle.tsdb_base.specs.Lists.{count}
-use Rattle.tsdb_memory.specs.Logged.{IsSound, Outside, memory_of, room_of}
-use Rattle.tsdb_memory.specs.declared.logged.Logged.{Logged}
+use Rattle.tsdb_memory.specs.Logged.{IsSoundLogged, Outside, memory_of, framed_room}
+use Rattle.tsdb_memory.specs.declared.logged.LoggedMemory.{LoggedMemory}
 use Rattle.tsdb_memory.specs.Store.{FrozenPair}
 use Rattle.tsdb_memtable.specs.Pairs.{Pair}
 use Rattle.tsdb_outside.specs.declared.disk.Disk as disk
 use Rattle.tsdb_outside.specs.declared.faults.Counted as counted
 use Rattle.tsdb_state.specs.Jobs.{KeepsRoom, drawn_numbers}
 use Rattle.tsdb_state.specs.Plans.{ClaimLate, IsSequenceFree}
-use Rattle.tsdb_state.specs.State.{Compaction, EngineState, File, FlushJob, Room}
+use Rattle.tsdb_state.specs.State.{Compaction, EngineState, File, FlushState, Room}
 
 -- the number is one, and above those of all kept files
-pub record IsAbove (next : ℕ) (files : KeptFiles) : Type 0 where
+pub record IsAboveNumbers (next : ℕ) (files : KeptFiles) : Type 0 where
   pub from_one : 1 ≤ next
   pub below : (number : ℕ) → IfSome (kept_file number files) (λ file. number < next)
 
@@ -33,7 +33,7 @@ is_claimed files file =
 
 module _ {J F S R P : Type 0} {means : disk.Ghosts J} {counts : counted.Ghosts J} where
   -- what is in memory behind its log
-  abbrev pub logged_of : Core J F S R P means counts → Logged J means counts
+  abbrev pub logged_of : Core J F S R P means counts → LoggedMemory J means counts
   logged_of core = core.logged
 
   -- the pair that rows are put into
@@ -68,13 +68,13 @@ module _ {J F S R P : Type 0} {means : disk.Ghosts J} {counts : counted.Ghosts J
     sequence = (files_of core).spare.sequence;
     unsequence = (files_of core).spare.unsequence;
     outgoing = (files_of core).spare.outgoing;
-    record_bytes = room_of (logged_of core);
+    record_bytes = framed_room (logged_of core);
   }
 
   -- What a core keeps for the jobs that are out, whatever is told: their numbers differ, lie from 1 to below the next one,
   -- and each has a place where its file is not there yet; and there is the room that their ends need. The numbers of kept
   -- files lie below the next one too.
-  pub record KeepsJobs (core : Core J F S R P means counts) (flushes : List FlushJob) (compactions : List Compaction)
+  pub record KeepsJobs (core : Core J F S R P means counts) (flushes : List FlushState) (compactions : List Compaction)
       : Type 0 where
     pub from_one : 1 ≤ next_of core
     pub below : (number : ℕ) → IfSome (kept_file number (files_of core)) (λ file. number < next_of core)
@@ -86,7 +86,7 @@ module _ {J F S R P : Type 0} {means : disk.Ghosts J} {counts : counted.Ghosts J
   -- The log and memory are sound for the state, the files are those of the state, and they tell what is kept; the next
   -- number is that of the state, its jobs are kept, and its compactions have their claims.
   pub record IsSeen (core : Core J F S R P means counts) (outside : Outside) (state : EngineState) : Type 0 where
-    pub sound : IsSound (logged_of core) outside state
+    pub sound : IsSoundLogged (logged_of core) outside state
     pub files : AreFilesOf (files_of core) outside.known state
     pub told : TellTheirBytes (files_of core) outside.kept
     pub next : next_of core ≡ state.next_file

@@ -51,7 +51,7 @@ less_if space None spare = spare
 less_if space (Some number) spare = less_room space spare
 
 -- the number was drawn for the file, and no right to read it is out
-pub record IsNumbered {F S R P : Type 0} (rights : S → ℕ) (number : Option FileNumber) (built : Built F S R P)
+pub record IsNumberedOutput {F S R P : Type 0} (rights : S → ℕ) (number : Option FileNumber) (built : Built F S R P)
     : Type 0 where
   pub drawn : option_map (λ (n : FileNumber). n.0) number ≡ Some built.entry.number.0
   pub unread : rights built.sealed ≡ 0

@@ -8,7 +8,7 @@ use Rattle.std.specs.declared.result.Result.TheVariants.{Ok, Err}
 use Rattle.tsdb_base.specs.declared.ids.FileNumber.{FileNumber}
 use Rattle.tsdb_base.specs.declared.ids.Stamp.{Stamp}
 use Rattle.tsdb_tasks.specs.Coming.{HaveCome}
-use Rattle.tsdb_tasks.specs.Files.{IsOutAs, NewFiles, TellBytes, all_of, state_files, told_with, with_files}
+use Rattle.tsdb_tasks.specs.Files.{IsOutAs, NewFiles, TellBytes, all_of, state_files, told_after_flush, with_files}
 use Rattle.tsdb_core.specs.Core.{IsSeen, KeepsJobs, files_of, is_sequence_claimed, limit_of, logged_of, next_of}
 use Rattle.tsdb_core.specs.Core.{working_of}
 use Rattle.tsdb_core.specs.Ending.{AreAfterCommit, IsLeastWith, drawn_for, number_for}
@@ -33,7 +33,7 @@ use Rattle.tsdb_memory.specs.Commands.{IsPrepared}
 use Rattle.tsdb_memory.specs.Flushes.{IsFlushed}
 use Rattle.tsdb_memory.specs.Logged.{LeavesStates, Outside, log_of, memory_of, with_record}
 use Rattle.tsdb_model.specs.World.{World}
-use Rattle.tsdb_memory.specs.Store.{FrozenPair, Store}
+use Rattle.tsdb_memory.specs.Store.{FrozenPair, MemoryState}
 use Rattle.tsdb_base.specs.Causes.{Rose}
 use Rattle.tsdb_outside.specs.Files as outside
 use Rattle.tsdb_outside.specs.declared.disk.Disk as disk
@@ -46,7 +46,7 @@ use Rattle.tsdb_state.specs.Steps.{TakesFlush, committed_flush, ended_flush, fai
 use Rattle.tsdb_state.specs.Worlds.{KeepsWorld, StandsFor}
 
 -- the flush has the numbers of the job
-pub record HasNumbersOf (job : FlushJob) (flush : state.FlushJob) : Type 0 where
+pub record HasNumbersOf (job : FlushJob) (flush : state.FlushState) : Type 0 where
   pub sequence : flush.sequence ≡ option_map (λ (number : FileNumber). number.0) job.sequence
   pub unsequence : flush.unsequence ≡ option_map (λ (number : FileNumber). number.0) job.unsequence
 
@@ -56,7 +56,7 @@ IsDue upto frozen = IsSomeAnd (slice_get frozen 0) (λ pair. pair.born ≤ upto)
 
 -- What taking a flush up to a stamp answers: none exactly where no pair is due; full exactly where one is, and two
 -- numbers more are too many, with the next number.
-abbrev pub IsTakeAnswer : ℕ → ℕ → Store → Result (Option FlushJob) CoreFault → Type 0
+abbrev pub IsTakeAnswer : ℕ → ℕ → MemoryState → Result (Option FlushJob) CoreFault → Type 0
 IsTakeAnswer upto next store (Ok None) = ¬ IsDue upto store.frozen
 IsTakeAnswer upto next store (Ok (Some job)) = IsDue upto store.frozen × (next + 2 ≤ end_of_numbers)
 IsTakeAnswer upto next store (Err Memory) = IsDue upto store.frozen × (next + 2 ≤ end_of_numbers)
@@ -64,21 +64,21 @@ IsTakeAnswer upto next store (Err (Full counter)) =
     IsDue upto store.frozen × (end_of_numbers < next + 2) × (counter ≡ next)
 
 -- the oldest frozen pair is that of the job
-abbrev pub IsOldest : FlushJob → Store → Type 0
-IsOldest job store = IsSomeAnd (slice_get store.frozen 0) (λ pair. pair.born ≡ job.born.0)
+abbrev pub IsOldestPair : FlushJob → MemoryState → Type 0
+IsOldestPair job store = IsSomeAnd (slice_get store.frozen 0) (λ pair. pair.born ≡ job.born.0)
 
 -- a commit answers gone exactly where the oldest frozen pair is not that of the job
-abbrev pub IsCommitAnswer : FlushJob → Store → Commit → Type 0
-IsCommitAnswer job store Done = IsOldest job store
-IsCommitAnswer job store Gone = ¬ IsOldest job store
-IsCommitAnswer job store Device = IsOldest job store
+abbrev pub IsCommitAnswer : FlushJob → MemoryState → Commit → Type 0
+IsCommitAnswer job store Done = IsOldestPair job store
+IsCommitAnswer job store Gone = ¬ IsOldestPair job store
+IsCommitAnswer job store Device = IsOldestPair job store
 
 module _ {J F S R P : Type 0} {means : disk.Ghosts J} {counts : counted.Ghosts J} where
   -- The job is out: it has drawn the numbers of a flush for which the core keeps places and room.
   pub record IsOut (core : Core J F S R P means counts) (job : FlushJob) : Type 0 where
-    pub flush : state.FlushJob
-    pub others : List state.FlushJob
-    pub flushes : List state.FlushJob
+    pub flush : state.FlushState
+    pub others : List state.FlushState
+    pub flushes : List state.FlushState
     pub compactions : List Compaction
     pub numbers : HasNumbersOf job flush
     pub out : IsWithOne flush others flushes
@@ -96,7 +96,7 @@ module _ {J F S R P : Type 0} {means : disk.Ghosts J} {counts : counted.Ghosts J
   -- no flush was taken: the core shows the same states, and keeps what it kept for jobs
   pub record IsNotTaken (old new : Core J F S R P means counts) : Type 0 where
     pub next : next_of new ≡ next_of old
-    pub jobs : (flushes : List state.FlushJob) (compactions : List Compaction) → KeepsJobs old flushes compactions
+    pub jobs : (flushes : List state.FlushState) (compactions : List Compaction) → KeepsJobs old flushes compactions
         → KeepsJobs new flushes compactions
     pub loans : KeepsAllLoans old new
     pub step : (outside : Outside) (engine : EngineState) → IsSeen old outside engine → IsSeen new outside engine
@@ -104,28 +104,28 @@ module _ {J F S R P : Type 0} {means : disk.Ghosts J} {counts : counted.Ghosts J
   -- The job of the oldest frozen pair was taken, with the next numbers for its parts that have a point. What its end
   -- needs is kept from now on. It has each series that has a point in the pair and no other, with its schema as memory
   -- has it.
-  pub record IsTaken (old new : Core J F S R P means counts) (job : FlushJob) : Type 0 where
+  pub record IsFlushTaken (old new : Core J F S R P means counts) (job : FlushJob) : Type 0 where
     pub is_job : IsJob job
-    pub of_memory : taking.IsTaken (memory_of (logged_of old)) (next_of old) job
+    pub of_memory : taking.IsJobTaken (memory_of (logged_of old)) (next_of old) job
     pub oldest : IsSomeAnd (slice_get (memory_of (logged_of old)).frozen 0)
         (λ pair. (pair.born ≡ job.born.0) × (pair.pair ≡ arc_value job.pair))
     pub numbers : drawn_for job ≡ range_with_len (next_of old) (length (drawn_for job))
     pub some : 0 < length (drawn_for job)
     pub next : next_of new ≡ next_of old + length (drawn_for job)
-    pub jobs : (flush : state.FlushJob) (flushes : List state.FlushJob) (compactions : List Compaction)
+    pub jobs : (flush : state.FlushState) (flushes : List state.FlushState) (compactions : List Compaction)
         → HasNumbersOf job flush → KeepsJobs old flushes compactions → KeepsJobs new (flush ∷ flushes) compactions
-    pub loans : (flush : state.FlushJob) (flushes : List state.FlushJob) (compactions : List Compaction)
+    pub loans : (flush : state.FlushState) (flushes : List state.FlushState) (compactions : List Compaction)
         (lent : List (List LentRight)) → HasNumbersOf job flush → KeepsLoans old flushes compactions lent
         → KeepsLoans new (flush ∷ flushes) compactions lent
     pub step : (outside : Outside) (engine : EngineState) → IsSeen old outside engine
-        → (flush : state.FlushJob) × IsFlushOf job flush × TakesFlush flush engine
+        → (flush : state.FlushState) × IsFlushOf job flush × TakesFlush flush engine
         × IsSeen new outside (took_flush flush engine)
 
-  abbrev pub IsTakenOrNot : Core J F S R P means counts → Core J F S R P means counts
+  abbrev pub IsFlushTakenOrNot : Core J F S R P means counts → Core J F S R P means counts
       → Result (Option FlushJob) CoreFault → Type 0
-  IsTakenOrNot old new (Ok None) = IsNotTaken old new
-  IsTakenOrNot old new (Ok (Some job)) = IsTaken old new job
-  IsTakenOrNot old new (Err fault) = IsNotTaken old new
+  IsFlushTakenOrNot old new (Ok None) = IsNotTaken old new
+  IsFlushTakenOrNot old new (Ok (Some job)) = IsFlushTaken old new job
+  IsFlushTakenOrNot old new (Err fault) = IsNotTaken old new
 
   -- the record of the flush was appended, or could not be
   pub record AppendsFlush (old new : Core J F S R P means counts) (job : FlushJob) (outcome : Result (Unit {0}) Failed)
@@ -144,16 +144,16 @@ module _ {J F S R P : Type 0} {means : disk.Ghosts J} {counts : counted.Ghosts J
 
   -- What each end of a flush leaves: its files are where the commit says, their tokens are kept, and so is what the
   -- other jobs need.
-  pub record EndsFlush (old new : Core J F S R P means counts) (job : FlushJob) (files : NewFiles) (commit : Commit)
+  pub record HasEndedFlush (old new : Core J F S R P means counts) (job : FlushJob) (files : NewFiles) (commit : Commit)
       : Type 0 where
     pub lists : AreAfterCommit commit files (files_of old) (files_of new)
     pub come : HaveCome (drawn_for job) files (files_of old) (files_of new)
     pub of_store : (store : outside.Store) → AreOfStore store (files_of old).places
         → Each (λ file. file.token.name.store ≡ store) (all_of files) → AreOfStore store (files_of new).places
-    pub jobs : (flush : state.FlushJob) (others flushes : List state.FlushJob) (compactions : List Compaction)
+    pub jobs : (flush : state.FlushState) (others flushes : List state.FlushState) (compactions : List Compaction)
         → HasNumbersOf job flush → IsWithOne flush others flushes → KeepsJobs old flushes compactions
         → KeepsJobs new others compactions
-    pub loans : (flush : state.FlushJob) (others flushes : List state.FlushJob) (compactions : List Compaction)
+    pub loans : (flush : state.FlushState) (others flushes : List state.FlushState) (compactions : List Compaction)
         (lent : List (List LentRight)) → HasNumbersOf job flush → IsWithOne flush others flushes
         → KeepsLoans old flushes compactions lent → KeepsLoans new others compactions lent
     pub next : next_of new ≡ next_of old
@@ -162,8 +162,8 @@ module _ {J F S R P : Type 0} {means : disk.Ghosts J} {counts : counted.Ghosts J
 
   -- The state after a commit: done, the files are listed, and the pair is frozen no longer; gone, they are on their way
   -- out; the device failed, they are too, and none is in doubt, or what was, or this record.
-  abbrev pub IsSeenAfterCommit : Core J F S R P means counts → Outside → EngineState → state.FlushJob
-      → List state.FlushJob → Commit → Type 0
+  abbrev pub IsSeenAfterCommit : Core J F S R P means counts → Outside → EngineState → state.FlushState
+      → List state.FlushState → Commit → Type 0
   IsSeenAfterCommit new outside engine flush others Done =
       IsSeen new (with_record (flush_record flush) outside) (committed_flush flush others engine)
   IsSeenAfterCommit new outside engine flush others Gone =
@@ -178,20 +178,20 @@ module _ {J F S R P : Type 0} {means : disk.Ghosts J} {counts : counted.Ghosts J
   pub record IsCommit (old new : Core J F S R P means counts) (job : FlushJob) (files : NewFiles) (commit : Commit)
       : Type 0 where
     pub answer : IsCommitAnswer job (memory_of (logged_of old)) commit
-    pub ends : EndsFlush old new job files commit
-    pub step : (outside : Outside) (engine : EngineState) (flush : state.FlushJob) (others : List state.FlushJob)
+    pub ends : HasEndedFlush old new job files commit
+    pub step : (outside : Outside) (engine : EngineState) (flush : state.FlushState) (others : List state.FlushState)
         → IsSeen old outside engine → IsOutAs job flush others engine → TellBytes files
         → IsSeenAfterCommit new (with_files flush files outside) engine flush others commit
-    pub moments : (outside : Outside) (engine : EngineState) (flush : state.FlushJob) (others : List state.FlushJob)
+    pub moments : (outside : Outside) (engine : EngineState) (flush : state.FlushState) (others : List state.FlushState)
         → IsSeen old outside engine → IsOutAs job flush others engine → TellBytes files
         → LeavesStates (logged_of old) (logged_of new) (with_files flush files outside) engine (flush_record flush)
-    pub world : (outside : Outside) (engine : EngineState) (flush : state.FlushJob) (others : List state.FlushJob)
+    pub world : (outside : Outside) (engine : EngineState) (flush : state.FlushState) (others : List state.FlushState)
         (world : World) → IsSeen old outside engine → IsOutAs job flush others engine → TellBytes files
         → StandsFor outside.told engine.store world → IsWorldOf new world
-    pub keeps : (outside : Outside) (engine : EngineState) (flush : state.FlushJob) (others : List state.FlushJob)
+    pub keeps : (outside : Outside) (engine : EngineState) (flush : state.FlushState) (others : List state.FlushState)
         → IsSeen old outside engine → IsOutAs job flush others engine → TellBytes files
-        → IsOldest job (memory_of (logged_of old))
-        → KeepsWorld (told_with flush files outside.told) engine.store (committed_flush flush others engine).store
+        → IsOldestPair job (memory_of (logged_of old))
+        → KeepsWorld (told_after_flush flush files outside.told) engine.store (committed_flush flush others engine).store
     pub left : commit ≡ Done → (memory_of (logged_of new)).frozen ≡ drop 1 (memory_of (logged_of old)).frozen
     pub working : working_of new ≡ working_of old
     pub kept : KeepsSeries (memory_of (logged_of old)) (memory_of (logged_of new))
@@ -204,10 +204,10 @@ module _ {J F S R P : Type 0} {means : disk.Ghosts J} {counts : counted.Ghosts J
   -- What giving a flush up leaves: the files that are there go out, and log and memory stay.
   pub record IsAbandoned (old new : Core J F S R P means counts) (job : FlushJob) (files : NewFiles) : Type 0 where
     pub logged : logged_of new ≡ logged_of old
-    pub ends : EndsFlush old new job files Gone
-    pub step : (outside : Outside) (engine : EngineState) (flush : state.FlushJob) (others : List state.FlushJob)
+    pub ends : HasEndedFlush old new job files Gone
+    pub step : (outside : Outside) (engine : EngineState) (flush : state.FlushState) (others : List state.FlushState)
         → IsSeen old outside engine → IsOutAs job flush others engine → TellBytes files
         → IsSeen new (with_files flush files outside) (ended_flush flush others (state_files files) engine)
-    pub world : (outside : Outside) (engine : EngineState) (flush : state.FlushJob) (others : List state.FlushJob)
+    pub world : (outside : Outside) (engine : EngineState) (flush : state.FlushState) (others : List state.FlushState)
         (world : World) → IsSeen old outside engine → IsOutAs job flush others engine → TellBytes files
         → StandsFor outside.told engine.store world → IsWorldOf new world

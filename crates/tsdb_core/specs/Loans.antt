@@ -14,7 +14,7 @@ use Rattle.tsdb_outside.specs.declared.faults.Counted as counted
 use Rattle.tsdb_plan.specs.declared.entry.FileEntry.{FileEntry}
 use Rattle.tsdb_state.specs.Plans.{IsSequenceFree}
 use Rattle.tsdb_state.specs.Records.{numbers_of}
-use Rattle.tsdb_state.specs.State.{Compaction, FlushJob}
+use Rattle.tsdb_state.specs.State.{Compaction, FlushState}
 
 -- a right that is out: the number under which its file is kept, and the file that it is one to read
 pub record LentRight : Type 0 where
@@ -53,7 +53,7 @@ pub record StandsIn (files : KeptFiles) (job : Compaction) : Type 0 where
   pub sequence : StandFrom job.space job.place (numbers_of job.sequence) (entry_numbers files.sequence)
 
 -- two compactions have no number of a late file in common, and one of them at most has the sequence list
-pub record AreApart (job other : Compaction) : Type 0 where
+pub record AreJobNumbersApart (job other : Compaction) : Type 0 where
   pub one : job.space ≡ Sequence → other.space ≡ Sequence → ⊥
   pub late : (number : ℕ) → Among number (numbers_of job.unsequence) → Among number (numbers_of other.unsequence) → ⊥
 
@@ -61,13 +61,13 @@ pub record AreApart (job other : Compaction) : Type 0 where
 -- one of them has it.
 pub record KeepsInputs (files : KeptFiles) (claimed : Bool) (compactions : List Compaction) : Type 0 where
   pub stand : Each (StandsIn files) compactions
-  pub apart : EachPair AreApart compactions
+  pub apart : EachPair AreJobNumbersApart compactions
   pub free : claimed ≡ false → IsSequenceFree compactions
 
 module _ {J F S R P : Type 0} {means : disk.Ghosts J} {counts : counted.Ghosts J} where
   -- What a core keeps for these flushes and compactions, and for the rights of these jobs and pins. A flush, a
   -- compaction or a pin that is among them can be ended, whichever calls come before its end.
-  pub record KeepsLoans (core : Core J F S R P means counts) (flushes : List FlushJob) (compactions : List Compaction)
+  pub record KeepsLoans (core : Core J F S R P means counts) (flushes : List FlushState) (compactions : List Compaction)
       (lent : List (List LentRight)) : Type 0 where
     pub jobs : KeepsJobs core flushes compactions
     pub inputs : KeepsInputs (files_of core) (is_sequence_claimed core) compactions
@@ -75,5 +75,5 @@ module _ {J F S R P : Type 0} {means : disk.Ghosts J} {counts : counted.Ghosts J
 
   -- all that was kept for jobs and pins is kept
   abbrev pub KeepsAllLoans : Core J F S R P means counts → Core J F S R P means counts → Type 0
-  KeepsAllLoans old new = (flushes : List FlushJob) (compactions : List Compaction) (lent : List (List LentRight))
+  KeepsAllLoans old new = (flushes : List FlushState) (compactions : List Compaction) (lent : List (List LentRight))
       → KeepsLoans old flushes compactions lent → KeepsLoans new flushes compactions lent

@@ -21,7 +21,7 @@ use Rattle.tsdb_tasks.specs.Jobs.{input_files}
 use Rattle.tsdb_tasks.specs.Pin.{Pin}
 
 -- a flush with the numbers of the job, and no point
-abbrev pub flush_of : FlushJob → state.FlushJob
+abbrev pub flush_of : FlushJob → state.FlushState
 flush_of job = record {
   born = job.born.0;
   pair = record { sequence = empty; unsequence = empty };
@@ -44,7 +44,7 @@ module _ {F S R P : Type 0} where
 
 -- what is out of a core: flushes, compactions, and the rights of each holder
 pub record Loans : Type 0 where
-  pub flushes : List state.FlushJob
+  pub flushes : List state.FlushState
   pub compactions : List Compaction
   pub lent : List (List LentRight)
 

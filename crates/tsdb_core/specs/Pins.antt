@@ -12,14 +12,14 @@ use Rattle.tsdb_outside.specs.Files as outside
 use Rattle.tsdb_outside.specs.Files.{NamedFile}
 use Rattle.tsdb_outside.specs.declared.disk.Disk as disk
 use Rattle.tsdb_outside.specs.declared.faults.Counted as counted
-use Rattle.tsdb_tasks.specs.Changes.{GivesRights, KeepsFiles, TakesRights, column_numbers}
+use Rattle.tsdb_tasks.specs.Changes.{GivesRights, ChangesNoFile, TakesRights, column_numbers}
 use Rattle.tsdb_tasks.specs.Pins.{AreColumnsHeld}
 use Rattle.tsdb_tasks.specs.Shown.{IsPinOf}
 use Rattle.tsdb_tasks.specs.Pin.{Pin}
 use Rattle.tsdb_tasks.specs.PinnedSource.{PinnedSource}
 use Rattle.tsdb_tasks.specs.TheVariants.{File, Part}
 use Rattle.tsdb_state.specs.State as state
-use Rattle.tsdb_state.specs.State.{Compaction, EngineState, FlushJob}
+use Rattle.tsdb_state.specs.State.{Compaction, EngineState, FlushState}
 use Rattle.tsdb_state.specs.Steps.{PinStandsFor, TakesPin, pinned, unpinned}
 use Rattle.tsdb_state.specs.Worlds.{StandsFor}
 
@@ -46,7 +46,7 @@ module _ {J F S R P : Type 0} {means : disk.Ghosts J} {counts : counted.Ghosts J
     pub next : next_of new ≡ next_of old
     pub limit : limit_of new ≡ limit_of old
     pub claimed : is_sequence_claimed new ≡ is_sequence_claimed old
-    pub jobs : (flushes : List FlushJob) (compactions : List Compaction) → KeepsJobs old flushes compactions
+    pub jobs : (flushes : List FlushState) (compactions : List Compaction) → KeepsJobs old flushes compactions
         → KeepsJobs new flushes compactions
     pub store : (store : outside.Store) → AreOfStore store (files_of old).places
         → AreOfStore store (files_of new).places
@@ -54,7 +54,7 @@ module _ {J F S R P : Type 0} {means : disk.Ghosts J} {counts : counted.Ghosts J
   -- The pin is one that the state gives; the core shows the state with it; and it stands for the state's world.
   pub record IsPinStep (new : Core J F S R P means counts) (outside : Outside) (engine : EngineState) (pin : Pin F S R P)
       : Type 0 where
-    pub shown : state.Pin
+    pub shown : state.PinState
     pub is : IsPinOf pin shown
     pub takes : TakesPin outside.known shown engine
     pub seen : IsSeen new outside (pinned shown engine)
@@ -65,7 +65,7 @@ module _ {J F S R P : Type 0} {means : disk.Ghosts J} {counts : counted.Ghosts J
     pub rest : ChangesRights old new
     pub rights : TakesRights (column_numbers pin.columns) (files_of old) (files_of new)
     pub held : AreColumnsHeld name (files_of new) pin.columns
-    pub loans : (flushes : List FlushJob) (compactions : List Compaction) (lent : List (List LentRight))
+    pub loans : (flushes : List FlushState) (compactions : List Compaction) (lent : List (List LentRight))
         → KeepsLoans old flushes compactions lent
         → KeepsLoans new flushes compactions (pin_rights name pin ∷ lent)
     pub step : (outside : Outside) (engine : EngineState) → IsSeen old outside engine
@@ -74,7 +74,7 @@ module _ {J F S R P : Type 0} {means : disk.Ghosts J} {counts : counted.Ghosts J
   -- No pin was taken, and nothing has changed: the core shows the same states.
   pub record IsNotPinned (old new : Core J F S R P means counts) : Type 0 where
     pub rest : ChangesRights old new
-    pub files : KeepsFiles (files_of old) (files_of new)
+    pub files : ChangesNoFile (files_of old) (files_of new)
     pub loans : KeepsAllLoans old new
     pub step : (outside : Outside) (engine : EngineState) → IsSeen old outside engine → IsSeen new outside engine
 
@@ -82,9 +82,9 @@ module _ {J F S R P : Type 0} {means : disk.Ghosts J} {counts : counted.Ghosts J
   pub record IsUnpinned (old new : Core J F S R P means counts) (pin : Pin F S R P) : Type 0 where
     pub rest : ChangesRights old new
     pub rights : GivesRights (column_numbers pin.columns) (files_of old) (files_of new)
-    pub loans : (flushes : List FlushJob) (compactions : List Compaction) (rights : List LentRight)
+    pub loans : (flushes : List FlushState) (compactions : List Compaction) (rights : List LentRight)
         (others lent : List (List LentRight)) → AreOnColumns pin rights → IsWithOne rights others lent
         → KeepsLoans old flushes compactions lent → KeepsLoans new flushes compactions others
-    pub step : (outside : Outside) (engine : EngineState) (shown : state.Pin) (others : List state.Pin)
+    pub step : (outside : Outside) (engine : EngineState) (shown : state.PinState) (others : List state.PinState)
         → IsSeen old outside engine → IsPinOf pin shown → IsWithOne shown others engine.pins
         → IsSeen new outside (unpinned shown others engine)

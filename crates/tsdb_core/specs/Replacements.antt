@@ -41,12 +41,12 @@ use Rattle.tsdb_outside.specs.declared.disk.Disk as disk
 use Rattle.tsdb_outside.specs.declared.faults.Counted as counted
 use Rattle.tsdb_outside.specs.declared.faults.Failed.{Failed}
 use Rattle.tsdb_tasks.specs.Outputs.{IsNewOutput, with_output}
-use Rattle.tsdb_state.specs.State.{Compaction, EngineState, File, FlushJob, Told}
+use Rattle.tsdb_state.specs.State.{Compaction, EngineState, File, FlushState, ToldContents}
 use Rattle.tsdb_state.specs.Steps.{IsOutputPlace, committed, compaction_record, ended, failed, output_number, settled}
 use Rattle.tsdb_state.specs.Worlds.{KeepsWorld, StandsFor}
 
 -- the output, where there is one, is that of the compaction, and has this content
-abbrev pub IsOutputIn : Told → Compaction → Option NewFile → Content → Type 0
+abbrev pub IsOutputIn : ToldContents → Compaction → Option NewFile → Content → Type 0
 IsOutputIn told compaction None content = ⊤
 IsOutputIn told compaction (Some file) content = IsNewOutput told compaction content file
 
@@ -95,16 +95,17 @@ module _ {F S R P : Type 0} where
 module _ {J F S R P : Type 0} {means : disk.Ghosts J} {counts : counted.Ghosts J} where
   -- What each end of a compaction leaves: the sequence list is free where the job had claimed it, the tokens are of one
   -- store, and what is kept for the other jobs stays.
-  pub record EndsJob (old new : Core J F S R P means counts) (job : Job F S R P) (file : Option NewFile) : Type 0 where
+  pub record HasEndedJob (old new : Core J F S R P means counts) (job : Job F S R P)
+      (file : Option NewFile) : Type 0 where
     pub claimed : is_sequence_claimed new ≡ without_claim job.space (is_sequence_claimed old)
     pub next : next_of new ≡ next_of old
     pub limit : limit_of new ≡ limit_of old
     pub of_store : (store : outside.Store) → AreOfStore store (files_of old).places
         → IfSome file (λ one. one.token.name.store ≡ store) → AreOfStore store (files_of new).places
-    pub jobs : (compaction : Compaction) (others compactions : List Compaction) (flushes : List FlushJob)
+    pub jobs : (compaction : Compaction) (others compactions : List Compaction) (flushes : List FlushState)
         → IsCompactionOf job compaction → IsWithOne compaction others compactions
         → KeepsJobs old flushes compactions → KeepsJobs new flushes others
-    pub loans : (compaction : Compaction) (others compactions : List Compaction) (flushes : List FlushJob)
+    pub loans : (compaction : Compaction) (others compactions : List Compaction) (flushes : List FlushState)
         (rights : List LentRight) (others_lent lent : List (List LentRight)) → IsCompactionOf job compaction
         → IsWithOne compaction others compactions → AreOnInputs job rights → IsWithOne rights others_lent lent
         → KeepsLoans old flushes compactions lent → KeepsLoans new flushes others others_lent
@@ -151,7 +152,7 @@ module _ {J F S R P : Type 0} {means : disk.Ghosts J} {counts : counted.Ghosts J
   pub record IsJobCommit (name : R → NamedFile) (old new : Core J F S R P means counts) (job : Job F S R P)
       (file : Option NewFile) (outcome : Result (Unit {0}) Failed)
       : Type 0 where
-    pub ends : EndsJob old new job file
+    pub ends : HasEndedJob old new job file
     pub runs : InputRuns
     pub stand : AreRunsOf job runs (files_of old)
     pub files : EndsFiles job runs file (files_of old) (files_of new) outcome
@@ -170,7 +171,7 @@ module _ {J F S R P : Type 0} {means : disk.Ghosts J} {counts : counted.Ghosts J
   pub record IsJobAbandoned (old new : Core J F S R P means counts) (job : Job F S R P) (file : Option NewFile)
       : Type 0 where
     pub logged : logged_of new ≡ logged_of old
-    pub ends : EndsJob old new job file
+    pub ends : HasEndedJob old new job file
     pub files : GivesUp (files_of old) (files_of new) job file
     pub step : (outside : Outside) (engine : EngineState) (compaction : Compaction) (others : List Compaction)
         (content : Content) → IsSeen old outside engine → IsCompactionOf job compaction

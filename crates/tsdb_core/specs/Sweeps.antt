@@ -7,12 +7,12 @@ use Rattle.tsdb_core.specs.declared.engine.Core.{Core}
 use Rattle.tsdb_frames.specs.Frames.{is_in_doubt}
 use Rattle.tsdb_fileset.specs.Held.{IsDoubtOf, may_go, told_numbers}
 use Rattle.tsdb_state.specs.Stored.{without_numbers}
-use Rattle.tsdb_fileset.specs.Sweeps.{LeavesWithout, StopsAt, tried_numbers}
+use Rattle.tsdb_fileset.specs.Sweeps.{LeavesWithout, StopsSweepAt, tried_numbers}
 use Rattle.tsdb_memory.specs.Logged.{Outside, log_of}
 use Rattle.tsdb_outside.specs.declared.disk.Disk as disk
 use Rattle.tsdb_outside.specs.declared.faults.Counted as counted
 use Rattle.tsdb_outside.specs.declared.faults.Failed.{Failed}
-use Rattle.tsdb_state.specs.State.{Compaction, EngineState, FlushJob}
+use Rattle.tsdb_state.specs.State.{Compaction, EngineState, FlushState}
 use Rattle.tsdb_state.specs.Steps.{swept}
 
 -- the files of these numbers are kept no longer
@@ -24,7 +24,7 @@ module _ {J F S R P : Type 0} {means : disk.Ghosts J} {counts : counted.Ghosts J
   -- pins. The state is swept of them, and they are kept no longer.
   pub record IsSweptOf (old new : Core J F S R P means counts) (numbers : List ℕ) : Type 0 where
     pub left : LeavesWithout numbers (files_of old) (files_of new)
-    pub jobs : (flushes : List FlushJob) (compactions : List Compaction) → KeepsJobs old flushes compactions
+    pub jobs : (flushes : List FlushState) (compactions : List Compaction) → KeepsJobs old flushes compactions
         → KeepsJobs new flushes compactions
     pub loans : KeepsAllLoans old new
     pub step : (outside : Outside) (state : EngineState) → IsSeen old outside state
@@ -43,5 +43,5 @@ module _ {J F S R P : Type 0} {means : disk.Ghosts J} {counts : counted.Ghosts J
     pub counted : IfOk outcome (λ count.
         count ≡ length (may_go doubted (files_of old) (files_of old).outgoing))
     pub all : OnOk outcome (IsSweptOf old new (may_go doubted (files_of old) (files_of old).outgoing))
-    pub stopped : OnErr outcome ((stop : StopsAt doubted (files_of old).places (files_of old).outgoing)
+    pub stopped : OnErr outcome ((stop : StopsSweepAt doubted (files_of old).places (files_of old).outgoing)
         × IsSweptOf old new (tried_numbers doubted (files_of old).places stop))

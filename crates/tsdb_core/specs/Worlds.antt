@@ -22,10 +22,10 @@ module _ {J F S R P : Type 0} {means : disk.Ghosts J} {counts : counted.Ghosts J
     pub stands : StandsFor outside.told state.store world
 
   -- The answer to a command is the plain map's, and the core stands for the map's world after it.
-  pub record FollowsMap (old new : Core J F S R P means counts) (command : Command) (answer : Answer) : Type 0 where
+  pub record CoreFollowsMap (old new : Core J F S R P means counts) (command : Command) (answer : Answer) : Type 0 where
     pub answers : (world : World) → IsWorldOf old world → IsMapAnswer world command answer
     pub world : (world : World) → IsWorldOf old world → IsWorldOf new (after_reply world command (Plain answer))
 
   -- The core stands for the same worlds.
-  abbrev pub KeepsWorld : Core J F S R P means counts → Core J F S R P means counts → Type 0
-  KeepsWorld old new = (world : World) → IsWorldOf old world → IsWorldOf new world
+  abbrev pub CoreKeepsWorld : Core J F S R P means counts → Core J F S R P means counts → Type 0
+  CoreKeepsWorld old new = (world : World) → IsWorldOf old world → IsWorldOf new world

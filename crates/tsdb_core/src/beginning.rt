@@ -28,7 +28,7 @@ impl<J: Journal, F: Files> Core<J, F> {
     ghost use Rattle.tsdb_core.specs.Beginnings.{ArePlanned, HaveHulls, IsBegun, IsBegunOrNot, IsCrossRuns};
     ghost use Rattle.tsdb_core.specs.Beginnings.{IsInnerRuns, IsNotBegun};
     ghost use Rattle.tsdb_core.specs.Core.{IsSeen, files_of, next_of};
-    ghost use Rattle.tsdb_core.specs.Worlds.{KeepsWorld};
+    ghost use Rattle.tsdb_core.specs.Worlds.{CoreKeepsWorld};
     ghost use Rattle.tsdb_fileset.specs.Files.{AreKept};
     ghost use Rattle.tsdb_memory.specs.Logged.{Outside};
     ghost use Rattle.tsdb_state.specs.State.{EngineState};
@@ -39,7 +39,7 @@ impl<J: Journal, F: Files> Core<J, F> {
         ensures answer { IsBeginAnswer (IsInnerRuns space self.old) (next_of self.old) result }
         ensures begun { IsBegunOrNot F.Right.file space (IsInnerRuns space self.old) self.old self.new result }
         ensures kind { IfOk result (λ begun. IfSome begun (λ job. is_cross job ≡ false)) }
-        ensures world { KeepsWorld self.old self.new }
+        ensures world { CoreKeepsWorld self.old self.new }
     {
         match self.inner_runs(space) {
             Some(runs) => self.begin(space, runs),
@@ -59,7 +59,7 @@ impl<J: Journal, F: Files> Core<J, F> {
         ensures disorder { ¬ HaveHulls self.old → result ≡ Err NoMemory }
         ensures order { (outside : Outside) (engine : EngineState) → IsSeen self.old outside engine
             → HaveHulls self.old }
-        ensures world { KeepsWorld self.old self.new }
+        ensures world { CoreKeepsWorld self.old self.new }
     {
         if !self.has_hulls() {
             return Err(CoreFault::Memory);

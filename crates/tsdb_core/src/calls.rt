@@ -1,6 +1,6 @@
 //! The calls of a core that change it. Depends on `engine`.
 ghost use Rattle.std.specs.Prelude.{◌≡◌, ◌⊎◌, ◌↔◌, ◌<◌, IsTrue, OnOk, length};
-ghost use Rattle.tsdb_fileset.specs.Closing.{ArePutBack, AreRising, names_at};
+ghost use Rattle.tsdb_fileset.specs.Closing.{ArePutBack, AreNumbersRising, names_at};
 ghost use Rattle.tsdb_fileset.specs.Places.{AreOfStore, AreUnread};
 ghost use Rattle.tsdb_log.specs.declared.record.LogRecord.{LogRecord};
 ghost use Rattle.tsdb_memory.specs.Answers.{IsCreateAnswer, IsDeleteAnswer, IsFreezeAnswer};
@@ -9,7 +9,7 @@ ghost use Rattle.tsdb_model.specs.Commands.{IsSchema};
 ghost use Rattle.tsdb_model.specs.declared.command.Command.{Command};
 ghost use Rattle.tsdb_outside.specs.Causes.{HasCause};
 ghost use Rattle.tsdb_outside.specs.Disk.{WhereTold};
-ghost use Rattle.tsdb_memory.specs.Fits.{HasNoPoint};
+ghost use Rattle.tsdb_memory.specs.Fits.{HasNoPairPoint};
 ghost use Rattle.tsdb_base.specs.Limits.{max_frozen};
 
 use crate::engine::Core;
@@ -24,20 +24,20 @@ impl<J: Journal, F: Files> Core<J, F> {
     ghost use Rattle.tsdb_core.specs.RowSteps.{HasStateCounts};
     ghost use Rattle.tsdb_core.specs.Rows.{CanFreezeNow};
     ghost use Rattle.tsdb_core.specs.Sweeps.{IsSwept};
-    ghost use Rattle.tsdb_core.specs.Worlds.{FollowsMap, KeepsWorld};
+    ghost use Rattle.tsdb_core.specs.Worlds.{CoreFollowsMap, CoreKeepsWorld};
     ghost use Rattle.tsdb_fileset.specs.Files.{AreKept};
     ghost use Rattle.tsdb_memory.specs.Closing.{IsClosed};
-    ghost use Rattle.tsdb_memory.specs.Commands.{IsAny, create_record};
+    ghost use Rattle.tsdb_memory.specs.Commands.{NeedsNothing, create_record};
     ghost use Rattle.tsdb_memory.specs.Logged.{memory_of};
 
     /// Creates a series, which is numbered behind the others.
     pub fn create(&mut self, schema: &Schema) -> Answer
         requires { IsSchema schema.now }
         ensures answer { IsCreateAnswer (memory_of (logged_of self.old)) schema.now.path result }
-        ensures command { IsCoreCommand self.old self.new (create_record schema.now) IsAny result }
+        ensures command { IsCoreCommand self.old self.new (create_record schema.now) NeedsNothing result }
         ensures memory { MemoryAfter (HasCreated schema.now) (memory_of (logged_of self.old))
             (memory_of (logged_of self.new)) result }
-        ensures map { FollowsMap self.old self.new (Command.Create schema.now) result }
+        ensures map { CoreFollowsMap self.old self.new (Command.Create schema.now) result }
     {
         self.logged.create(schema)
     }
@@ -45,9 +45,9 @@ impl<J: Journal, F: Files> Core<J, F> {
     /// Deletes the points of a series in a range.
     pub fn delete(&mut self, series: &Path, range: &Range) -> Answer
         ensures answer { IsDeleteAnswer (memory_of (logged_of self.old)) series.now result }
-        ensures command { IsCoreCommand self.old self.new (LogRecord.Delete series.now range.now) IsAny result }
+        ensures command { IsCoreCommand self.old self.new (LogRecord.Delete series.now range.now) NeedsNothing result }
         ensures memory { DeletesPoints series.now range.now self.old self.new result }
-        ensures map { FollowsMap self.old self.new (Command.Delete series.now range.now) result }
+        ensures map { CoreFollowsMap self.old self.new (Command.Delete series.now range.now) result }
     {
         let listed = self.files.least_born();
         self.logged.delete(series, range, listed)
@@ -55,16 +55,17 @@ impl<J: Journal, F: Files> Core<J, F> {
 
     /// Freezes the working pair, where it has a point. At most one pair may be frozen before then.
     pub fn freeze(&mut self) -> Answer
-        requires { HasNoPoint (working_of self.old) ⊎ (length (memory_of (logged_of self.old)).frozen < max_frozen) }
+        requires { HasNoPairPoint (working_of self.old)
+            ⊎ (length (memory_of (logged_of self.old)).frozen < max_frozen) }
         ensures answer { IsFreezeAnswer result }
-        ensures idle { HasNoPoint (working_of self.old) → (result ≡ Answer.Done) × (self.new ≡ self.old) }
-        ensures command { ¬ HasNoPoint (working_of self.old)
-            → IsCoreCommand self.old self.new LogRecord.Freeze IsAny result }
-        ensures memory { ¬ HasNoPoint (working_of self.old) → MemoryAfter HasFrozen (memory_of (logged_of self.old))
+        ensures idle { HasNoPairPoint (working_of self.old) → (result ≡ Answer.Done) × (self.new ≡ self.old) }
+        ensures command { ¬ HasNoPairPoint (working_of self.old)
+            → IsCoreCommand self.old self.new LogRecord.Freeze NeedsNothing result }
+        ensures memory { ¬ HasNoPairPoint (working_of self.old) → MemoryAfter HasFrozen (memory_of (logged_of self.old))
             (memory_of (logged_of self.new)) result }
-        ensures emptied { result ≡ Answer.Done → HasNoPoint (working_of self.new) }
-        ensures can { ¬ HasNoPoint (working_of self.old) → CanFreezeNow self.old }
-        ensures world { KeepsWorld self.old self.new }
+        ensures emptied { result ≡ Answer.Done → HasNoPairPoint (working_of self.new) }
+        ensures can { ¬ HasNoPairPoint (working_of self.old) → CanFreezeNow self.old }
+        ensures world { CoreKeepsWorld self.old self.new }
         ensures kept { KeepsFiles self.old self.new }
     {
         if self.is_idle() {
@@ -75,7 +76,7 @@ impl<J: Journal, F: Files> Core<J, F> {
 
     /// Whether the working pair has no point.
     fn is_idle(&self) -> bool
-        ensures idle { IsTrue result ↔ HasNoPoint (working_of self.now) }
+        ensures idle { IsTrue result ↔ HasNoPairPoint (working_of self.now) }
         ensures counts { HasStateCounts self.now }
     {
         self.tell_counts();
@@ -99,7 +100,7 @@ impl<J: Journal, F: Files> Core<J, F> {
     pub fn sweep(&mut self, port: &mut F::Port) -> Result<u64, Failed>
         requires store { AreOfStore (F.Port.store port.old) (files_of self.old).places }
         ensures swept { IsSwept self.old self.new result }
-        ensures world { KeepsWorld self.old self.new }
+        ensures world { CoreKeepsWorld self.old self.new }
         ensures same_store { F.Port.store port.new ≡ F.Port.store port.old }
         ensures no_fault { OnOk result (F.Port.faults port.new ≡ F.Port.faults port.old) }
         ensures cause { HasCause (F.Port.faults port.old) (F.Port.faults port.new) result }
@@ -115,7 +116,7 @@ impl<J: Journal, F: Files> Core<J, F> {
         ensures log { IsClosed (logged_of self) (J.state result) (J.faults result) }
         ensures at_rest { WhereTold (ArePutBack (names_at (files_of self).places)) (F.at_rest files.old)
             (F.at_rest files.new) }
-        ensures rising { AreRising (files_of self).places }
+        ensures rising { AreNumbersRising (files_of self).places }
         ensures kept { AreKept (files_of self) }
         ensures same_store { F.store files.new ≡ F.store files.old }
         ensures faults { F.faults files.new ≡ F.faults files.old }

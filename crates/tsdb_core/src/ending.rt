@@ -1,9 +1,9 @@
 //! How one part of a flush ends among the kept files. Depends on tsdb_flush and tsdb_fileset.
 ghost use Rattle.std.specs.Prelude.{◌≡◌, IfSome, None};
 ghost use Rattle.std.specs.Option.{option_map};
-ghost use Rattle.tsdb_tasks.specs.Files.{new_file};
+ghost use Rattle.tsdb_tasks.specs.Files.{file_built};
 ghost use Rattle.tsdb_core.specs.declared.commit.Commit.{Commit as HowEnded};
-ghost use Rattle.tsdb_core.specs.Ending.{IsNumbered, PartEnds};
+ghost use Rattle.tsdb_core.specs.Ending.{IsNumberedOutput, PartEnds};
 ghost use Rattle.tsdb_fileset.specs.Files.{IsOpen};
 ghost use Rattle.tsdb_fileset.specs.Room.{HasRoom};
 
@@ -22,8 +22,8 @@ pub(crate) fn end_part<F: Files>(
 )
     requires place { IfSome number (λ drawn. IsOpen drawn.0 files.old) }
     requires room { IfSome number (λ drawn. HasRoom space files.old.spare) }
-    requires numbered { IfSome file (IsNumbered F.Sealed.rights number) }
-    ensures { PartEnds commit space number (option_map (new_file F.Sealed.file) file) files.old files.new }
+    requires numbered { IfSome file (IsNumberedOutput F.Sealed.rights number) }
+    ensures { PartEnds commit space number (option_map (file_built F.Sealed.file) file) files.old files.new }
 {
     let Some(built) = file else {
         give_up::<F>(files, space, number);

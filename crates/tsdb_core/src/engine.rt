@@ -5,7 +5,7 @@ ghost use Rattle.tsdb_core.specs.Limits.{IsPairLimit};
 ghost use Rattle.tsdb_fileset.specs.Held.{AreFilesOf, TellTheirBytes};
 ghost use Rattle.tsdb_fileset.specs.Files.{AreKept, entries_in};
 ghost use Rattle.tsdb_memory.specs.Logged.{Outside};
-ghost use Rattle.tsdb_memtable.specs.Pairs.{count};
+ghost use Rattle.tsdb_memtable.specs.Pairs.{space_count};
 ghost use Rattle.tsdb_state.specs.NewStore.{opened};
 ghost use Rattle.tsdb_state.specs.State.{StoreState};
 
@@ -13,14 +13,14 @@ use crate::options::{Options, PairLimit};
 use std::alloc::Global;
 use tsdb_base::{FileNumber, Space, Stamp};
 use tsdb_fileset::{KeptFiles, Outgoing};
-use tsdb_memory::{Logged, MemoryStore};
+use tsdb_memory::{LoggedMemory, MemoryStore};
 use tsdb_outside::{Files, Journal};
 use tsdb_plan::FileEntry;
 
 /// What is in memory behind its log, and the files that are kept beside it.
 pub struct Core<J: Journal, F: Files> {
     pub(crate) alloc: Global,
-    pub(crate) logged: Logged<J>,
+    pub(crate) logged: LoggedMemory<J>,
     pub(crate) files: KeptFiles<F>,
     pub(crate) limit: PairLimit,
     pub(crate) next_file: u64,
@@ -29,14 +29,14 @@ pub struct Core<J: Journal, F: Files> {
 }
 
 impl<J: Journal, F: Files> Core<J, F> {
-    ghost use Rattle.tsdb_core.specs.Core.{IsAbove, IsSeen, KeepsJobs, files_of, limit_of, logged_of};
+    ghost use Rattle.tsdb_core.specs.Core.{IsAboveNumbers, IsSeen, KeepsJobs, files_of, limit_of, logged_of};
     ghost use Rattle.tsdb_core.specs.Core.{is_sequence_claimed, newest_born, next_of, working_of};
-    ghost use Rattle.tsdb_memory.specs.Logged.{IsSound, memory_of};
+    ghost use Rattle.tsdb_memory.specs.Logged.{IsSoundLogged, memory_of};
 
     /// The core of these, where the next file gets this number.
     pub fn new(
         alloc: Global,
-        logged: Logged<J>,
+        logged: LoggedMemory<J>,
         files: KeptFiles<F>,
         options: Options,
         next_file: FileNumber,
@@ -47,10 +47,10 @@ impl<J: Journal, F: Files> Core<J, F> {
         ensures limit { limit_of result ≡ options.pair_points }
         ensures next { next_of result ≡ next_file.0 }
         ensures claims { is_sequence_claimed result ≡ false }
-        ensures quiet { IsAbove next_file.0 files → KeepsJobs result [] [] }
+        ensures quiet { IsAboveNumbers next_file.0 files → KeepsJobs result [] [] }
         // It shows the engine that was opened over a replay, where these are of it.
-        ensures opened { (outside : Outside) (store : StoreState) → IsAbove next_file.0 files
-            → IsSound logged outside (opened next_file.0 store)
+        ensures opened { (outside : Outside) (store : StoreState) → IsAboveNumbers next_file.0 files
+            → IsSoundLogged logged outside (opened next_file.0 store)
             → AreFilesOf files outside.known (opened next_file.0 store) → TellTheirBytes files outside.kept
             → IsSeen result outside (opened next_file.0 store) }
     {
@@ -80,7 +80,7 @@ impl<J: Journal, F: Files> Core<J, F> {
 
     /// How many points the working pair has in the space.
     pub fn working(&self, space: Space) -> u64
-        ensures { result ≡ count space (working_of self.now) }
+        ensures { result ≡ space_count space (working_of self.now) }
     {
         self.logged.memory().working().points(space)
     }

@@ -22,10 +22,11 @@ use tsdb_outside::{Failed, Files, Journal};
 impl<J: Journal, F: Files> Core<J, F> {
     ghost use Rattle.tsdb_tasks.specs.Files.{AreDone, AreDoneSoFar, new_files};
     ghost use Rattle.tsdb_core.specs.Core.{files_of, logged_of, next_of};
-    ghost use Rattle.tsdb_core.specs.Flushes.{EndsFlush, IsAbandoned, IsCommit, IsCommitAnswer, IsLoggedAs};
-    ghost use Rattle.tsdb_core.specs.Flushes.{IsNotTaken, IsOldest, IsOut, IsTakeAnswer, IsTaken, IsTakenOrNot};
+    ghost use Rattle.tsdb_core.specs.Flushes.{HasEndedFlush, IsAbandoned, IsCommit, IsCommitAnswer, IsLoggedAs};
+    ghost use Rattle.tsdb_core.specs.Flushes.{IsNotTaken, IsOldestPair, IsOut, IsTakeAnswer, IsFlushTaken};
+    ghost use Rattle.tsdb_core.specs.Flushes.{IsFlushTakenOrNot};
     ghost use Rattle.tsdb_core.specs.Flushes.{TakesMemory};
-    ghost use Rattle.tsdb_core.specs.Worlds.{KeepsWorld};
+    ghost use Rattle.tsdb_core.specs.Worlds.{CoreKeepsWorld};
     ghost use Rattle.tsdb_memory.specs.Logged.{memory_of};
 
     /// The job of the oldest frozen pair, where it was frozen at this stamp or before it. The pair stays frozen. All
@@ -34,8 +35,8 @@ impl<J: Journal, F: Files> Core<J, F> {
         ensures answer { IsTakeAnswer upto.0 (next_of self.old) (memory_of (logged_of self.old)) result }
         ensures none { result ≡ Ok None → Each (λ pair. upto.0 < pair.born) (memory_of (logged_of self.old)).frozen }
         ensures memory { TakesMemory self.old self.new }
-        ensures taken { IsTakenOrNot self.old self.new result }
-        ensures world { KeepsWorld self.old self.new }
+        ensures taken { IsFlushTakenOrNot self.old self.new result }
+        ensures world { CoreKeepsWorld self.old self.new }
     {
         // (it tells that borns of frozen pairs do not fall)
         self.logged.memory().sound();
@@ -58,9 +59,9 @@ impl<J: Journal, F: Files> Core<J, F> {
         requires frozen { 0 < length (memory_of (logged_of self.old)).frozen }
         requires left { next_of self.old + 2 ≤ end_of_numbers }
         ensures memory { TakesMemory self.old self.new }
-        ensures taken { IfOk result (IsTaken self.old self.new) }
+        ensures taken { IfOk result (IsFlushTaken self.old self.new) }
         ensures not { OnErr result (IsNotTaken self.old self.new) }
-        ensures world { KeepsWorld self.old self.new }
+        ensures world { CoreKeepsWorld self.old self.new }
     {
         self.logged.reserve_flushed()?;
         let job = take(self.logged.memory(), self.next_file)?;
@@ -115,7 +116,7 @@ impl<J: Journal, F: Files> Core<J, F> {
 
     /// Whether the oldest frozen pair is that of the job.
     fn is_oldest(&self, job: &FlushJob) -> bool
-        ensures { IsTrue result ↔ IsOldest job.now (memory_of (logged_of self.now)) }
+        ensures { IsTrue result ↔ IsOldestPair job.now (memory_of (logged_of self.now)) }
     {
         match self.logged.memory().frozen().first() {
             Some(oldest) => oldest.born().0 == job.born.0,
@@ -127,7 +128,7 @@ impl<J: Journal, F: Files> Core<J, F> {
     fn end_flush(&mut self, job: &FlushJob, files: Flushed<F>, commit: Commit)
         requires out { IsOut self.old job.now }
         requires done { AreDoneSoFar F.Sealed.file F.Sealed.rights job.now files }
-        ensures ends { EndsFlush self.old self.new job.now (new_files F.Sealed.file files) commit }
+        ensures ends { HasEndedFlush self.old self.new job.now (new_files F.Sealed.file files) commit }
         ensures rest { self.new ≡ record self.old { files = files_of self.new } }
     {
         let Flushed {

@@ -21,19 +21,19 @@ use tsdb_tasks::{Job, Pin};
 
 /// Where no compaction and no right is out, what is kept for flushes is all.
 pub fn nothing_is_lent<J: Journal, F: Files>(_core: &Core<J, F>)
-    ensures { (flushes : List state.FlushJob) → KeepsJobs _core.now flushes [] → AreUnread (files_of _core.now).places
+    ensures { (flushes : List state.FlushState) → KeepsJobs _core.now flushes [] → AreUnread (files_of _core.now).places
         → KeepsLoans _core.now flushes [] [] }
 {}
 
 /// Where no job and no pin has a right, none is out: so the core can be closed.
 pub fn nothing_lent_is_unread<J: Journal, F: Files>(_core: &Core<J, F>)
-    ensures { (flushes : List state.FlushJob) (compactions : List Compaction)
+    ensures { (flushes : List state.FlushState) (compactions : List Compaction)
         → KeepsLoans _core.now flushes compactions [] → AreUnread (files_of _core.now).places }
 {}
 
 /// A flush that is kept can be ended.
 pub fn a_kept_flush_is_out<J: Journal, F: Files>(_core: &Core<J, F>, _job: &FlushJob)
-    ensures { (flush : state.FlushJob) (others flushes : List state.FlushJob) (compactions : List Compaction)
+    ensures { (flush : state.FlushState) (others flushes : List state.FlushState) (compactions : List Compaction)
         (lent : List (List LentRight)) → HasNumbersOf _job.now flush → IsWithOne flush others flushes
         → KeepsLoans _core.now flushes compactions lent → IsOut _core.now _job.now }
 {}
@@ -46,7 +46,7 @@ pub fn a_job_is_of_a_compaction<F: Files>(_job: &Job<F>)
 
 /// A compaction that is kept, with its rights, can be ended.
 pub fn a_kept_compaction_is_out<J: Journal, F: Files>(_core: &Core<J, F>, _job: &Job<F>)
-    ensures { (compaction : Compaction) (others compactions : List Compaction) (flushes : List state.FlushJob)
+    ensures { (compaction : Compaction) (others compactions : List Compaction) (flushes : List state.FlushState)
         (lent : List (List LentRight)) → IsHandedOut _job.now → IsCompactionOf _job.now compaction
         → IsWithOne compaction others compactions → Among (job_rights F.Right.file _job.now) lent
         → KeepsLoans _core.now flushes compactions lent → IsJobOut F.Right.file _core.now _job.now }
@@ -55,7 +55,7 @@ pub fn a_kept_compaction_is_out<J: Journal, F: Files>(_core: &Core<J, F>, _job: 
 /// A pin has the rights that it gives back; where they are kept it can be given back.
 pub fn a_kept_pin_is_held<J: Journal, F: Files>(_core: &Core<J, F>, _pin: &Pin<F>)
     ensures rights { AreOnColumns _pin.now (pin_rights F.Right.file _pin.now) }
-    ensures held { (flushes : List state.FlushJob) (compactions : List Compaction) (lent : List (List LentRight))
+    ensures held { (flushes : List state.FlushState) (compactions : List Compaction) (lent : List (List LentRight))
         → Among (pin_rights F.Right.file _pin.now) lent → KeepsLoans _core.now flushes compactions lent
         → AreColumnsHeld F.Right.file (files_of _core.now) _pin.now.columns }
 {}

@@ -6,10 +6,10 @@ ghost use Rattle.tsdb_core.specs.Beginnings.{IsBegun, IsNotBegun};
 ghost use Rattle.tsdb_core.specs.Commands.{KeepsFiles};
 ghost use Rattle.tsdb_core.specs.Compactions.{IsHandedOut, IsJobOut};
 ghost use Rattle.tsdb_core.specs.Core.{KeepsJobs, files_of};
-ghost use Rattle.tsdb_core.specs.Flushes.{EndsFlush, IsNotTaken, IsOut, IsTaken, TakesMemory};
+ghost use Rattle.tsdb_core.specs.Flushes.{HasEndedFlush, IsNotTaken, IsOut, IsFlushTaken, TakesMemory};
 ghost use Rattle.tsdb_core.specs.Out.{HandsOn, IsWithJob, KeepsOut, Loans, nothing_out, with_flush, with_job, with_pin};
 ghost use Rattle.tsdb_core.specs.Pins.{IsNotPinned, IsPinned, IsUnpinned};
-ghost use Rattle.tsdb_core.specs.Replacements.{EndsJob};
+ghost use Rattle.tsdb_core.specs.Replacements.{HasEndedJob};
 ghost use Rattle.tsdb_core.specs.Sweeps.{IsSwept};
 ghost use Rattle.tsdb_core.specs.declared.commit.Commit.{Commit};
 ghost use Rattle.tsdb_base.specs.declared.ids.Space.{Space};
@@ -47,7 +47,7 @@ pub fn a_taken_flush_is_out<J: Journal, F: Files>(
     _new: &Core<J, F>,
     _job: &FlushJob,
 )
-    ensures { TakesMemory _old.now _new.now → IsTaken _old.now _new.now _job.now → (store : Store) (out : Loans)
+    ensures { TakesMemory _old.now _new.now → IsFlushTaken _old.now _new.now _job.now → (store : Store) (out : Loans)
         → KeepsOut store out _old.now → KeepsOut store (with_flush _job.now out) _new.now }
 {}
 
@@ -63,7 +63,7 @@ pub fn an_ended_flush_is_out_no_longer<J: Journal, F: Files>(
     _new: &Core<J, F>,
     _job: &FlushJob,
 )
-    ensures { (files : NewFiles) (commit : Commit) → EndsFlush _old.now _new.now _job.now files commit
+    ensures { (files : NewFiles) (commit : Commit) → HasEndedFlush _old.now _new.now _job.now files commit
         → (store : Store) (out : Loans) → Each (λ file. file.token.name.store ≡ store) (all_of files)
         → KeepsOut store (with_flush _job.now out) _old.now → KeepsOut store out _new.now }
 {}
@@ -88,7 +88,7 @@ pub fn an_ended_job_is_out_no_longer<J: Journal, F: Files>(
     _new: &Core<J, F>,
     _job: &Job<F>,
 )
-    ensures { (file : Option NewFile) → EndsJob _old.now _new.now _job.now file
+    ensures { (file : Option NewFile) → HasEndedJob _old.now _new.now _job.now file
         → (store : Store) (others all : Loans) → IsHandedOut _job.now
         → IfSome file (λ one. one.token.name.store ≡ store) → IsWithJob F.Right.file _job.now others all
         → KeepsOut store all _old.now → KeepsOut store others _new.now }

@@ -11,7 +11,7 @@ use tsdb_tasks::{Pin, PinFault, give_back, take_pin};
 impl<J: Journal, F: Files> Core<J, F> {
     ghost use Rattle.tsdb_core.specs.Core.{files_of, logged_of};
     ghost use Rattle.tsdb_core.specs.Pins.{IsNotPinned, IsPinned, IsUnpinned};
-    ghost use Rattle.tsdb_core.specs.Worlds.{KeepsWorld};
+    ghost use Rattle.tsdb_core.specs.Worlds.{CoreKeepsWorld};
     ghost use Rattle.tsdb_memory.specs.Logged.{memory_of};
     ghost use Rattle.tsdb_tasks.specs.Pins.{AreColumnsHeld, IsPinAnswer, IsPinFor};
 
@@ -27,7 +27,7 @@ impl<J: Journal, F: Files> Core<J, F> {
             items.now range.now) }
         ensures taken { IfOk result (IsPinned F.Right.file self.old self.new) }
         ensures not { OnErr result (IsNotPinned self.old self.new) }
-        ensures world { KeepsWorld self.old self.new }
+        ensures world { CoreKeepsWorld self.old self.new }
     {
         take_pin(
             self.alloc,

@@ -2,7 +2,7 @@
 //! tsdb_tasks and tsdb_memory.
 ghost use Rattle.std.specs.Option.{option_map};
 ghost use Rattle.std.specs.Prelude.{◌≡◌, ◌+◌, IfSome, false, length, true};
-ghost use Rattle.tsdb_tasks.specs.Files.{new_file};
+ghost use Rattle.tsdb_tasks.specs.Files.{file_built};
 ghost use Rattle.tsdb_tasks.specs.Ending.{IsOutIn, IsOutputNumbered};
 ghost use Rattle.tsdb_tasks.specs.Finishing.{AreRunsOf};
 ghost use Rattle.tsdb_tasks.specs.States.{sent_files};
@@ -30,7 +30,7 @@ impl<J: Journal, F: Files> Core<J, F> {
         requires kind { is_cross job ≡ false }
         requires out { IsJobOut F.Right.file self.old job }
         requires output { IsOutputOf F.Right.file F.Sealed.file F.Sealed.rights job output }
-        ensures { IsJobCommit F.Right.file self.old self.new job (option_map (new_file F.Sealed.file) output) result }
+        ensures { IsJobCommit F.Right.file self.old self.new job (option_map (file_built F.Sealed.file) output) result }
     {
         self.commit_job(job, output)
     }
@@ -40,7 +40,7 @@ impl<J: Journal, F: Files> Core<J, F> {
         requires kind { is_cross job ≡ true }
         requires out { IsJobOut F.Right.file self.old job }
         requires output { IsOutputOf F.Right.file F.Sealed.file F.Sealed.rights job output }
-        ensures { IsJobCommit F.Right.file self.old self.new job (option_map (new_file F.Sealed.file) output) result }
+        ensures { IsJobCommit F.Right.file self.old self.new job (option_map (file_built F.Sealed.file) output) result }
     {
         self.commit_job(job, output)
     }
@@ -50,7 +50,7 @@ impl<J: Journal, F: Files> Core<J, F> {
     pub fn abandon(&mut self, job: Job<F>, output: Option<Built<F>>)
         requires out { IsJobOut F.Right.file self.old job }
         requires output { IfSome output (IsOutputNumbered F.Sealed.rights job) }
-        ensures { IsJobAbandoned self.old self.new job (option_map (new_file F.Sealed.file) output) }
+        ensures { IsJobAbandoned self.old self.new job (option_map (file_built F.Sealed.file) output) }
     {
         self.tell_kept();
         self.free_sequence(job.space);
@@ -61,7 +61,7 @@ impl<J: Journal, F: Files> Core<J, F> {
     fn commit_job(&mut self, job: Job<F>, output: Option<Built<F>>) -> Result<(), Failed>
         requires out { IsJobOut F.Right.file self.old job }
         requires output { IsOutputOf F.Right.file F.Sealed.file F.Sealed.rights job output }
-        ensures { IsJobCommit F.Right.file self.old self.new job (option_map (new_file F.Sealed.file) output) result }
+        ensures { IsJobCommit F.Right.file self.old self.new job (option_map (file_built F.Sealed.file) output) result }
     {
         self.tell_kept();
         let runs = runs_of(&self.files, &job);
@@ -81,7 +81,7 @@ impl<J: Journal, F: Files> Core<J, F> {
         requires out { IsJobOut F.Right.file self.old job }
         requires runs { AreRunsOf job runs (files_of self.old) }
         ensures job { result.0 ≡ job }
-        ensures logged { AppendsEnd self.old self.new job runs (option_map (new_file F.Sealed.file) output.now)
+        ensures logged { AppendsEnd self.old self.new job runs (option_map (file_built F.Sealed.file) output.now)
             result.1 }
         ensures rest { self.new ≡ record self.old { logged = logged_of self.new } }
     {
@@ -118,7 +118,7 @@ impl<J: Journal, F: Files> Core<J, F> {
         requires all { length job.sequence + length job.unsequence ≡ length job.inputs }
         requires runs { AreRunsOf job runs (files_of self.old) }
         requires output { IfSome output (IsOutputNumbered F.Sealed.rights job) }
-        ensures files { EndsFiles job runs (option_map (new_file F.Sealed.file) output) (files_of self.old)
+        ensures files { EndsFiles job runs (option_map (file_built F.Sealed.file) output) (files_of self.old)
             (files_of self.new) outcome.now }
         ensures rest { self.new ≡ record self.old { files = files_of self.new } }
     {
@@ -164,7 +164,7 @@ fn inputs_in(item: LogRecord) -> Option<(List<FileNumber>, List<FileNumber>)>
 
 /// The number of the output in a record, 0 for none.
 fn number_of<F: Files>(output: &Option<Built<F>>) -> FileNumber
-    ensures { result ≡ record { 0 = output_number (sent_files (option_map (new_file F.Sealed.file) output.now)) } }
+    ensures { result ≡ record { 0 = output_number (sent_files (option_map (file_built F.Sealed.file) output.now)) } }
 {
     match output {
         Some(built) => built.entry.number,

@@ -1,7 +1,7 @@
 //! Rows: an insert, and whether a flush has to come before it. Depends on `engine` and tsdb_memory.
 ghost use Rattle.std.specs.Prelude.{◌≡◌, ◌≢◌, ◌↔◌, ◌<◌, ◌≤◌, IfErr, IfOk, IsTrue, OnOk};
 ghost use Rattle.tsdb_memory.specs.MapAnswers.{IsInsertAnswer};
-ghost use Rattle.tsdb_core.specs.RowSteps.{AreReadCells, IsUntouched};
+ghost use Rattle.tsdb_core.specs.RowSteps.{AreReadCells, IsUnchangedAnswer};
 ghost use Rattle.tsdb_base.specs.declared.answers.Answer.{Answer as AnswerOf};
 ghost use Rattle.tsdb_frames.specs.Frames.{faults_of};
 ghost use Rattle.tsdb_memory.specs.Answers.{IsFreezeAnswer};
@@ -17,7 +17,7 @@ use crate::engine::Core;
 use tsdb_base::limits::{END_OF_NUMBERS, MAX_FROZEN};
 use tsdb_base::{Answer, List};
 use tsdb_log::CellRecord;
-use tsdb_memory::{cells_of, fits};
+use tsdb_memory::{cells_of, fits_pair};
 use tsdb_model::Row;
 use tsdb_outside::{Files, Journal};
 use tsdb_path::Path;
@@ -28,10 +28,10 @@ const LAST_STAMP: u64 = END_OF_NUMBERS;
 impl<J: Journal, F: Files> Core<J, F> {
     ghost use Rattle.tsdb_core.specs.Commands.{KeepsFiles};
     ghost use Rattle.tsdb_core.specs.Core.{limit_of, logged_of};
-    ghost use Rattle.tsdb_core.specs.Rows.{CountsRow, Fits, HasPlace, IsFrozenFor, IsRowCommand, LeavesRow};
+    ghost use Rattle.tsdb_core.specs.Rows.{CountsRow, FitsCore, HasRowPlace, IsFrozenFor, IsRowCommand, LeavesRow};
     ghost use Rattle.tsdb_core.specs.Rows.{NeedsFlush};
     ghost use Rattle.tsdb_core.specs.RowSteps.{CanFreezeFor, HasStateCounts};
-    ghost use Rattle.tsdb_core.specs.Worlds.{FollowsMap, IsWorldOf};
+    ghost use Rattle.tsdb_core.specs.Worlds.{CoreFollowsMap, IsWorldOf};
     ghost use Rattle.tsdb_memory.specs.Logged.{log_of, memory_of};
 
     /// Whether the row does not fit the working pair, and two pairs are frozen: then a flush has to come first.
@@ -40,7 +40,7 @@ impl<J: Journal, F: Files> Core<J, F> {
         ensures { IsTrue result ↔ NeedsFlush row.now self.now }
     {
         let memory = self.logged.memory();
-        !fits(memory, row, self.limit.points()) && memory.frozen().len() == MAX_FROZEN
+        !fits_pair(memory, row, self.limit.points()) && memory.frozen().len() == MAX_FROZEN
     }
 
     /// Writes a row. One that does not fit the working pair is put into a new one, and the other is frozen.
@@ -52,7 +52,7 @@ impl<J: Journal, F: Files> Core<J, F> {
         ensures answer { IsInsertAnswer (memory_of (logged_of self.old)) device.now row.now.cells result }
         ensures row { IsRowCommand device.now row.now self.old self.new result }
         ensures memory { CountsRow self.old self.new result }
-        ensures map { FollowsMap self.old self.new (Command.Insert device.now row.now) result }
+        ensures map { CoreFollowsMap self.old self.new (Command.Insert device.now row.now) result }
         ensures moments { LeavesRow device.now row.now self.old self.new }
         ensures kept { KeepsFiles self.old self.new }
         ensures cause { result ≡ AnswerOf.Device
@@ -70,7 +70,7 @@ impl<J: Journal, F: Files> Core<J, F> {
         requires { IsRow row.now }
         ensures cells { IfOk result (AreReadCells (memory_of (logged_of self.now)).series device.now row.now.cells) }
         ensures answer { IfErr result (IsInsertAnswer (memory_of (logged_of self.now)) device.now row.now.cells) }
-        ensures untouched { IfErr result IsUntouched }
+        ensures untouched { IfErr result IsUnchangedAnswer }
         ensures stamp { OnOk result ((memory_of (logged_of self.now)).stamp < end_of_numbers) }
     {
         let memory = self.logged.memory();
@@ -105,9 +105,9 @@ impl<J: Journal, F: Files> Core<J, F> {
         requires row { IsRow row.now }
         requires place { ¬ NeedsFlush row.now self.old }
         ensures answer { IsFreezeAnswer result }
-        ensures done { result ≡ AnswerOf.Done → HasPlace row.now self.old self.new }
+        ensures done { result ≡ AnswerOf.Done → HasRowPlace row.now self.old self.new }
         ensures failed { result ≢ AnswerOf.Done → IsFrozenFor row.now self.old self.new result }
-        ensures fits { result ≡ AnswerOf.Done → Fits row.now self.new }
+        ensures fits { result ≡ AnswerOf.Done → FitsCore row.now self.new }
         ensures counts { HasStateCounts self.new }
         ensures series { (memory_of (logged_of self.new)).series ≡ (memory_of (logged_of self.old)).series }
         ensures stamp { (memory_of (logged_of self.new)).stamp ≡ (memory_of (logged_of self.old)).stamp }
@@ -116,7 +116,7 @@ impl<J: Journal, F: Files> Core<J, F> {
     {
         let memory = self.logged.memory();
         memory.sound();
-        if fits(memory, row, self.limit.points()) {
+        if fits_pair(memory, row, self.limit.points()) {
             return Answer::Done;
         }
         let answer = self.logged.freeze();

@@ -11,11 +11,11 @@ use Rattle.tsdb_fileset.specs.declared.room.Spare.{Spare}
 use Rattle.tsdb_fileset.specs.Files.{Appends, IsOpen, listed_borns}
 use Rattle.tsdb_fileset.specs.Growth.{AppendsTo, HasOneMore, HasRoomLeft}
 use Rattle.tsdb_fileset.specs.Kept.{AreSound, view_of}
-use Rattle.tsdb_fileset.specs.Places.{KeptFile, OthersStay, place_at}
+use Rattle.tsdb_fileset.specs.Places.{KeptFile, OthersStay, place_of_number}
 use Rattle.tsdb_fileset.specs.Room.{HasRoom, less_room}
 use Rattle.tsdb_fileset.proofs.Leasts.{least_appended}
 use Rattle.tsdb_fileset.proofs.Numbers.{appended, kept_more, sent_out}
-use Rattle.tsdb_flush.specs.Least.{IsLeastOf, lesser}
+use Rattle.tsdb_flush.specs.Least.{IsLeastOf, lesser_born}
 use Rattle.tsdb_plan.specs.declared.entry.FileEntry.{FileEntry}
 
 -- the other promised places are there once one of them is used
@@ -56,11 +56,11 @@ module _ {F S R P : Type 0} where
 
   pub enlisted : (space : Space) (entry : FileEntry) (file : KeptFile) (old new : Inside F S R P) → AreSound old
       → IsOpen entry.number.0 (view_of old) → HasRoom space old.spare
-      → place_at entry.number.0 new.tokens.entries ≡ Some (Some file)
+      → place_of_number entry.number.0 new.tokens.entries ≡ Some (Some file)
       → OthersStay entry.number.0 old.tokens.entries new.tokens.entries
       → AppendsTo space entry old.sequence new.sequence old.unsequence new.unsequence
       → new.outgoing ≡ old.outgoing → new.spare ≡ less_room space old.spare
-      → new.least ≡ Some (lesser old.least entry.born.0) → AreSound new
+      → new.least ≡ Some (lesser_born old.least entry.born.0) → AreSound new
   enlisted space entry file old new sound empty room here others is out spare least =
       let is_view = appends space entry old new is in
       let same = ap (λ v. v.items) out in
@@ -79,7 +79,7 @@ module _ {F S R P : Type 0} where
 
   pub sent : (space : Space) (entry : FileEntry) (file : KeptFile) (old new : Inside F S R P) → AreSound old
       → IsOpen entry.number.0 (view_of old) → HasRoom space old.spare
-      → place_at entry.number.0 new.tokens.entries ≡ Some (Some file)
+      → place_of_number entry.number.0 new.tokens.entries ≡ Some (Some file)
       → OthersStay entry.number.0 old.tokens.entries new.tokens.entries
       → new.sequence ≡ old.sequence → new.unsequence ≡ old.unsequence
       → HasOneMore (record { number = entry.number; born = entry.born }) old.outgoing new.outgoing

@@ -8,7 +8,7 @@ use Rattle.tsdb_base.specs.declared.ids.Stamp.{Stamp}
 use Rattle.tsdb_fileset.specs.Files.{Appends, KeptFiles, listed_borns}
 use Rattle.tsdb_base.specs.Lists.{Among}
 use Rattle.tsdb_base.proofs.Lists.{each_append, each_left, each_right}
-use Rattle.tsdb_flush.specs.Least.{IsLeastOf, lesser}
+use Rattle.tsdb_flush.specs.Least.{IsLeastOf, lesser_born}
 use Rattle.tsdb_flush.proofs.Borns.{least_push}
 use Rattle.tsdb_plan.specs.declared.entry.FileEntry.{FileEntry}
 
@@ -40,7 +40,7 @@ borns entries = map (λ entry. entry.born.0) entries
 
 pub least_appended : (space : Space) (entry : FileEntry) (least : Option Stamp) (old new : KeptFiles)
     → Appends space entry old new → IsLeastOf least (listed_borns old)
-    → IsLeastOf (Some (lesser least entry.born.0)) (listed_borns new)
+    → IsLeastOf (Some (lesser_born least entry.born.0)) (listed_borns new)
 least_appended Sequence entry least old new is was =
     let all = least_push least (listed_borns old) entry.born.0 was in
     let split = map-append (λ e. e.born.0) old.sequence old.unsequence in
@@ -48,7 +48,7 @@ least_appended Sequence entry least old new is was =
     ap (map (λ e. e.born.0)) (λ i. is.0 i ++ is.1 i)
     ∙ map-append (λ e. e.born.0) (old.sequence ++ entry ∷ []) old.unsequence
     ∙ ap (λ front. front ++ borns old.unsequence) (map-append (λ e. e.born.0) old.sequence (entry ∷ [])) in
-    let l = lesser least entry.born.0 in
+    let l = lesser_born least entry.born.0 in
     let parts = subst (λ bs. IsLeastOf (Some l) (bs ++ entry.born.0 ∷ [])) split all in
     subst (IsLeastOf (Some l)) (sym now) (
       among_moved l.0 entry.born.0 (borns old.sequence) (borns old.unsequence) parts.0,
@@ -58,5 +58,5 @@ least_appended Unsequence entry least old new is was =
     let now : listed_borns new ≡ listed_borns old ++ entry.born.0 ∷ [] =
     ap (map (λ e. e.born.0)) ((λ i. is.0 i ++ is.1 i) ∙ sym (append_assoc old.sequence old.unsequence (entry ∷ [])))
     ∙ map-append (λ e. e.born.0) (old.sequence ++ old.unsequence) (entry ∷ []) in
-    subst (IsLeastOf (Some (lesser least entry.born.0))) (sym now)
+    subst (IsLeastOf (Some (lesser_born least entry.born.0))) (sym now)
     (least_push least (listed_borns old) entry.born.0 was)

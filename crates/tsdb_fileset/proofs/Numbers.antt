@@ -7,15 +7,15 @@ use Rattle.std.proofs.lemmas.List.{map-append}
 use Rattle.tsdb_base.specs.declared.ids.Space.{Space}
 use Rattle.tsdb_base.specs.declared.ids.Space.TheVariants.{Sequence, Unsequence}
 use Rattle.tsdb_fileset.specs.declared.files.Outgoing.{Outgoing}
-use Rattle.tsdb_fileset.specs.Files.{Appends, AreKept, IsOpen, KeptFiles, entry_numbers, kept_file, numbers_of}
+use Rattle.tsdb_fileset.specs.Files.{Appends, AreKept, IsOpen, KeptFiles, entry_numbers, kept_file, all_numbers}
 use Rattle.tsdb_fileset.specs.Files.{outgoing_numbers}
-use Rattle.tsdb_fileset.specs.Places.{KeptFile, OthersStay, file_at, place_at}
+use Rattle.tsdb_fileset.specs.Places.{KeptFile, OthersStay, file_at, place_of_number}
 use Rattle.tsdb_base.specs.Lists.{count, if_some}
 use Rattle.tsdb_base.proofs.Lists.{count_append}
 use Rattle.tsdb_plan.specs.declared.entry.FileEntry.{FileEntry}
 
 -- how often a number is that of a file
-pub all_counted : (n : ℕ) (files : KeptFiles) → count n (numbers_of files)
+pub all_counted : (n : ℕ) (files : KeptFiles) → count n (all_numbers files)
     ≡ (count n (entry_numbers files.sequence) + count n (entry_numbers files.unsequence))
     + count n (outgoing_numbers files.outgoing)
 all_counted n files =
@@ -41,7 +41,7 @@ count_outgoing n files file =
 -- the number of one more file counts once more
 abbrev pub HasNumberMore : ℕ → KeptFiles → KeptFiles → Type 0
 HasNumberMore number old new =
-    (n : ℕ) → count n (numbers_of new) ≡ count n (numbers_of old) + cond (number == n) 1 0
+    (n : ℕ) → count n (all_numbers new) ≡ count n (all_numbers old) + cond (number == n) 1 0
 
 pub appended : (space : Space) (entry : FileEntry) (old new : KeptFiles) → Appends space entry old new
     → new.outgoing ≡ old.outgoing → HasNumberMore entry.number.0 old new
@@ -72,21 +72,21 @@ sent_out file old new sequence unsequence outgoing n =
 
 -- one more file is kept, in the place that was made for it
 pub kept_more : (number : ℕ) (file : KeptFile) (old new : KeptFiles) → AreKept old → IsOpen number old
-    → place_at number new.places ≡ Some (Some file) → OthersStay number old.places new.places
+    → place_of_number number new.places ≡ Some (Some file) → OthersStay number old.places new.places
     → HasNumberMore number old new → AreKept new
 kept_more number file old new kept empty here others more n = by (number == n) refl
   where
-    by : (b : Bool) → (number == n) ≡ b → count n (numbers_of new) ≡ length (if_some (kept_file n new))
+    by : (b : Bool) → (number == n) ≡ b → count n (all_numbers new) ≡ length (if_some (kept_file n new))
     by true is =
         let same : number ≡ n = (unsigned_Decides number n).0 is in
-        let was = ap (λ m. place_at m old.places) (sym same) ∙ empty in
-        let now = ap (λ m. place_at m new.places) (sym same) ∙ here in
+        let was = ap (λ m. place_of_number m old.places) (sym same) ∙ empty in
+        let now = ap (λ m. place_of_number m new.places) (sym same) ∙ here in
         let none = ap (λ place. length (if_some (file_at place))) was in
         let one = ap (λ place. length (if_some (file_at place))) now in
-        let added = more n ∙ ap (λ b. count n (numbers_of old) + cond b 1 0) is in
+        let added = more n ∙ ap (λ b. count n (all_numbers old) + cond b 1 0) is in
         omega (arith, kept n, added, none, one)
     by false is =
         let apart : number ≢ n = λ same. false≢true (sym is ∙ (unsigned_Decides number n).1 same) in
         let same = ap (λ place. length (if_some (file_at place))) (others n apart) in
-        let added = more n ∙ ap (λ b. count n (numbers_of old) + cond b 1 0) is in
+        let added = more n ∙ ap (λ b. count n (all_numbers old) + cond b 1 0) is in
         omega (arith, kept n, added, same)

@@ -13,39 +13,39 @@ use Rattle.std.proofs.lemmas.Bool.Decides.{nat_tests}
 use Rattle.std.proofs.lemmas.Cmp.{nat_cmp_total, tied_itself}
 use Rattle.std.proofs.lemmas.Bool.{false_from_ne_true}
 use Rattle.std.proofs.lemmas.Map.Lookups.{exact_unsigned}
-use Rattle.tsdb_fileset.specs.Places.{KeptFile, OnlyMakesPlaces, Places, TakesAway, file_at, is_number, is_one_of, place_at}
+use Rattle.tsdb_fileset.specs.Places.{KeptFile, OnlyMakesPlaces, Places, TakesAway, file_at, is_same_number, is_one_of, place_of_number}
 
-pub same_number : (number other : ℕ) → is_number number other ≡ true → number ≡ other
+pub same_number : (number other : ℕ) → is_same_number number other ≡ true → number ≡ other
 same_number number other is = exact_unsigned number other ((Equal-is (nat_cmp number other)).0 is)
 
-pub other_number : (number other : ℕ) → number ≢ other → is_number number other ≡ false
+pub other_number : (number other : ℕ) → number ≢ other → is_same_number number other ≡ false
 other_number number other apart = false_from_ne_true _ (λ is. apart (same_number number other is))
 
 -- a place is made where there was none
-pub place_made : (number : ℕ) (old new : Places) → place_at number old ≡ None
-    → ((other : ℕ) → place_at other new ≡ cond (is_number number other) (Some None) (place_at other old))
+pub place_made : (number : ℕ) (old new : Places) → place_of_number number old ≡ None
+    → ((other : ℕ) → place_of_number other new ≡ cond (is_same_number number other) (Some None) (place_of_number other old))
     → OnlyMakesPlaces old new
 place_made number old new none set = record {
-  files = λ other. ap file_at (set other) ∙ file other (is_number number other) refl;
-  places = λ other empty. set other ∙ place other empty (is_number number other);
+  files = λ other. ap file_at (set other) ∙ file other (is_same_number number other) refl;
+  places = λ other empty. set other ∙ place other empty (is_same_number number other);
 }
   where
-    file : (other : ℕ) (b : Bool) → is_number number other ≡ b
-        → file_at (cond b (Some None) (place_at other old)) ≡ file_at (place_at other old)
-    file other true is = sym (ap file_at (ap (λ n. place_at n old) (sym (same_number number other is)) ∙ none))
+    file : (other : ℕ) (b : Bool) → is_same_number number other ≡ b
+        → file_at (cond b (Some None) (place_of_number other old)) ≡ file_at (place_of_number other old)
+    file other true is = sym (ap file_at (ap (λ n. place_of_number n old) (sym (same_number number other is)) ∙ none))
     file other false is = refl
 
-    place : (other : ℕ) → place_at other old ≡ Some None → (b : Bool)
-        → cond b (Some None) (place_at other old) ≡ Some None
+    place : (other : ℕ) → place_of_number other old ≡ Some None → (b : Bool)
+        → cond b (Some None) (place_of_number other old) ≡ Some None
     place other empty true = refl
     place other empty false = empty
 
 -- one place goes
 pub one_taken : (number : ℕ) (old new : Places)
-    → ((other : ℕ) → place_at other new ≡ cond (is_number number other) None (place_at other old))
+    → ((other : ℕ) → place_of_number other new ≡ cond (is_same_number number other) None (place_of_number other old))
     → TakesAway (number ∷ []) old new
 one_taken number old new set other =
-    set other ∙ ap (λ b. cond b None (place_at other old)) (same_test (is_number number other) refl)
+    set other ∙ ap (λ b. cond b None (place_of_number other old)) (same_test (is_same_number number other) refl)
   where
     same : (a b : ℕ) → a ≡ b → nat_eq b a ≡ true
     same a b e = grind (arith, nat_tests)
@@ -53,10 +53,10 @@ one_taken number old new set other =
     equal : (a b : ℕ) → nat_eq b a ≡ true → a ≡ b
     equal a b e = grind (arith, nat_tests)
 
-    is_same : (a b : ℕ) → a ≡ b → is_number a b ≡ true
-    is_same a b e = ap (is_number a) (sym e) ∙ ap is_eq (tied_itself nat_cmp_total a)
+    is_same : (a b : ℕ) → a ≡ b → is_same_number a b ≡ true
+    is_same a b e = ap (is_same_number a) (sym e) ∙ ap is_eq (tied_itself nat_cmp_total a)
 
-    same_test : (b : Bool) → is_number number other ≡ b → is_number number other ≡ is_one_of (number ∷ []) other
+    same_test : (b : Bool) → is_same_number number other ≡ b → is_same_number number other ≡ is_one_of (number ∷ []) other
     same_test true is = is ∙ sym (ap (λ b. b || false) (same number other (same_number number other is)))
     same_test false is = is ∙ by (nat_eq other number) refl
       where

@@ -16,18 +16,18 @@ use Rattle.tsdb_base.specs.declared.ids.Stamp.{Stamp}
 use Rattle.tsdb_fileset.proofs.Numbers.{all_counted}
 use Rattle.tsdb_fileset.specs.declared.files.KeptFiles.TheInside.{Inside}
 use Rattle.tsdb_fileset.specs.declared.files.Outgoing.{Outgoing}
-use Rattle.tsdb_fileset.specs.Files.{AreKept, IsOpen, KeptFiles, entry_numbers, kept_file, listed_borns, numbers_of}
+use Rattle.tsdb_fileset.specs.Files.{AreKept, IsOpen, KeptFiles, entry_numbers, kept_file, listed_borns, all_numbers}
 use Rattle.tsdb_fileset.specs.Files.{outgoing_numbers}
 use Rattle.tsdb_fileset.specs.Growth.{HasRoomLeft}
 use Rattle.tsdb_fileset.specs.Kept.{AreSound, view_of}
-use Rattle.tsdb_fileset.specs.Places.{KeptFile, OthersStay, file_at, place_at}
+use Rattle.tsdb_fileset.specs.Places.{KeptFile, OthersStay, file_at, place_of_number}
 use Rattle.tsdb_fileset.specs.Replacing.{HasClaims, HasListRoom, IsReplacedIn, IsWithin, claim_run, leaving}
-use Rattle.tsdb_fileset.specs.Replacing.{HasReplaced, borns_of, leaving_run, less_compaction, output_in, replace_run}
+use Rattle.tsdb_fileset.specs.Replacing.{HasReplaced, entry_borns, leaving_run, less_compaction, output_in, replace_run}
 use Rattle.tsdb_fileset.specs.Replacing.{run_length, stamps_of, with_claim}
 use Rattle.tsdb_base.proofs.Lists.{count_append}
 use Rattle.tsdb_base.specs.Lists.{count, if_some}
 use Rattle.tsdb_flush.proofs.Borns.{least_all}
-use Rattle.tsdb_flush.specs.Least.{IsLeastOf, least_with, lesser}
+use Rattle.tsdb_flush.specs.Least.{IsLeastOf, least_with, lesser_born}
 use Rattle.tsdb_plan.specs.declared.entry.FileEntry.{FileEntry}
 use Rattle.tsdb_plan.specs.declared.entry.Run.{Run}
 
@@ -35,50 +35,50 @@ use Rattle.tsdb_plan.specs.declared.entry.Run.{Run}
 
 pub least_next : (entries : List FileEntry) (i : ℕ) (entry : FileEntry) (least : Option Stamp) → i < length entries
     → entry ≡ get_or entries i entry
-    → least_with least (borns_of (drop i entries))
-    ≡ least_with (Some (lesser least entry.born.0)) (borns_of (drop (i + 1) entries))
+    → least_with least (entry_borns (drop i entries))
+    ≡ least_with (Some (lesser_born least entry.born.0)) (entry_borns (drop (i + 1) entries))
 least_next entries i entry least within is =
-    ap (λ l. least_with least (borns_of l))
+    ap (λ l. least_with least (entry_borns l))
     (drop_more entries i entry within ∙ ap (λ (x : FileEntry). x ∷ drop (i + 1) entries) (sym is))
 
 pub least_end : (entries : List FileEntry) (i : ℕ) (least : Option Stamp) → length entries ≤ i
-    → least_with least (borns_of (drop i entries)) ≡ least
-least_end entries i least past = ap (λ l. least_with least (borns_of l)) (drop_all i entries past)
+    → least_with least (entry_borns (drop i entries)) ≡ least
+least_end entries i least past = ap (λ l. least_with least (entry_borns l)) (drop_all i entries past)
 
 pub least_of_both : (sequence unsequence : List FileEntry)
-    → IsLeastOf (least_with (least_with None (borns_of sequence)) (borns_of unsequence))
+    → IsLeastOf (least_with (least_with None (entry_borns sequence)) (entry_borns unsequence))
     (map (λ (e : FileEntry). e.born.0) (sequence ++ unsequence))
 least_of_both sequence unsequence =
-    subst (IsLeastOf (least_with (least_with None (borns_of sequence)) (borns_of unsequence)))
+    subst (IsLeastOf (least_with (least_with None (entry_borns sequence)) (entry_borns unsequence)))
     (sym (map-append (λ (e : FileEntry). e.born.0) sequence unsequence))
-    (least_all (least_with None (borns_of sequence)) (borns_of sequence) (borns_of unsequence)
-    (least_all None [] (borns_of sequence) refl))
+    (least_all (least_with None (entry_borns sequence)) (entry_borns sequence) (entry_borns unsequence)
+    (least_all None [] (entry_borns sequence) refl))
 
 least_more : (least : Option Stamp) (xs ys : List ℕ)
     → least_with least (xs ++ ys) ≡ least_with (least_with least xs) ys
 least_more least [] ys = refl
-least_more least (x ∷ xs) ys = least_more (Some (lesser least x)) xs ys
+least_more least (x ∷ xs) ys = least_more (Some (lesser_born least x)) xs ys
 
 pub rest_of : (end : ℕ) (entries : List FileEntry) → take (length entries - end) (drop end entries) ≡ drop end entries
 rest_of end entries = take_all (length entries - end) (drop end entries) (omega (arith, length-drop end entries))
 
 -- the list without the run, with a file of this born in its place
 pub least_put : (least : Option Stamp) (run : Run) (entries : List FileEntry) (born : Option Stamp)
-    (these : List FileEntry) → borns_of these ≡ stamps_of born
-    → least_with least (borns_of (replace_run run these entries))
-    ≡ least_with (least_with (least_with least (borns_of (take run.first entries))) (stamps_of born))
-    (borns_of (drop run.end entries))
+    (these : List FileEntry) → entry_borns these ≡ stamps_of born
+    → least_with least (entry_borns (replace_run run these entries))
+    ≡ least_with (least_with (least_with least (entry_borns (take run.first entries))) (stamps_of born))
+    (entry_borns (drop run.end entries))
 least_put least run entries born these is =
     let front = take run.first entries in
     let back = drop run.end entries in
     ap (least_with least) (map-append (λ (e : FileEntry). e.born.0) front (these ++ back))
-    ∙ least_more least (borns_of front) (borns_of (these ++ back))
-    ∙ ap (least_with (least_with least (borns_of front))) (map-append (λ (e : FileEntry). e.born.0) these back)
-    ∙ least_more (least_with least (borns_of front)) (borns_of these) (borns_of back)
-    ∙ ap (λ bs. least_with (least_with (least_with least (borns_of front)) bs) (borns_of back)) is
+    ∙ least_more least (entry_borns front) (entry_borns (these ++ back))
+    ∙ ap (least_with (least_with least (entry_borns front))) (map-append (λ (e : FileEntry). e.born.0) these back)
+    ∙ least_more (least_with least (entry_borns front)) (entry_borns these) (entry_borns back)
+    ∙ ap (λ bs. least_with (least_with (least_with least (entry_borns front)) bs) (entry_borns back)) is
 
 stamps_in : (list space : Space) (output : Option FileEntry)
-    → borns_of (if_some (output_in list space output))
+    → entry_borns (if_some (output_in list space output))
     ≡ stamps_of (output_in list space (option_map (λ (e : FileEntry). e.born) output))
 stamps_in Sequence Sequence None = refl
 stamps_in Sequence Sequence (Some entry) = refl
@@ -93,19 +93,19 @@ pub least_after : (space : Space) (sequence unsequence : Run) (born : Option Sta
     → option_map (λ (e : FileEntry). e.born) output ≡ born
     → HasReplaced space sequence unsequence output old new
     → in_s ≡ output_in Sequence space born → in_u ≡ output_in Unsequence space born
-    → ((these : List FileEntry) → borns_of these ≡ stamps_of in_s
-    → least ≡ least_with None (borns_of (replace_run sequence these old.sequence)))
-    → ((these : List FileEntry) → borns_of these ≡ stamps_of in_u
-    → result ≡ least_with least (borns_of (replace_run unsequence these old.unsequence)))
+    → ((these : List FileEntry) → entry_borns these ≡ stamps_of in_s
+    → least ≡ least_with None (entry_borns (replace_run sequence these old.sequence)))
+    → ((these : List FileEntry) → entry_borns these ≡ stamps_of in_u
+    → result ≡ least_with least (entry_borns (replace_run unsequence these old.unsequence)))
     → IsLeastOf result (listed_borns new)
 least_after space sequence unsequence born in_s in_u least result old new output is has s u first second =
     let said = λ (list : Space) (given : Option Stamp) (same : given ≡ output_in list space born).
     stamps_in list space output ∙ ap (λ b. stamps_of (output_in list space b)) is ∙ ap stamps_of (sym same) in
     let one = first (if_some (output_in Sequence space output)) (said Sequence in_s s)
-    ∙ ap (λ es. least_with None (borns_of es)) (sym has.sequence_is) in
+    ∙ ap (λ es. least_with None (entry_borns es)) (sym has.sequence_is) in
     let two = second (if_some (output_in Unsequence space output)) (said Unsequence in_u u)
-    ∙ ap (λ es. least_with least (borns_of es)) (sym has.unsequence_is)
-    ∙ ap (λ l. least_with l (borns_of new.unsequence)) one in
+    ∙ ap (λ es. least_with least (entry_borns es)) (sym has.unsequence_is)
+    ∙ ap (λ l. least_with l (entry_borns new.unsequence)) one in
     subst (λ l. IsLeastOf l (listed_borns new)) (sym two) (least_of_both new.sequence new.unsequence)
 
 -- ---- a run of a list
@@ -205,7 +205,7 @@ claim_numbers claimed [] = refl
 claim_numbers claimed (entry ∷ entries) = ap (λ rest. entry.number.0 ∷ rest) (claim_numbers claimed entries)
 
 claim_borns : (claimed : Bool) (entries : List FileEntry)
-    → borns_of (map (with_claim claimed) entries) ≡ borns_of entries
+    → entry_borns (map (with_claim claimed) entries) ≡ entry_borns entries
 claim_borns claimed [] = refl
 claim_borns claimed (entry ∷ entries) = ap (λ rest. entry.born.0 ∷ rest) (claim_borns claimed entries)
 
@@ -276,14 +276,14 @@ one_at_most (Some x) = omega arith
 kept_with : (number : ℕ) (entry : Option FileEntry) (file : Option KeptFile) (old new : KeptFiles) → AreKept old
     → IsOpen number old → IsEntryOf number entry file → kept_file number new ≡ file
     → OthersStay number old.places new.places
-    → ((n : ℕ) → count n (numbers_of new) ≡ count n (numbers_of old) + count n (entry_numbers (if_some entry)))
+    → ((n : ℕ) → count n (all_numbers new) ≡ count n (all_numbers old) + count n (entry_numbers (if_some entry)))
     → AreKept new
 kept_with number entry file old new kept empty of here others more n = by (number == n) refl
   where
-    by : (b : Bool) → (number == n) ≡ b → count n (numbers_of new) ≡ length (if_some (kept_file n new))
+    by : (b : Bool) → (number == n) ≡ b → count n (all_numbers new) ≡ length (if_some (kept_file n new))
     by true is =
         let same : number ≡ n = (unsigned_Decides number n).0 is in
-        let was = ap (λ m. place_at m old.places) (sym same) ∙ empty in
+        let was = ap (λ m. place_of_number m old.places) (sym same) ∙ empty in
         let none = ap (λ place. length (if_some (file_at place))) was in
         let now = ap (λ m. length (if_some (kept_file m new))) (sym same) ∙ ap (λ f. length (if_some f)) here in
         omega (arith, kept n, more n, none, now, counts_once n number entry file of same)
@@ -313,8 +313,8 @@ module _ {F S R P : Type 0} where
   replaced_counts : (space : Space) (sequence unsequence : Run) (entry : Option FileEntry) (old new : Inside F S R P)
       → IsWithin sequence old.sequence.items → IsWithin unsequence old.unsequence.items
       → AreReplaced space sequence unsequence entry old new → (n : ℕ)
-      → count n (numbers_of (view_of new))
-      ≡ count n (numbers_of (view_of old)) + count n (entry_numbers (if_some entry))
+      → count n (all_numbers (view_of new))
+      ≡ count n (all_numbers (view_of old)) + count n (entry_numbers (if_some entry))
   replaced_counts space sequence unsequence entry old new in_s in_u is n =
       let s = output_in Sequence space entry in
       let u = output_in Unsequence space entry in
@@ -396,7 +396,7 @@ module _ {F S R P : Type 0} where
       → kept_file number (view_of new) ≡ file → OthersStay number old.tokens.entries new.tokens.entries
       → AreReplaced space sequence unsequence entry old new
       → new.spare ≡ less_compaction space (run_length sequence + run_length unsequence) old.spare
-      → new.least ≡ least_with (least_with None (borns_of new.sequence.items)) (borns_of new.unsequence.items)
+      → new.least ≡ least_with (least_with None (entry_borns new.sequence.items)) (entry_borns new.unsequence.items)
       → AreSound new
   replaced_sound space sequence unsequence number entry file old new sound can of here others is spare least = record {
     kept = kept_with number entry file (view_of old) (view_of new) sound.kept can.place of here others
@@ -414,16 +414,16 @@ module _ {F S R P : Type 0} where
   claimed_sound run claimed old new sound within is tokens sequence outgoing spare least =
       let numbers : entry_numbers new.unsequence.items ≡ entry_numbers old.unsequence.items = ap entry_numbers is.items
       ∙ run_stays (λ (e : FileEntry). e.number.0) claimed run old.unsequence.items (claim_numbers claimed) within in
-      let borns : borns_of new.unsequence.items ≡ borns_of old.unsequence.items = ap borns_of is.items
+      let borns : entry_borns new.unsequence.items ≡ entry_borns old.unsequence.items = ap entry_borns is.items
       ∙ run_stays (λ (e : FileEntry). e.born.0) claimed run old.unsequence.items (claim_borns claimed) within in
       let all : listed_borns (view_of new) ≡ listed_borns (view_of old) =
       map-append (λ (e : FileEntry). e.born.0) new.sequence.items new.unsequence.items
-      ∙ (λ i. borns_of (sequence i).items ++ borns i)
+      ∙ (λ i. entry_borns (sequence i).items ++ borns i)
       ∙ sym (map-append (λ (e : FileEntry). e.born.0) old.sequence.items old.unsequence.items) in
       record {
         kept = λ n. ap (count n)
             (λ i. (entry_numbers (sequence i).items ++ numbers i) ++ outgoing_numbers (outgoing i).items)
-            ∙ sound.kept n ∙ ap (λ t. length (if_some (file_at (place_at n t.entries)))) (sym tokens);
+            ∙ sound.kept n ∙ ap (λ t. length (if_some (file_at (place_of_number n t.entries)))) (sym tokens);
         room = record {
           sequence_room = omega (
             arith,

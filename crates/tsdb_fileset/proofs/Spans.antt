@@ -6,7 +6,7 @@ use Rattle.std.specs.Int.{int_max, int_min}
 use Rattle.std.proofs.lemmas.Int.{fold-int_max_bounds, fold-int_min_bounds, ints}
 use Rattle.std.proofs.lemmas.List.Elements.{All-head}
 use Rattle.tsdb_base.specs.Lists.{Among}
-use Rattle.tsdb_fileset.specs.Lines.{greatest_time, least_time}
+use Rattle.tsdb_fileset.specs.Lines.{hulls_end, hulls_start}
 use Rattle.tsdb_plan.specs.declared.entry.Hull.{Hull}
 
 -- a hull with this bound
@@ -95,20 +95,20 @@ at_most : (a b c : ℤ) → a ≤ℤ b → b ≤ℤ c → a ≤ℤ c
 at_most a b c first second = omega (arith, ints, first, second)
 
 pub least_each : (first : Hull) (hulls : List Hull) (hull : Hull) → Among hull (first ∷ hulls)
-    → least_time (first ∷ hulls) ≤ℤ hull.from
+    → hulls_start (first ∷ hulls) ≤ℤ hull.from
 least_each = bounds_each int_min (λ a b. a ≤ℤ b) at_most (λ a. omega (arith, ints)) least_first least_second one_least
     (λ hull. hull.from)
 
-pub least_is : (first : Hull) (hulls : List Hull) → HasBound (λ hull. hull.from) (first ∷ hulls) (least_time (first ∷ hulls))
+pub least_is : (first : Hull) (hulls : List Hull) → HasBound (λ hull. hull.from) (first ∷ hulls) (hulls_start (first ∷ hulls))
 least_is = is_bound int_min (λ a b. a ≤ℤ b) at_most (λ a. omega (arith, ints)) least_first least_second one_least
     (λ hull. hull.from)
 
 pub greatest_each : (first : Hull) (hulls : List Hull) (hull : Hull) → Among hull (first ∷ hulls)
-    → hull.to ≤ℤ greatest_time (first ∷ hulls)
+    → hull.to ≤ℤ hulls_end (first ∷ hulls)
 greatest_each = bounds_each int_max (λ a b. b ≤ℤ a) (λ a b c first second. at_most c b a second first)
     (λ a. omega (arith, ints)) greatest_first greatest_second one_greatest (λ hull. hull.to)
 
 pub greatest_is : (first : Hull) (hulls : List Hull)
-    → HasBound (λ hull. hull.to) (first ∷ hulls) (greatest_time (first ∷ hulls))
+    → HasBound (λ hull. hull.to) (first ∷ hulls) (hulls_end (first ∷ hulls))
 greatest_is = is_bound int_max (λ a b. b ≤ℤ a) (λ a b c first second. at_most c b a second first)
     (λ a. omega (arith, ints)) greatest_first greatest_second one_greatest (λ hull. hull.to)

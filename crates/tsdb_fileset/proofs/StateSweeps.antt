@@ -7,11 +7,11 @@ use Rattle.std.specs.Option.{option_map}
 use Rattle.std.proofs.lemmas.Bool.{eq-eqb, eqb-true}
 use Rattle.std.proofs.lemmas.List.{map-append}
 use Rattle.tsdb_base.specs.declared.ids.FileNumber.{FileNumber}
-use Rattle.tsdb_fileset.specs.Held.{AreFilesOf, AreSomeOf, IsDoubtOf, IsSweep, TellTheirBytes, entry_of, leaving, listed, may_go}
+use Rattle.tsdb_fileset.specs.Held.{AreFilesOf, AreSomeOf, IsDoubtOf, IsSweep, TellTheirBytes, entry_of, outgoing_file, listed, may_go}
 use Rattle.tsdb_flush.proofs.ImageLemmas.Kept.{found_without}
 use Rattle.tsdb_flush.specs.Stored.{kept_bytes, without_numbers}
 use Rattle.tsdb_fileset.specs.Files.{IsOpen, KeptFiles, kept_file}
-use Rattle.tsdb_fileset.specs.Places.{KeptFile, Places, file_at, is_one_of, place_at}
+use Rattle.tsdb_fileset.specs.Places.{KeptFile, Places, file_at, is_one_of, place_of_number}
 use Rattle.tsdb_fileset.specs.Sweeps.{LeavesWithout, free_numbers, has_no_right, is_free, is_that}
 use Rattle.tsdb_fileset.specs.declared.files.Outgoing.{Outgoing}
 use Rattle.tsdb_base.proofs.Lists.{among_map, each_from_among, each_weaker}
@@ -20,34 +20,34 @@ use Rattle.tsdb_flush.specs.LogRecord.{LogRecord}
 use Rattle.tsdb_outside.specs.Files.{StoredFile}
 use Rattle.tsdb_plan.specs.declared.entry.FileEntry.{FileEntry}
 use Rattle.tsdb_flush.specs.Records.{names, numbers_of}
-use Rattle.tsdb_flush.specs.State.{EngineState, Entries, File}
+use Rattle.tsdb_flush.specs.State.{EngineState, KnownFiles, File}
 
 -- what holds of each kept file holds of those that stay
 pub of_those_that_stay : (P : ℕ → KeptFile → Type 0) (numbers : List ℕ) (old new : Places)
-    → ((number : ℕ) → place_at number new ≡ cond (is_one_of numbers number) None (place_at number old))
-    → ((number : ℕ) → IfSome (file_at (place_at number old)) (P number))
-    → (number : ℕ) → IfSome (file_at (place_at number new)) (P number)
+    → ((number : ℕ) → place_of_number number new ≡ cond (is_one_of numbers number) None (place_of_number number old))
+    → ((number : ℕ) → IfSome (file_at (place_of_number number old)) (P number))
+    → (number : ℕ) → IfSome (file_at (place_of_number number new)) (P number)
 of_those_that_stay P numbers old new takes all number =
     subst (λ place. IfSome (file_at place) (P number)) (sym (takes number)) (by (is_one_of numbers number))
   where
-    by : (b : Bool) → IfSome (file_at (cond b None (place_at number old))) (P number)
+    by : (b : Bool) → IfSome (file_at (cond b None (place_of_number number old))) (P number)
     by true = tt
     by false = all number
 
 -- the files that leave, in both views
 outgoing_left : (numbers : List ℕ) (files : List Outgoing)
-    → map leaving (filter (λ file. not (is_one_of numbers file.number.0)) files)
-    ≡ filter (λ (file : File). not (list_any (nat_eq file.number) numbers)) (map leaving files)
+    → map outgoing_file (filter (λ file. not (is_one_of numbers file.number.0)) files)
+    ≡ filter (λ (file : File). not (list_any (nat_eq file.number) numbers)) (map outgoing_file files)
 outgoing_left numbers [] = refl
 outgoing_left numbers (file ∷ files) = by (not (is_one_of numbers file.number.0)) (outgoing_left numbers files)
   where
-    by : (b : Bool) → map leaving (filter (λ file. not (is_one_of numbers file.number.0)) files)
-        ≡ filter (λ (file : File). not (list_any (nat_eq file.number) numbers)) (map leaving files)
-        → map leaving (cond b (file ∷ filter (λ file. not (is_one_of numbers file.number.0)) files)
+    by : (b : Bool) → map outgoing_file (filter (λ file. not (is_one_of numbers file.number.0)) files)
+        ≡ filter (λ (file : File). not (list_any (nat_eq file.number) numbers)) (map outgoing_file files)
+        → map outgoing_file (cond b (file ∷ filter (λ file. not (is_one_of numbers file.number.0)) files)
         (filter (λ file. not (is_one_of numbers file.number.0)) files))
-        ≡ cond b (leaving file ∷ filter (λ (file : File). not (list_any (nat_eq file.number) numbers)) (map leaving files))
-        (filter (λ (file : File). not (list_any (nat_eq file.number) numbers)) (map leaving files))
-    by true rest = ap (λ list. leaving file ∷ list) rest
+        ≡ cond b (outgoing_file file ∷ filter (λ (file : File). not (list_any (nat_eq file.number) numbers)) (map outgoing_file files))
+        (filter (λ (file : File). not (list_any (nat_eq file.number) numbers)) (map outgoing_file files))
+    by true rest = ap (λ list. outgoing_file file ∷ list) rest
     by false rest = rest
 
 -- a number that may go is that of an outgoing file, which is free
@@ -122,14 +122,14 @@ module _ (files new : KeptFiles) (doubted : List (Option FileNumber)) (part : Li
     where
       no_file : IsFreeFile doubted files.places part number → ⊥
       no_file one =
-          let unread : has_no_right (file_at (place_at number files.places)) ≡ true =
-          subst (λ n. has_no_right (file_at (place_at n files.places)) ≡ true) one.is
-          (first_of (has_no_right (file_at (place_at one.file.number.0 files.places)))
+          let unread : has_no_right (file_at (place_of_number number files.places)) ≡ true =
+          subst (λ n. has_no_right (file_at (place_of_number n files.places)) ≡ true) one.is
+          (first_of (has_no_right (file_at (place_of_number one.file.number.0 files.places)))
           (not (list_any (is_that one.file.number.0) doubted)) one.free) in
           let none : false ≡ true = subst (λ place. has_no_right (file_at place) ≡ true) made unread in
           cc
 
-      by : (b : Bool) → is_one_of numbers number ≡ b → cond b None (place_at number files.places) ≡ Some None
+      by : (b : Bool) → is_one_of numbers number ≡ b → cond b None (place_of_number number files.places) ≡ Some None
       by true gone = absurd (no_file (free_file doubted files.places part number (found_among number numbers gone)))
       by false stays = made
 
@@ -150,12 +150,12 @@ module _ (files new : KeptFiles) (doubted : List (Option FileNumber)) (part : Li
         tells.1 ∙ sym (ap (λ found. option_map (λ (file : StoredFile). file.bytes) found) (found_without numbers kept number stays)),
       )
 
-      by : (b : Bool) → is_one_of numbers number ≡ b → IfSome (file_at (place_at number files.places)) (Tells number kept)
-          → IfSome (file_at (cond b None (place_at number files.places))) (Tells number (without_numbers numbers kept))
+      by : (b : Bool) → is_one_of numbers number ≡ b → IfSome (file_at (place_of_number number files.places)) (Tells number kept)
+          → IfSome (file_at (cond b None (place_of_number number files.places))) (Tells number (without_numbers numbers kept))
       by true gone tells = tt
-      by false stays tells = moved (file_at (place_at number files.places)) stays tells
+      by false stays tells = moved (file_at (place_of_number number files.places)) stays tells
 
-  module _ (known : Entries) (state : EngineState) (are : AreFilesOf files known state) (doubt : IsDoubtOf doubted state)
+  module _ (known : KnownFiles) (state : EngineState) (are : AreFilesOf files known state) (doubt : IsDoubtOf doubted state)
       (some : AreSomeOf files part) (leaves : LeavesWithout numbers files new) where
     freed : (number : ℕ) → Among number numbers → IsFreeFile doubted files.places part number
     freed number among = free_file doubted files.places part number among
@@ -163,16 +163,16 @@ module _ (files new : KeptFiles) (doubted : List (Option FileNumber)) (part : Li
     free_of_rights : (number : ℕ) → Among number numbers → state.rights number ≡ 0
     free_of_rights number among =
         let one = freed number among in
-        no_rights (file_at (place_at number files.places)) (state.rights number)
-        (subst (λ n. has_no_right (file_at (place_at n files.places)) ≡ true) one.is
-        (first_of (has_no_right (file_at (place_at one.file.number.0 files.places)))
+        no_rights (file_at (place_of_number number files.places)) (state.rights number)
+        (subst (λ n. has_no_right (file_at (place_of_number n files.places)) ≡ true) one.is
+        (first_of (has_no_right (file_at (place_of_number one.file.number.0 files.places)))
         (not (list_any (is_that one.file.number.0) doubted)) one.free)) (are.rights number)
 
     undoubted : (number : ℕ) → Among number numbers → list_any (is_that number) doubted ≡ true → ⊥
     undoubted number among told =
         let one = freed number among in
         let not_told = subst (λ n. not (list_any (is_that n) doubted) ≡ true) one.is
-        (second_of (has_no_right (file_at (place_at one.file.number.0 files.places)))
+        (second_of (has_no_right (file_at (place_of_number one.file.number.0 files.places)))
         (not (list_any (is_that one.file.number.0) doubted)) one.free) in
         cc
 
@@ -193,12 +193,12 @@ module _ (files new : KeptFiles) (doubted : List (Option FileNumber)) (part : Li
           let one = freed number among in
           subst (λ n. Among n (numbers_of state.outgoing)) one.is
           (subst (λ list. Among one.file.number.0 (numbers_of list)) are.outgoing
-          (among_map (λ (file : File). file.number) (map leaving files.outgoing) (leaving one.file)
-          (among_map leaving files.outgoing one.file (some one.file one.among)))));
+          (among_map (λ (file : File). file.number) (map outgoing_file files.outgoing) (outgoing_file one.file)
+          (among_map outgoing_file files.outgoing one.file (some one.file one.among)))));
       files = record {
         sequence = ap (map listed) leaves.sequence ∙ are.sequence;
         unsequence = ap (map listed) leaves.unsequence ∙ are.unsequence;
-        outgoing = ap (map leaving) leaves.outgoing ∙ outgoing_left numbers files.outgoing
+        outgoing = ap (map outgoing_file) leaves.outgoing ∙ outgoing_left numbers files.outgoing
             ∙ ap (filter (λ (file : File). not (list_any (nat_eq file.number) numbers))) are.outgoing;
         rights = of_those_that_stay (λ number file. file.rights ≡ state.rights number) numbers files.places new.places
             leaves.places are.rights;
@@ -223,12 +223,12 @@ module _ (files new : KeptFiles) (doubted : List (Option FileNumber)) (part : Li
                 (λ (file : KeptFile). known entry.number.0 ≡ entry_of entry file.series)) (sym (leaves.places entry.number.0))
                 (by (is_one_of numbers entry.number.0))
               where
-                by : (b : Bool) → IfSome (file_at (cond b None (place_at entry.number.0 files.places)))
+                by : (b : Bool) → IfSome (file_at (cond b None (place_of_number entry.number.0 files.places)))
                     (λ (file : KeptFile). known entry.number.0 ≡ entry_of entry file.series)
                 by true = tt
                 by false = has
 
-pub borns_are : (files : KeptFiles) (known : Entries) (state : EngineState) → AreFilesOf files known state
+pub borns_are : (files : KeptFiles) (known : KnownFiles) (state : EngineState) → AreFilesOf files known state
     → map (λ (entry : FileEntry). entry.born.0) (files.sequence ++ files.unsequence)
     ≡ map (λ (file : File). file.born) (state.store.sequence ++ state.store.unsequence)
 borns_are files known state are =

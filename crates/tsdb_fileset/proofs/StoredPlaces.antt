@@ -10,8 +10,8 @@ use Rattle.std.specs.Option.{option_map}
 use Rattle.std.specs.Prelude.{IfSome}
 use Rattle.tsdb_flush.specs.Stored.{kept_bytes}
 use Rattle.tsdb_fileset.proofs.PlaceFacts.{other_number, same_number}
-use Rattle.tsdb_fileset.specs.Closing.{AreRising, IsNamed, names_at}
-use Rattle.tsdb_fileset.specs.Places.{KeptFile, Places, file_at, is_number, place_at}
+use Rattle.tsdb_fileset.specs.Closing.{AreNumbersRising, NamesStoredFile, names_at}
+use Rattle.tsdb_fileset.specs.Places.{KeptFile, Places, file_at, is_same_number, place_of_number}
 use Rattle.tsdb_base.proofs.Lists.{each_append, each_among, each_weaker}
 use Rattle.tsdb_base.specs.Lists.{Among, EachPair, if_some}
 use Rattle.tsdb_outside.specs.Files.{StoredFile}
@@ -30,12 +30,12 @@ stored_at places = flat_map stored_place places
 abbrev pub IsToldAt : ℕ × Option KeptFile → Type 0
 IsToldAt place = IfSome place.1 (λ file. (file.name.number ≡ place.0) × (bytes : List ℕ) × (file.name.bytes ≡ Some bytes))
 
-pub named : (places : Places) → Each IsToldAt places → AllZip IsNamed (names_at places) (stored_at places)
+pub named : (places : Places) → Each IsToldAt places → AllZip NamesStoredFile (names_at places) (stored_at places)
 unfolding stored_at stored_place stored_in
 named [] told = tt
 named ((number, None) ∷ places) told = named places told.1
 named ((number, Some file) ∷ places) told = let is = told.0.2 in
-    subst (λ (bytes : Option (List ℕ)). AllZip IsNamed (file.name ∷ names_at places)
+    subst (λ (bytes : Option (List ℕ)). AllZip NamesStoredFile (file.name ∷ names_at places)
     (if_some (option_map (λ told. record { number = number; bytes = told }) bytes) ++ stored_at places)) (sym is)
     (record { number = told.0.0; bytes = is }, named places told.1)
 
@@ -66,11 +66,11 @@ passed number other (Some bytes) rest apart =
 
 -- a kept file that tells its bytes is stored with them
 pub found : (number : ℕ) (places : Places) (file : KeptFile) (bytes : List ℕ)
-    → file_at (place_at number places) ≡ Some file → file.name.bytes ≡ Some bytes
+    → file_at (place_of_number number places) ≡ Some file → file.name.bytes ≡ Some bytes
     → kept_bytes (stored_at places) number ≡ Some bytes
 unfolding stored_at stored_place stored_in
 found number [] file bytes at told = absurd cc
-found number ((other, place) ∷ places) file bytes at told = by (is_number number other) refl
+found number ((other, place) ∷ places) file bytes at told = by (is_same_number number other) refl
     (λ here. found number places file bytes here told) at
   where
     same : (a b : ℕ) → a ≡ b → nat_eq b a ≡ true
@@ -92,35 +92,35 @@ found number ((other, place) ∷ places) file bytes at told = by (is_number numb
     behind None not = refl
     behind (Some f) not = passed other number f.name.bytes (stored_at places) not
 
-    itself : number ≡ other → is_number number other ≡ true
-    itself e = ap (is_number number) (sym e) ∙ ap is_eq (tied_itself nat_cmp_total number)
+    itself : number ≡ other → is_same_number number other ≡ true
+    itself e = ap (is_same_number number) (sym e) ∙ ap is_eq (tied_itself nat_cmp_total number)
 
-    not_both : number ≡ other → is_number number other ≡ false → ⊥
+    not_both : number ≡ other → is_same_number number other ≡ false → ⊥
     not_both e not = false≢true (sym not ∙ itself e)
 
-    by : (b : Bool) → is_number number other ≡ b
-        → (file_at (place_at number places) ≡ Some file → kept_bytes (stored_at places) number ≡ Some bytes)
-        → file_at (cond b (Some place) (place_at number places)) ≡ Some file
+    by : (b : Bool) → is_same_number number other ≡ b
+        → (file_at (place_of_number number places) ≡ Some file → kept_bytes (stored_at places) number ≡ Some bytes)
+        → file_at (cond b (Some place) (place_of_number number places)) ≡ Some file
         → kept_bytes (stored_place (other, place) ++ stored_at places) number ≡ Some bytes
     by true is rest here = first (same_number number other is) here
     by false is rest here = behind place (apart number other (λ e. not_both e is)) ∙ rest here
 
 -- what stands at a place of rising numbers is found there
-pub at_place : (places : Places) → AreRising places → (place : ℕ × Option KeptFile) → Among place places
-    → place_at place.0 places ≡ Some place.1
+pub at_place : (places : Places) → AreNumbersRising places → (place : ℕ × Option KeptFile) → Among place places
+    → place_of_number place.0 places ≡ Some place.1
 at_place [] rising place among = absurd among
 at_place (first ∷ places) rising place (inl is) =
-    ap (λ b. cond b (Some first.1) (place_at place.0 places))
-    (ap (λ n. is_number place.0 n) (ap (λ (p : ℕ × Option KeptFile). p.0) is) ∙ ap is_eq (tied_itself nat_cmp_total place.0))
+    ap (λ b. cond b (Some first.1) (place_of_number place.0 places))
+    (ap (λ n. is_same_number place.0 n) (ap (λ (p : ℕ × Option KeptFile). p.0) is) ∙ ap is_eq (tied_itself nat_cmp_total place.0))
     ∙ ap (λ (p : ℕ × Option KeptFile). Some p.1) is
 at_place (first ∷ places) rising place (inr among) =
     let less = each_among (λ (other : ℕ × Option KeptFile). first.0 < other.0) places place rising.0 among in
-    ap (λ b. cond b (Some first.1) (place_at place.0 places))
+    ap (λ b. cond b (Some first.1) (place_of_number place.0 places))
     (other_number place.0 first.0 (λ e. absurd (omega (arith, e, less))))
     ∙ at_place places rising.1 place among
 
 -- files whose numbers rise from one number on, and lie below another, are at most as many as the numbers between
-pub few : (places : Places) (from to : ℕ) → AreRising places
+pub few : (places : Places) (from to : ℕ) → AreNumbersRising places
     → Each (λ (place : ℕ × Option KeptFile). IfSome place.1 (λ file. from ≤ place.0)) places
     → Each (λ (place : ℕ × Option KeptFile). IfSome place.1 (λ file. place.0 < to)) places
     → length (stored_at places) ≤ to - from
@@ -147,7 +147,7 @@ few ((number, Some file) ∷ places) from to rising low high =
         let less = above.0 in (omega (arith, less), above_all places above.1)
 
 -- files of rising numbers have different ones
-pub differing : (places : Places) → AreRising places
+pub differing : (places : Places) → AreNumbersRising places
     → EachPair (λ (a b : StoredFile). a.number ≢ b.number) (stored_at places)
 unfolding stored_at stored_place stored_in
 differing [] rising = tt

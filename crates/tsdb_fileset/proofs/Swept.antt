@@ -10,11 +10,11 @@ use Rattle.tsdb_base.specs.declared.ids.FileNumber.{FileNumber}
 use Rattle.tsdb_fileset.specs.declared.files.KeptFiles.TheInside.{Inside}
 use Rattle.tsdb_fileset.specs.declared.files.Outgoing.{Outgoing}
 use Rattle.tsdb_fileset.specs.Files.{AreKept, KeptFiles, entry_numbers, kept_file}
-use Rattle.tsdb_fileset.specs.Files.{listed_borns, numbers_of, outgoing_numbers}
+use Rattle.tsdb_fileset.specs.Files.{listed_borns, all_numbers, outgoing_numbers}
 use Rattle.tsdb_fileset.specs.Kept.{AreSound, view_of}
 use Rattle.tsdb_fileset.specs.Held.{may_go, told_numbers}
-use Rattle.tsdb_fileset.specs.Places.{AreUnread, KeptFile, Places, TakesAway, file_at, is_one_of, place_at}
-use Rattle.tsdb_fileset.specs.Sweeps.{AreOnce, LeavesWithout, StopsAt, free_numbers, has_no_right, has_place, is_free}
+use Rattle.tsdb_fileset.specs.Places.{AreUnread, KeptFile, Places, TakesAway, file_at, is_one_of, place_of_number}
+use Rattle.tsdb_fileset.specs.Sweeps.{AreOnce, LeavesWithout, StopsSweepAt, free_numbers, has_no_right, has_place, is_free}
 use Rattle.tsdb_fileset.specs.Sweeps.{is_that, tried_numbers}
 use Rattle.tsdb_fileset.proofs.Counts.{among_counted, count_fewer, count_left, counted, filter_agrees, same_test}
 use Rattle.tsdb_fileset.proofs.Numbers.{all_counted}
@@ -28,7 +28,7 @@ at_most_one None = omega arith
 at_most_one (Some file) = omega arith
 
 -- the outgoing files are counted among all
-outgoing_counted : (n : ℕ) (files : KeptFiles) → count n (outgoing_numbers files.outgoing) ≤ count n (numbers_of files)
+outgoing_counted : (n : ℕ) (files : KeptFiles) → count n (outgoing_numbers files.outgoing) ≤ count n (all_numbers files)
 outgoing_counted n files = let all = all_counted n files in omega (arith, all)
 
 pub once : (files : KeptFiles) → AreKept files → AreOnce files.outgoing
@@ -38,7 +38,7 @@ once files kept n = omega (arith, outgoing_counted n files, kept n, at_most_one 
 all_placed : (files : KeptFiles) → AreKept files → Each (λ file. has_place files.places file ≡ true) files.outgoing
 all_placed files kept = each_from_among _ files.outgoing (λ file among.
     let n = file.number.0 in
-    placed (place_at n files.places)
+    placed (place_of_number n files.places)
     (omega (arith, among_counted file files.outgoing among, outgoing_counted n files, kept n)))
   where
     placed : (place : Option (Option KeptFile)) → 1 ≤ length (if_some (file_at place)) → is_some place ≡ true
@@ -53,7 +53,7 @@ still_placed gone old new files away placed =
     filter_agrees (has_place new) (λ file. not (is_one_of gone file.number.0)) files (each files placed)
   where
     one : (file : Outgoing) (b : Bool) → has_place old file ≡ true
-        → is_some (cond b None (place_at file.number.0 old)) ≡ not b
+        → is_some (cond b None (place_of_number file.number.0 old)) ≡ not b
     one file true there = refl
     one file false there = there
 
@@ -70,11 +70,11 @@ kept_left : (gone : List ℕ) (old new : KeptFiles) → AreKept old → LeavesWi
     → ((n : ℕ) → count n gone ≤ count n (outgoing_numbers old.outgoing)) → AreKept new
 kept_left gone old new kept leaves fewer n = by (is_one_of gone n) refl
   where
-    was : count n (numbers_of old) ≡ (count n (entry_numbers old.sequence) + count n (entry_numbers old.unsequence))
+    was : count n (all_numbers old) ≡ (count n (entry_numbers old.sequence) + count n (entry_numbers old.unsequence))
         + count n (outgoing_numbers old.outgoing)
     was = all_counted n old
 
-    now : count n (numbers_of new) ≡ (count n (entry_numbers old.sequence) + count n (entry_numbers old.unsequence))
+    now : count n (all_numbers new) ≡ (count n (entry_numbers old.sequence) + count n (entry_numbers old.unsequence))
         + cond (is_one_of gone n) 0 (count n (outgoing_numbers old.outgoing))
     now =
         all_counted n new
@@ -83,16 +83,16 @@ kept_left gone old new kept leaves fewer n = by (is_one_of gone n) refl
         ∙ ap (λ m. (count n (entry_numbers old.sequence) + count n (entry_numbers old.unsequence)) + m)
         (count_left n gone old.outgoing)
 
-    by : (b : Bool) → is_one_of gone n ≡ b → count n (numbers_of new) ≡ length (if_some (kept_file n new))
+    by : (b : Bool) → is_one_of gone n ≡ b → count n (all_numbers new) ≡ length (if_some (kept_file n new))
     by true is =
         let none = ap (λ place. length (if_some (file_at place)))
-        (leaves.places n ∙ ap (λ b. cond b None (place_at n old.places)) is) in
+        (leaves.places n ∙ ap (λ b. cond b None (place_of_number n old.places)) is) in
         let rest = now ∙ ap (λ b. (count n (entry_numbers old.sequence) + count n (entry_numbers old.unsequence))
         + cond b 0 (count n (outgoing_numbers old.outgoing))) is in
         omega (arith, none, rest, was, kept n, at_most_one (kept_file n old), counted n gone is, fewer n)
     by false is =
         let same = ap (λ place. length (if_some (file_at place)))
-        (leaves.places n ∙ ap (λ b. cond b None (place_at n old.places)) is) in
+        (leaves.places n ∙ ap (λ b. cond b None (place_of_number n old.places)) is) in
         let rest = now ∙ ap (λ b. (count n (entry_numbers old.sequence) + count n (entry_numbers old.unsequence))
         + cond b 0 (count n (outgoing_numbers old.outgoing))) is in
         omega (arith, same, rest, was, kept n)
@@ -148,7 +148,7 @@ module _ {F S R P : Type 0} (doubted : List (Option FileNumber)) (old new : Insi
       TakesAway (free_numbers doubted old.tokens.entries old.outgoing.items) old.tokens.entries new.tokens.entries
 
   abbrev SomeLeave : Type 0
-  SomeLeave = (stop : StopsAt doubted old.tokens.entries old.outgoing.items)
+  SomeLeave = (stop : StopsSweepAt doubted old.tokens.entries old.outgoing.items)
       × TakesAway (tried_numbers doubted old.tokens.entries stop) old.tokens.entries new.tokens.entries
 
   pub swept_sound : (result : Result ℕ Failed) → OnOk result AllLeave → OnErr result SomeLeave → AreSound new
@@ -167,7 +167,7 @@ module _ {F S R P : Type 0} (doubted : List (Option FileNumber)) (old new : Insi
   swept_ok (Err fault) ok = tt
 
   pub swept_failed : (result : Result ℕ Failed) → OnErr result SomeLeave
-      → OnErr result ((stop : StopsAt doubted (view_of old).places (view_of old).outgoing)
+      → OnErr result ((stop : StopsSweepAt doubted (view_of old).places (view_of old).outgoing)
       × LeavesWithout (tried_numbers doubted (view_of old).places stop) (view_of old) (view_of new))
   swept_failed (Ok count) err = tt
   swept_failed (Err fault) err = (err.0, leaves (tried_numbers doubted old.tokens.entries err.0) err.1)

@@ -10,8 +10,8 @@ use Rattle.std.proofs.lemmas.List.Folds.{list_any-append}
 use Rattle.tsdb_base.specs.declared.ids.FileNumber.{FileNumber}
 use Rattle.tsdb_fileset.specs.declared.files.Outgoing.{Outgoing}
 use Rattle.tsdb_fileset.specs.Files.{outgoing_numbers}
-use Rattle.tsdb_fileset.specs.Places.{AllFiles, KeptFile, Places, TakesAway, file_at, is_one_of, place_at}
-use Rattle.tsdb_fileset.specs.Sweeps.{AreOnce, StopsAt, free_numbers, has_no_right, is_free, is_that, tried_numbers}
+use Rattle.tsdb_fileset.specs.Places.{AllFiles, KeptFile, Places, TakesAway, file_at, is_one_of, place_of_number}
+use Rattle.tsdb_fileset.specs.Sweeps.{AreOnce, StopsSweepAt, free_numbers, has_no_right, is_free, is_that, tried_numbers}
 use Rattle.tsdb_fileset.proofs.Counts.{count_fewer, length_fewer, not_there}
 use Rattle.tsdb_base.specs.Lists.{count}
 use Rattle.tsdb_base.proofs.Lists.{count_append, filter_append}
@@ -22,9 +22,9 @@ pub takes_more : (gone : List ℕ) (n : ℕ) (old now new : Places) → TakesAwa
 takes_more gone n old now new first next number =
     next number ∙ ap (λ place. cond (is_one_of (n ∷ []) number) None place) (first number)
     ∙ by (is_one_of gone number) (is_one_of (n ∷ []) number)
-    ∙ ap (λ b. cond b None (place_at number old)) (sym (list_any-append _ gone (n ∷ [])))
+    ∙ ap (λ b. cond b None (place_of_number number old)) (sym (list_any-append _ gone (n ∷ [])))
   where
-    by : (a b : Bool) → cond b None (cond a None (place_at number old)) ≡ cond (a || b) None (place_at number old)
+    by : (a b : Bool) → cond b None (cond a None (place_of_number number old)) ≡ cond (a || b) None (place_of_number number old)
     by true true = refl
     by true false = refl
     by false true = refl
@@ -36,7 +36,7 @@ pub still_all : (P : KeptFile → Type 0) (gone : List ℕ) (old new : Places) �
 still_all P gone old new takes all number =
     subst (λ place. IfSome (file_at place) P) (sym (takes number)) (by (is_one_of gone number))
   where
-    by : (b : Bool) → IfSome (file_at (cond b None (place_at number old))) P
+    by : (b : Bool) → IfSome (file_at (cond b None (place_of_number number old))) P
     by true = tt
     by false = all number
 
@@ -109,8 +109,8 @@ module _ (doubted : List (Option FileNumber)) (old now : Places) (files : List O
   -- the next file is free now where it was
   free_still : is_free doubted old file ≡ is_free doubted now file
   free_still =
-      let same : place_at file.number.0 now ≡ place_at file.number.0 old =
-      sweeping.away file.number.0 ∙ ap (λ b. cond b None (place_at file.number.0 old)) still_there in
+      let same : place_of_number file.number.0 now ≡ place_of_number file.number.0 old =
+      sweeping.away file.number.0 ∙ ap (λ b. cond b None (place_of_number file.number.0 old)) still_there in
       ap (λ place. has_no_right (file_at place) && not (list_any (is_that file.number.0) doubted)) (sym same)
 
   pub sweep_passes : is_free doubted now file ≡ false → IsSweeping doubted old files (index + 1) removed now
@@ -141,7 +141,7 @@ module _ (doubted : List (Option FileNumber)) (old now : Places) (files : List O
       away = subst (λ l. TakesAway (free_numbers doubted old l) old new) (sym first_files) away;
     }
 
-    pub sweep_stops : (stop : StopsAt doubted old files) × TakesAway (tried_numbers doubted old stop) old new
+    pub sweep_stops : (stop : StopsSweepAt doubted old files) × TakesAway (tried_numbers doubted old stop) old new
     sweep_stops = (
       record {
         before = front;

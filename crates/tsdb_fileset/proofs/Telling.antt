@@ -11,34 +11,34 @@ use Rattle.tsdb_base.specs.declared.ids.Space.TheVariants.{Sequence, Unsequence}
 use Rattle.tsdb_base.specs.declared.value.Value.{Value}
 use Rattle.tsdb_fileset.specs.Held.{AreFilesOf, entry_of, listed}
 use Rattle.tsdb_fileset.proofs.Counts.{counted}
-use Rattle.tsdb_fileset.specs.Files.{AreKept, KeptFiles, entry_numbers, kept_file, numbers_of, outgoing_numbers}
+use Rattle.tsdb_fileset.specs.Files.{AreKept, KeptFiles, entry_numbers, kept_file, all_numbers, outgoing_numbers}
 use Rattle.tsdb_fileset.specs.Places.{KeptFile}
 use Rattle.tsdb_base.proofs.Lists.{among_left, among_map, among_right, any_among, each_among, each_left, each_right}
 use Rattle.tsdb_flush.proofs.LayerLemmas.Places.{same_content}
 use Rattle.tsdb_base.specs.Lists.{Among, if_some}
-use Rattle.tsdb_flush.specs.Places.{Content, Place, place_cmp}
+use Rattle.tsdb_flush.specs.Places.{Content, PointPlace, place_cmp}
 use Rattle.tsdb_fileset.proofs.Spans.{greatest_each, greatest_is, least_each, least_is}
-use Rattle.tsdb_fileset.specs.Lines.{greatest_time, least_time, line_of, lines_of}
+use Rattle.tsdb_fileset.specs.Lines.{hulls_end, hulls_start, line_of, file_lines_of}
 use Rattle.tsdb_fileset.specs.Listings.{HasPointAt, TellFiles, TellsFile}
 use Rattle.tsdb_plan.specs.declared.entry.FileEntry.{FileEntry}
 use Rattle.tsdb_plan.specs.declared.entry.Hull.{Hull}
 use Rattle.tsdb_flush.specs.StateJobs.{Describes, EntriesMatch, HasTime}
-use Rattle.tsdb_flush.specs.State.{EngineState, Entries, Entry, File, Told}
+use Rattle.tsdb_flush.specs.State.{EngineState, KnownFiles, KnownFile, File, ToldContents}
 
 -- the hulls of a file span its points
 record Span (content : Content) (hulls : List Hull) : Type 0 where
-  pub between : (place : Place) (value : Value) → get content place ≡ Some value
-      → (least_time hulls ≤ℤ place.time) × (place.time ≤ℤ greatest_time hulls)
-  pub from : HasPointAt content (least_time hulls)
-  pub to : HasPointAt content (greatest_time hulls)
+  pub between : (place : PointPlace) (value : Value) → get content place ≡ Some value
+      → (hulls_start hulls ≤ℤ place.time) × (place.time ≤ℤ hulls_end hulls)
+  pub from : HasPointAt content (hulls_start hulls)
+  pub to : HasPointAt content (hulls_end hulls)
 
 point_at : (content : Content) (device : List ℕ) (time other : ℤ) → HasTime content device time → time ≡ other
     → HasPointAt content other
 point_at content device time other has same =
     record { place = has.place; value = has.value; has = has.has; at = has.at ∙ same }
 
-module _ (content : Content) (entry : Entry) (says : Describes entry content) where
-  nothing_over : (found : Option Value) (place : Place) → entry.hulls ≡ [] → get content place ≡ found → found ≡ None
+module _ (content : Content) (entry : KnownFile) (says : Describes entry content) where
+  nothing_over : (found : Option Value) (place : PointPlace) → entry.hulls ≡ [] → get content place ≡ found → found ≡ None
   nothing_over None place none is = refl
   nothing_over (Some value) place none is =
       let over = says.over place value is in
@@ -63,11 +63,11 @@ module _ (content : Content) (entry : Entry) (says : Describes entry content) wh
         (omega (arith, ints, least, from), omega (arith, ints, to, greatest));
     from =
         let least = least_is first hulls in
-        point_at content least.hull.device least.hull.from (least_time (first ∷ hulls))
+        point_at content least.hull.device least.hull.from (hulls_start (first ∷ hulls))
         (tight least.hull least.among).0 least.is;
     to =
         let greatest = greatest_is first hulls in
-        point_at content greatest.hull.device greatest.hull.to (greatest_time (first ∷ hulls))
+        point_at content greatest.hull.device greatest.hull.to (hulls_end (first ∷ hulls))
         (tight greatest.hull greatest.among).1 greatest.is;
   }
     where
@@ -77,7 +77,7 @@ module _ (content : Content) (entry : Entry) (says : Describes entry content) wh
           (first ∷ hulls) hull (subst (Each (λ (h : Hull). HasTime content h.device h.from × HasTime content h.device h.to))
           is says.tight) among
 
-line_tells : (told : Told) (space : Space) (entry : FileEntry) (series : List (List ℕ))
+line_tells : (told : ToldContents) (space : Space) (entry : FileEntry) (series : List (List ℕ))
     → Describes (entry_of entry series) (told entry.number.0) → TellsFile told space (listed entry) (line_of space entry)
 line_tells told space entry series says =
     let spans = span (told entry.number.0) (entry_of entry series) says entry.hulls refl in
@@ -91,9 +91,9 @@ line_tells told space entry series says =
       to = spans.to;
     }
 
-module _ (files : KeptFiles) (told : Told) (known : Entries) (kept : AreKept files) where
+module _ (files : KeptFiles) (told : ToldContents) (known : KnownFiles) (kept : AreKept files) where
   -- what is kept of a file whose number is one of those of the files
-  says_of : (entry : FileEntry) → Among entry.number.0 (numbers_of files)
+  says_of : (entry : FileEntry) → Among entry.number.0 (all_numbers files)
       → IfSome (kept_file entry.number.0 files) (λ file. known entry.number.0 ≡ entry_of entry file.series)
       → Describes (known entry.number.0) (told entry.number.0) → (series : List (List ℕ))
       × Describes (entry_of entry series) (told entry.number.0)
@@ -104,21 +104,21 @@ module _ (files : KeptFiles) (told : Told) (known : Entries) (kept : AreKept fil
           → Describes (known entry.number.0) (told entry.number.0)
           → (series : List (List ℕ)) × Describes (entry_of entry series) (told entry.number.0)
       by None is known_is says =
-          let some = counted entry.number.0 (numbers_of files) (any_among (nat_eq entry.number.0) (numbers_of files)
+          let some = counted entry.number.0 (all_numbers files) (any_among (nat_eq entry.number.0) (all_numbers files)
           entry.number.0 among (eq-eqb entry.number.0 entry.number.0 refl)) in
           let none : length (if_some (kept_file entry.number.0 files)) ≡ 0 = ap (λ found. length (if_some found)) is in
           absurd (omega (arith, some, none, kept entry.number.0))
       by (Some file) is known_is says = (
         file.series,
-        subst (λ (e : Entry). Describes e (told entry.number.0)) known_is says,
+        subst (λ (e : KnownFile). Describes e (told entry.number.0)) known_is says,
       )
 
   lines_tell : (space : Space) (entries : List FileEntry)
-      → ((entry : FileEntry) → Among entry entries → Among entry.number.0 (numbers_of files))
+      → ((entry : FileEntry) → Among entry entries → Among entry.number.0 (all_numbers files))
       → Each (λ entry. IfSome (kept_file entry.number.0 files)
       (λ file. known entry.number.0 ≡ entry_of entry file.series)) entries
       → Each (λ (file : File). Describes (known file.number) (told file.number)) (map listed entries)
-      → AllZip (TellsFile told space) (map listed entries) (lines_of space entries)
+      → AllZip (TellsFile told space) (map listed entries) (file_lines_of space entries)
   lines_tell space [] within kept_so says = tt
   lines_tell space (entry ∷ entries) within kept_so says =
       let said = says_of entry (within entry (inl refl)) kept_so.0 says.0 in (
@@ -128,12 +128,12 @@ module _ (files : KeptFiles) (told : Told) (known : Entries) (kept : AreKept fil
 
   pub lines_tell_files : (state : EngineState) → AreFilesOf files known state
       → EntriesMatch told known (state.store.sequence ++ state.store.unsequence)
-      → TellFiles told state.store (lines_of Sequence files.sequence ++ lines_of Unsequence files.unsequence)
+      → TellFiles told state.store (file_lines_of Sequence files.sequence ++ file_lines_of Unsequence files.unsequence)
   lines_tell_files state are match = record {
-    sequence = lines_of Sequence files.sequence;
-    unsequence = lines_of Unsequence files.unsequence;
+    sequence = file_lines_of Sequence files.sequence;
+    unsequence = file_lines_of Unsequence files.unsequence;
     are = refl;
-    tell_sequence = subst (λ (list : List File). AllZip (TellsFile told Sequence) list (lines_of Sequence files.sequence))
+    tell_sequence = subst (λ (list : List File). AllZip (TellsFile told Sequence) list (file_lines_of Sequence files.sequence))
         are.sequence
         (lines_tell Sequence files.sequence (λ entry among. among_left (entry_numbers files.sequence
         ++ entry_numbers files.unsequence) (outgoing_numbers files.outgoing) entry.number.0
@@ -142,7 +142,7 @@ module _ (files : KeptFiles) (told : Told) (known : Entries) (kept : AreKept fil
         are.entries_in_sequence
         (subst (Each Said) (sym are.sequence) (each_left Said state.store.sequence state.store.unsequence match)));
     tell_unsequence = subst (λ (list : List File). AllZip (TellsFile told Unsequence) list
-        (lines_of Unsequence files.unsequence)) are.unsequence
+        (file_lines_of Unsequence files.unsequence)) are.unsequence
         (lines_tell Unsequence files.unsequence (λ entry among. among_left (entry_numbers files.sequence
         ++ entry_numbers files.unsequence) (outgoing_numbers files.outgoing) entry.number.0
         (among_right (entry_numbers files.sequence) (entry_numbers files.unsequence) entry.number.0

@@ -6,7 +6,7 @@ use Rattle.tsdb_base.specs.declared.ids.Space.{Space}
 use Rattle.tsdb_base.specs.declared.ids.Space.TheVariants.{Sequence, Unsequence}
 use Rattle.tsdb_fileset.specs.declared.files.Outgoing.{Outgoing}
 use Rattle.tsdb_fileset.specs.declared.room.Spare.{Spare}
-use Rattle.tsdb_fileset.specs.Places.{KeptFile, Places, file_at, place_at}
+use Rattle.tsdb_fileset.specs.Places.{KeptFile, Places, file_at, place_of_number}
 use Rattle.tsdb_fileset.specs.Room.{no_room}
 use Rattle.tsdb_base.specs.Lists.{count, if_some}
 use Rattle.tsdb_flush.specs.Places.{is_path}
@@ -26,19 +26,19 @@ none_kept = record { places = []; sequence = []; unsequence = []; outgoing = [];
 
 -- the file that is kept under the number
 abbrev pub kept_file : ℕ → KeptFiles → Option KeptFile
-kept_file number files = file_at (place_at number files.places)
+kept_file number files = file_at (place_of_number number files.places)
 
 -- the paths of the series of the kept file with this number
-abbrev pub series_at : ℕ → KeptFiles → List (List ℕ)
-series_at number files = unwrap_or (option_map (λ file. file.series) (kept_file number files)) []
+abbrev pub paths_at : ℕ → KeptFiles → List (List ℕ)
+paths_at number files = unwrap_or (option_map (λ file. file.series) (kept_file number files)) []
 
 -- whether the kept file of the number has the series
 abbrev pub has_path : List ℕ → KeptFiles → ℕ → Bool
-has_path path files number = list_any (is_path path) (series_at number files)
+has_path path files number = list_any (is_path path) (paths_at number files)
 
 -- there is a place for the number, and its file is not there yet
 abbrev pub IsOpen : ℕ → KeptFiles → Type 0
-IsOpen number files = place_at number files.places ≡ Some None
+IsOpen number files = place_of_number number files.places ≡ Some None
 
 -- the entries of a list
 abbrev pub entries_in : Space → KeptFiles → List FileEntry
@@ -52,8 +52,8 @@ abbrev pub outgoing_numbers : List Outgoing → List ℕ
 outgoing_numbers files = map (λ file. file.number.0) files
 
 -- the numbers of all files: of the sequence list, of the unsequence list, and of those on their way out
-abbrev pub numbers_of : KeptFiles → List ℕ
-numbers_of files = (entry_numbers files.sequence ++ entry_numbers files.unsequence) ++ outgoing_numbers files.outgoing
+abbrev pub all_numbers : KeptFiles → List ℕ
+all_numbers files = (entry_numbers files.sequence ++ entry_numbers files.unsequence) ++ outgoing_numbers files.outgoing
 
 -- the stamps at which the points of the listed files were frozen
 abbrev pub listed_borns : KeptFiles → List ℕ
@@ -61,7 +61,7 @@ listed_borns files = map (λ entry. entry.born.0) (files.sequence ++ files.unseq
 
 -- a listed or outgoing file is kept, and a kept file is in a list or outgoing, at one place
 abbrev pub AreKept : KeptFiles → Type 0
-AreKept files = (number : ℕ) → count number (numbers_of files) ≡ length (if_some (kept_file number files))
+AreKept files = (number : ℕ) → count number (all_numbers files) ≡ length (if_some (kept_file number files))
 
 -- the two lists and the outgoing files stay
 pub record KeepsLists (old new : KeptFiles) : Type 0 where

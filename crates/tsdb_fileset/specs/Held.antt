@@ -13,27 +13,27 @@ use Rattle.tsdb_base.specs.Lists.{Among, if_some}
 use Rattle.tsdb_outside.specs.Files.{StoredFile}
 use Rattle.tsdb_plan.specs.declared.entry.FileEntry.{FileEntry}
 use Rattle.tsdb_flush.specs.Records.{names}
-use Rattle.tsdb_flush.specs.State.{EngineState, Entries, Entry, File}
+use Rattle.tsdb_flush.specs.State.{EngineState, KnownFiles, KnownFile, File}
 use Rattle.tsdb_flush.specs.Steps.{Sweeps, swept}
 
 -- a listed file, and one on its way out, as the state has them
 abbrev pub listed : FileEntry → File
 listed entry = record { number = entry.number.0; born = entry.born.0 }
 
-abbrev pub leaving : Outgoing → File
-leaving file = record { number = file.number.0; born = file.born.0 }
+abbrev pub outgoing_file : Outgoing → File
+outgoing_file file = record { number = file.number.0; born = file.born.0 }
 
 -- what is kept of a file with these series
-abbrev pub entry_of : FileEntry → List (List ℕ) → Entry
+abbrev pub entry_of : FileEntry → List (List ℕ) → KnownFile
 entry_of entry series =
     record { size = entry.size; points = entry.points; hulls = entry.hulls; series = series }
 
 -- The lists and the outgoing files are those of the state, rights are counted as there, and what is known of a listed file
 -- is what is kept of it.
-pub record AreFilesOf (files : KeptFiles) (known : Entries) (state : EngineState) : Type 0 where
+pub record AreFilesOf (files : KeptFiles) (known : KnownFiles) (state : EngineState) : Type 0 where
   pub sequence : map listed files.sequence ≡ state.store.sequence
   pub unsequence : map listed files.unsequence ≡ state.store.unsequence
-  pub outgoing : map leaving files.outgoing ≡ state.outgoing
+  pub outgoing : map outgoing_file files.outgoing ≡ state.outgoing
   pub rights : (number : ℕ) → IfSome (kept_file number files) (λ file. file.rights ≡ state.rights number)
   pub entries_in_sequence : Each (λ entry. IfSome (kept_file entry.number.0 files)
       (λ file. known entry.number.0 ≡ entry_of entry file.series)) files.sequence
@@ -62,7 +62,7 @@ abbrev pub AreSomeOf : KeptFiles → List Outgoing → Type 0
 AreSomeOf files part = (file : Outgoing) → Among file part → Among file files.outgoing
 
 -- the state can be swept of these files, which are on their way out, and the new files are those of the state after it
-pub record IsSweep (numbers : List ℕ) (new : KeptFiles) (known : Entries) (state : EngineState) : Type 0 where
+pub record IsSweep (numbers : List ℕ) (new : KeptFiles) (known : KnownFiles) (state : EngineState) : Type 0 where
   pub sweeps : Sweeps numbers state
   pub outgoing : AreOutgoing numbers state
   pub files : AreFilesOf new known (swept numbers state)
@@ -87,7 +87,7 @@ IsUnread token number state = (token.rights ≡ 0) × (state.rights number ≡ 0
 
 -- the state with one file more among the outgoing ones, or at the end of a list
 abbrev pub with_outgoing : Outgoing → EngineState → EngineState
-with_outgoing file state = record state { outgoing = state.outgoing ++ leaving file ∷ [] }
+with_outgoing file state = record state { outgoing = state.outgoing ++ outgoing_file file ∷ [] }
 
 abbrev pub with_listed : Space → FileEntry → EngineState → EngineState
 with_listed Sequence entry state =

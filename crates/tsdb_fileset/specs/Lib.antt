@@ -14,7 +14,7 @@ pub use Rattle.tsdb_flush.specs.Model
 pub use Rattle.tsdb_flush.specs.Shown
 pub use Rattle.tsdb_flush.specs.Store
 pub use Rattle.tsdb_flush.specs.FrozenPair
-pub use Rattle.tsdb_flush.specs.Numbered
+pub use Rattle.tsdb_flush.specs.NumberedSeries
 pub use Rattle.tsdb_flush.specs.State
 pub use Rattle.tsdb_flush.specs.Worlds
 pub use Rattle.tsdb_flush.specs.Places as StatePlaces

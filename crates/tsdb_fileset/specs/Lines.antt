@@ -7,13 +7,13 @@ use Rattle.tsdb_plan.specs.declared.entry.FileEntry.{FileEntry}
 use Rattle.tsdb_plan.specs.declared.entry.Hull.{Hull}
 
 -- the least time of all hulls, and the greatest; a file has a hull
-abbrev pub least_time : List Hull → ℤ
-least_time [] = pos 0
-least_time (hull ∷ hulls) = fold int_min hull.from (map (λ other. other.from) hulls)
+abbrev pub hulls_start : List Hull → ℤ
+hulls_start [] = pos 0
+hulls_start (hull ∷ hulls) = fold int_min hull.from (map (λ other. other.from) hulls)
 
-abbrev pub greatest_time : List Hull → ℤ
-greatest_time [] = pos 0
-greatest_time (hull ∷ hulls) = fold int_max hull.to (map (λ other. other.to) hulls)
+abbrev pub hulls_end : List Hull → ℤ
+hulls_end [] = pos 0
+hulls_end (hull ∷ hulls) = fold int_max hull.to (map (λ other. other.to) hulls)
 
 -- the line of a file of the space
 abbrev pub line_of : Space → FileEntry → FileLine
@@ -22,10 +22,10 @@ line_of space entry = record {
   number = entry.number;
   born = entry.born;
   points = entry.points;
-  from = least_time entry.hulls;
-  to = greatest_time entry.hulls;
+  from = hulls_start entry.hulls;
+  to = hulls_end entry.hulls;
 }
 
 -- the lines of the files of a list, in its order
-abbrev pub lines_of : Space → List FileEntry → List FileLine
-lines_of space entries = map (line_of space) entries
+abbrev pub file_lines_of : Space → List FileEntry → List FileLine
+file_lines_of space entries = map (line_of space) entries

@@ -42,8 +42,8 @@ output_in Unsequence Sequence output = None
 output_in Unsequence Unsequence output = output
 
 -- the stamps at which the points of files were frozen
-abbrev pub borns_of : List FileEntry → List ℕ
-borns_of entries = map (λ (entry : FileEntry). entry.born.0) entries
+abbrev pub entry_borns : List FileEntry → List ℕ
+entry_borns entries = map (λ (entry : FileEntry). entry.born.0) entries
 
 abbrev pub stamps_of : Option Stamp → List ℕ
 stamps_of stamp = map (λ (s : Stamp). s.0) (if_some stamp)

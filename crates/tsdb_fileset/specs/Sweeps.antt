@@ -5,7 +5,7 @@ use Rattle.std.specs.List.{filter, list_any}
 use Rattle.tsdb_base.specs.declared.ids.FileNumber.{FileNumber}
 use Rattle.tsdb_fileset.specs.declared.files.Outgoing.{Outgoing}
 use Rattle.tsdb_fileset.specs.Files.{KeptFiles, outgoing_numbers}
-use Rattle.tsdb_fileset.specs.Places.{KeptFile, Places, TakesAway, file_at, is_one_of, place_at}
+use Rattle.tsdb_fileset.specs.Places.{KeptFile, Places, TakesAway, file_at, is_one_of, place_of_number}
 use Rattle.tsdb_base.specs.Lists.{count}
 
 -- it is the number, where there is one
@@ -19,7 +19,7 @@ has_no_right (Some file) = nat_eq file.rights 0
 
 -- the file is kept, no right to read it is out, and it is not in doubt
 abbrev pub is_free : List (Option FileNumber) → Places → Outgoing → Bool
-is_free doubted places file = has_no_right (file_at (place_at file.number.0 places))
+is_free doubted places file = has_no_right (file_at (place_of_number file.number.0 places))
     && not (list_any (is_that file.number.0) doubted)
 
 -- the numbers of those of the files that may go
@@ -32,7 +32,7 @@ AreOnce files = (number : ℕ) → count number (outgoing_numbers files) ≤ 1
 
 -- there is a place for the file
 abbrev pub has_place : Places → Outgoing → Bool
-has_place places file = is_some (place_at file.number.0 places)
+has_place places file = is_some (place_of_number file.number.0 places)
 
 -- the outgoing files of these numbers leave, with their places; all else stays
 pub record LeavesWithout (numbers : List ℕ) (old new : KeptFiles) : Type 0 where
@@ -43,7 +43,7 @@ pub record LeavesWithout (numbers : List ℕ) (old new : KeptFiles) : Type 0 whe
   pub spare : new.spare ≡ old.spare
 
 -- a file that may go could not be removed; those before it that may go are removed, and those behind it are not tried
-pub record StopsAt (doubted : List (Option FileNumber)) (places : Places) (outgoing : List Outgoing) : Type 0 where
+pub record StopsSweepAt (doubted : List (Option FileNumber)) (places : Places) (outgoing : List Outgoing) : Type 0 where
   pub before : List Outgoing
   pub failed : Outgoing
   pub behind : List Outgoing
@@ -52,5 +52,5 @@ pub record StopsAt (doubted : List (Option FileNumber)) (places : Places) (outgo
 
 -- the numbers of the files that were removed, and of the one that could not be
 abbrev pub tried_numbers : (doubted : List (Option FileNumber)) (places : Places) {outgoing : List Outgoing}
-    → StopsAt doubted places outgoing → List ℕ
+    → StopsSweepAt doubted places outgoing → List ℕ
 tried_numbers doubted places stop = free_numbers doubted places (stop.before ++ stop.failed ∷ [])

@@ -1,6 +1,6 @@
 //! Giving the tokens back to their store. Depends on `file` and `places`.
 ghost use Rattle.std.specs.Prelude.{◌≡◌, IfSome};
-ghost use Rattle.tsdb_fileset.specs.Closing.{ArePutBack, AreRising, IsGivenBack, names_at};
+ghost use Rattle.tsdb_fileset.specs.Closing.{ArePutBack, AreNumbersRising, IsGivenBack, names_at};
 ghost use Rattle.tsdb_fileset.specs.Places.{AreOfStore, AreUnread};
 ghost use Rattle.tsdb_outside.specs.Disk.{WhereTold};
 
@@ -26,7 +26,7 @@ pub(crate) fn keep_files<F: Files>(mut places: Places<F>, files: &mut F)
     requires no_rights { AreUnread places.entries }
     requires store { AreOfStore (F.store files.old) places.entries }
     ensures at_rest { WhereTold (ArePutBack (names_at places.entries)) (F.at_rest files.old) (F.at_rest files.new) }
-    ensures rising { AreRising places.entries }
+    ensures rising { AreNumbersRising places.entries }
     ensures same_store { F.store files.new ≡ F.store files.old }
     ensures faults { F.faults files.new ≡ F.faults files.old }
 {

@@ -58,17 +58,17 @@ impl<F: Files> Model for KeptFiles<F> {
 }
 
 impl<F: Files> KeptFiles<F> {
-    ghost use Rattle.tsdb_fileset.specs.Closing.{ArePutBack, AreRising, names_at};
+    ghost use Rattle.tsdb_fileset.specs.Closing.{ArePutBack, AreNumbersRising, names_at};
     ghost use Rattle.tsdb_fileset.specs.Files.{Appends, AreKept, IsOpen, KeepsLists, KeptFiles as KeptFilesOf, entries_in};
     ghost use Rattle.tsdb_fileset.specs.Files.{has_path, kept_file};
     ghost use Rattle.tsdb_fileset.specs.Files.{listed_borns, none_kept};
     ghost use Rattle.tsdb_fileset.specs.Places.{AreOfStore, ArePlacesMade, AreUnread, OnlyMakesPlaces, OthersStay};
-    ghost use Rattle.tsdb_fileset.specs.Places.{place_at};
+    ghost use Rattle.tsdb_fileset.specs.Places.{place_of_number};
     ghost use Rattle.tsdb_fileset.specs.Replacing.{HasListRoom, HasReplaced, IsWithin, claim_run, run_length};
     ghost use Rattle.tsdb_fileset.specs.Replacing.{compaction_room as compaction_room_of, less_compaction as less_of};
     ghost use Rattle.tsdb_fileset.specs.Rights.{HasChanged, IsRightTo, one_less, one_more};
     ghost use Rattle.tsdb_fileset.specs.Room.{HasRoom, flush_room as flush_room_of, less_room as less_room_of, more_room};
-    ghost use Rattle.tsdb_fileset.specs.Sweeps.{LeavesWithout, StopsAt, free_numbers, tried_numbers};
+    ghost use Rattle.tsdb_fileset.specs.Sweeps.{LeavesWithout, StopsSweepAt, free_numbers, tried_numbers};
 
     /// No file.
     pub fn new(alloc: Global) -> KeptFiles<F>
@@ -294,7 +294,7 @@ impl<F: Files> KeptFiles<F> {
         requires place { IsOpen number.0 self.old }
         requires room { HasRoom space self.old.spare }
         ensures lists { KeepsLists self.old self.new }
-        ensures place { place_at number.0 self.new.places ≡ None }
+        ensures place { place_of_number number.0 self.new.places ≡ None }
         ensures others { OthersStay number.0 self.old.places self.new.places }
         ensures room { self.new.spare ≡ less_room_of space self.old.spare }
     {
@@ -341,7 +341,7 @@ impl<F: Files> KeptFiles<F> {
             ≡ length (free_numbers doubted self.old.places self.old.outgoing)) }
         ensures swept { OnOk result
             (LeavesWithout (free_numbers doubted self.old.places self.old.outgoing) self.old self.new) }
-        ensures failed { OnErr result ((stop : StopsAt doubted self.old.places self.old.outgoing)
+        ensures failed { OnErr result ((stop : StopsSweepAt doubted self.old.places self.old.outgoing)
             × LeavesWithout (tried_numbers doubted self.old.places stop) self.old self.new) }
         ensures same_store { F.Port.store port.new ≡ F.Port.store port.old }
         ensures no_fault { OnOk result (F.Port.faults port.new ≡ F.Port.faults port.old) }
@@ -378,7 +378,8 @@ impl<F: Files> KeptFiles<F> {
     pub fn share(&mut self, number: FileNumber) -> Result<Option<F::Right>, Memory>
         ensures right { IfOk result (IsRightTo F.Right.file (kept_file number.0 self.old)) }
         ensures ok { OnOk result (HasChanged one_more number.0 self.old.places self.new.places) }
-        ensures memory { OnErr result (place_at number.0 self.new.places ≡ place_at number.0 self.old.places) }
+        ensures memory { OnErr result (place_of_number number.0 self.new.places
+            ≡ place_of_number number.0 self.old.places) }
         ensures others { OthersStay number.0 self.old.places self.new.places }
         ensures lists { KeepsLists self.old self.new }
         ensures room { self.new.spare ≡ self.old.spare }
@@ -402,7 +403,7 @@ impl<F: Files> KeptFiles<F> {
         requires no_rights { AreUnread self.places }
         requires store { AreOfStore (F.store files.old) self.places }
         ensures at_rest { WhereTold (ArePutBack (names_at self.places)) (F.at_rest files.old) (F.at_rest files.new) }
-        ensures rising { AreRising self.places }
+        ensures rising { AreNumbersRising self.places }
         ensures kept { AreKept self }
         ensures same_store { F.store files.new ≡ F.store files.old }
         ensures faults { F.faults files.new ≡ F.faults files.old }

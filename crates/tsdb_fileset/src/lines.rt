@@ -2,7 +2,7 @@
 ghost use Rattle.std.specs.Prelude.{◌≡◌, ◌++◌, fold, map, IfOk, OnOk};
 ghost use Rattle.std.specs.Int.{int_max, int_min};
 ghost use Rattle.tsdb_base.specs.declared.ids.Space.TheVariants.{Sequence, Unsequence};
-ghost use Rattle.tsdb_fileset.specs.Lines.{line_of as line_of_entry, lines_of};
+ghost use Rattle.tsdb_fileset.specs.Lines.{line_of as line_of_entry, file_lines_of};
 
 use std::alloc::Global;
 use tsdb_base::{List, Memory, Space, Time};
@@ -54,7 +54,7 @@ fn line_of(space: Space, entry: &FileEntry) -> FileLine
 
 /// Adds the lines of the files of a list.
 fn add_lines(space: Space, entries: &[FileEntry], lines: &mut Vec<FileLine>) -> Result<(), Memory>
-    ensures { OnOk result (lines.new.items ≡ lines.old.items ++ lines_of space entries.now) }
+    ensures { OnOk result (lines.new.items ≡ lines.old.items ++ file_lines_of space entries.now) }
 {
     for entry in entries {
         lines.push(line_of(space, entry))?;
@@ -68,7 +68,8 @@ pub fn file_lines(
     sequence: &[FileEntry],
     unsequence: &[FileEntry],
 ) -> Result<List<FileLine>, Memory>
-    ensures { IfOk result (λ lines. lines ≡ lines_of Sequence sequence.now ++ lines_of Unsequence unsequence.now) }
+    ensures { IfOk result (λ lines. lines ≡ file_lines_of Sequence sequence.now
+        ++ file_lines_of Unsequence unsequence.now) }
 {
     let mut lines = Vec::with_capacity(alloc, sequence.len() + unsequence.len())?;
     add_lines(Space::Sequence, sequence, &mut lines)?;

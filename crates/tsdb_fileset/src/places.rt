@@ -1,6 +1,6 @@
 //! The places of files by number. Depends on `file`.
 ghost use Rattle.std.specs.Prelude.{◌≡◌, ◌++◌, None, Some, OnOk};
-ghost use Rattle.tsdb_fileset.specs.Places.{ArePlacesMade, OnlyMakesPlaces, OthersStay, place_at};
+ghost use Rattle.tsdb_fileset.specs.Places.{ArePlacesMade, OnlyMakesPlaces, OthersStay, place_of_number};
 ghost use Rattle.tsdb_base.specs.Lists.{if_some};
 
 use crate::file::KeptFile;
@@ -52,8 +52,8 @@ pub(crate) fn make_places<F: Files>(
 
 /// Puts the file into its place.
 pub(crate) fn fill_place<F: Files>(places: &mut Places<F>, number: FileNumber, file: KeptFile<F>)
-    requires { place_at number.0 places.old.entries ≡ Some None }
-    ensures file { place_at number.0 places.new.entries ≡ Some (Some file) }
+    requires { place_of_number number.0 places.old.entries ≡ Some None }
+    ensures file { place_of_number number.0 places.new.entries ≡ Some (Some file) }
     ensures others { OthersStay number.0 places.old.entries places.new.entries }
 {
     let Some(place) = places.get_mut(&number.0) else {
@@ -67,8 +67,8 @@ pub(crate) fn fill_place<F: Files>(places: &mut Places<F>, number: FileNumber, f
 
 /// Takes away a place without a file.
 pub(crate) fn free_place<F: Files>(places: &mut Places<F>, number: FileNumber)
-    requires { place_at number.0 places.old.entries ≡ Some None }
-    ensures place { place_at number.0 places.new.entries ≡ None }
+    requires { place_of_number number.0 places.old.entries ≡ Some None }
+    ensures place { place_of_number number.0 places.new.entries ≡ None }
     ensures others { OthersStay number.0 places.old.entries places.new.entries }
 {
     match places.remove(&number.0) {

@@ -2,9 +2,9 @@
 ghost use Rattle.std.specs.Option.{option_map};
 ghost use Rattle.std.specs.Prelude.{◌≡◌, ◌+◌, ◌<◌, ◌≤◌, ◌∷◌, ◌++◌, drop, length, map, take, vec_capacity, vec_len};
 ghost use Rattle.std.specs.Prelude.{IfSome, List, Some, None};
-ghost use Rattle.tsdb_fileset.specs.Places.{OthersStay, file_at, place_at};
+ghost use Rattle.tsdb_fileset.specs.Places.{OthersStay, file_at, place_of_number};
 ghost use Rattle.tsdb_fileset.specs.Replacing.{HasClaims, HasListRoom, IsReplacedIn, IsTakenOut, IsWithin};
-ghost use Rattle.tsdb_fileset.specs.Replacing.{borns_of, replace_run};
+ghost use Rattle.tsdb_fileset.specs.Replacing.{entry_borns, replace_run};
 ghost use Rattle.tsdb_fileset.specs.Replacing.{compaction_room as room_of, leaving, less_compaction as less_of};
 ghost use Rattle.tsdb_fileset.specs.Replacing.{output_in, run_length, stamps_of, with_claim};
 ghost use Rattle.tsdb_base.specs.declared.ids.Space.TheVariants.{Sequence, Unsequence};
@@ -156,10 +156,10 @@ pub(crate) fn place_output<F: Files>(
     number: FileNumber,
     output: Option<Built<F>>,
 ) -> Option<FileEntry>
-    requires place { place_at number.0 places.old.entries ≡ Some None }
+    requires place { place_of_number number.0 places.old.entries ≡ Some None }
     requires no_rights { IfSome output (λ built. F.Sealed.rights built.sealed ≡ 0) }
     ensures entry { result ≡ option_map (λ built. built.entry) output }
-    ensures file { file_at (place_at number.0 places.new.entries) ≡ option_map
+    ensures file { file_at (place_of_number number.0 places.new.entries) ≡ option_map
         (λ built. record { name = F.Sealed.file built.sealed; series = built.series; rights = 0 }) output }
     ensures others { OthersStay number.0 places.old.entries places.new.entries }
 {
@@ -182,7 +182,7 @@ pub(crate) fn place_output<F: Files>(
 
 /// The least born of the files, and of those so far.
 pub(crate) fn least_of(least: Option<Stamp>, entries: &[FileEntry]) -> Option<Stamp>
-    ensures { result ≡ least_with least (borns_of entries.now) }
+    ensures { result ≡ least_with least (entry_borns entries.now) }
 {
     let mut least = least;
     for entry in entries {
@@ -209,8 +209,8 @@ pub(crate) fn least_in(
     born: Option<Stamp>,
 ) -> Option<Stamp>
     requires { IsWithin run entries.now }
-    ensures { (these : List EntryOf) → borns_of these ≡ stamps_of born
-        → result ≡ least_with least (borns_of (replace_run run these entries.now)) }
+    ensures { (these : List EntryOf) → entry_borns these ≡ stamps_of born
+        → result ≡ least_with least (entry_borns (replace_run run these entries.now)) }
 {
     let least = least_of(least, &entries[..run.first]);
     let least = least_and(least, born);

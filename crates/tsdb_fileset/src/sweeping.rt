@@ -1,8 +1,8 @@
 //! Removing outgoing files from the store. Depends on `file` and `places`.
 ghost use Rattle.std.specs.Prelude.{◌≡◌, ◌≤◌, [], ◌∷◌, true, Some, length, IfOk, OnOk, OnErr, vec_capacity, vec_len};
 ghost use Rattle.std.specs.List.{filter, list_any};
-ghost use Rattle.tsdb_fileset.specs.Places.{AreOfStore, TakesAway, file_at, place_at};
-ghost use Rattle.tsdb_fileset.specs.Sweeps.{AreOnce, StopsAt, free_numbers, has_no_right, has_place};
+ghost use Rattle.tsdb_fileset.specs.Places.{AreOfStore, TakesAway, file_at, place_of_number};
+ghost use Rattle.tsdb_fileset.specs.Sweeps.{AreOnce, StopsSweepAt, free_numbers, has_no_right, has_place};
 ghost use Rattle.tsdb_fileset.specs.Sweeps.{is_free as is_free_in, is_that, tried_numbers};
 ghost use Rattle.tsdb_outside.specs.Causes.{HasCause};
 
@@ -31,8 +31,8 @@ fn is_free<F: Files>(places: &Places<F>, doubted: &[Option<FileNumber>], file: O
 
 /// Takes the file out of its place, which goes.
 fn take_file<F: Files>(places: &mut Places<F>, number: FileNumber) -> KeptFile<F>
-    requires { has_no_right (file_at (place_at number.0 places.old.entries)) ≡ true }
-    ensures file { file_at (place_at number.0 places.old.entries) ≡ Some result }
+    requires { has_no_right (file_at (place_of_number number.0 places.old.entries)) ≡ true }
+    ensures file { file_at (place_of_number number.0 places.old.entries) ≡ Some result }
     ensures places { TakesAway (number.0 ∷ []) places.old.entries places.new.entries }
 {
     match places.remove(&number.0) {
@@ -49,7 +49,7 @@ fn remove_file<F: Files>(
     port: &mut F::Port,
 ) -> Result<(), Failed>
     requires store { AreOfStore (F.Port.store port.old) places.old.entries }
-    requires no_rights { has_no_right (file_at (place_at number.0 places.old.entries)) ≡ true }
+    requires no_rights { has_no_right (file_at (place_of_number number.0 places.old.entries)) ≡ true }
     ensures places { TakesAway (number.0 ∷ []) places.old.entries places.new.entries }
     ensures same_store { F.Port.store port.new ≡ F.Port.store port.old }
     ensures no_fault { OnOk result (F.Port.faults port.new ≡ F.Port.faults port.old) }
@@ -72,7 +72,7 @@ pub(crate) fn remove_free<F: Files>(
         ≡ length (free_numbers doubted.now places.old.entries outgoing.now)) }
     ensures ok { OnOk result (TakesAway (free_numbers doubted.now places.old.entries outgoing.now)
         places.old.entries places.new.entries) }
-    ensures failed { OnErr result ((stop : StopsAt doubted.now places.old.entries outgoing.now)
+    ensures failed { OnErr result ((stop : StopsSweepAt doubted.now places.old.entries outgoing.now)
         × TakesAway (tried_numbers doubted.now places.old.entries stop) places.old.entries places.new.entries) }
     ensures same_store { F.Port.store port.new ≡ F.Port.store port.old }
     ensures no_fault { OnOk result (F.Port.faults port.new ≡ F.Port.faults port.old) }

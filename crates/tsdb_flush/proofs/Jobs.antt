@@ -11,12 +11,12 @@ use Rattle.tsdb_base.specs.declared.ids.Space.TheVariants.{Sequence, Unsequence}
 use Rattle.tsdb_base.specs.declared.point.Point.{Point}
 use Rattle.tsdb_flush.specs.BuiltParts.{IsJobOf}
 use Rattle.tsdb_flush.proofs.TakenParts.{none_part, some_part}
-use Rattle.tsdb_flush.specs.TakingSteps.{AreSeriesOf, HasNumbers, IsDraw, IsSeriesOf, names_in, schema_in}
-use Rattle.tsdb_flush.specs.Taking.{HasPoint, IsTaken}
+use Rattle.tsdb_flush.specs.TakingSteps.{AreSeriesOf, HasNumbers, IsDraw, IsSeriesOf, pair_names, schema_in}
+use Rattle.tsdb_flush.specs.Taking.{HasPairPoint, IsJobTaken}
 use Rattle.tsdb_flush.specs.declared.series.PairSeries.{PairSeries}
 use Rattle.tsdb_path.specs.Order.{AreInNameOrder, AreNamesBefore}
 use Rattle.tsdb_flush.specs.Jobs.{IsJob}
-use Rattle.tsdb_flush.specs.Parts.{HasPointsOf, IsDrawnFor, IsFlushOf, names_of, part_of}
+use Rattle.tsdb_flush.specs.Parts.{HasPointsOfType, IsNumberDrawnFor, IsFormedFlush, schema_names, filled_part}
 use Rattle.tsdb_flush.specs.declared.job.FlushJob.{FlushJob}
 use Rattle.tsdb_base.proofs.Lists.{among_map, each_among}
 use Rattle.tsdb_base.specs.Lists.{EachPair, if_some}
@@ -24,7 +24,7 @@ use Rattle.tsdb_model.specs.Commands.{IsSchema}
 use Rattle.tsdb_model.specs.declared.command.Schema.{Schema}
 use Rattle.tsdb_memory.proofs.Frozen.{image_of}
 use Rattle.tsdb_memory.proofs.Raises.{all_at}
-use Rattle.tsdb_memory.specs.Model.{HasTypedPoints, IsFormed, IsSound}
+use Rattle.tsdb_memory.specs.Model.{HasTypedPoints, IsFormed, IsSoundMemory}
 use Rattle.tsdb_memory.specs.Shown.{number_of}
 use Rattle.tsdb_memory.specs.Store as memory
 use Rattle.tsdb_memtable.specs.Pairs.{Pair, points_of}
@@ -44,15 +44,15 @@ mapped : (all : List Schema) (pair : Pair) (P : Schema → Type 0) → ((one : P
 mapped all pair P gives [] each = tt
 mapped all pair P gives (one ∷ series) each = (gives one each.0, mapped all pair P gives series each.1)
 
-names_before : (all : List Schema) (pair : Pair) (a : PairSeries) (series : List PairSeries) → IsSeriesOf all pair a → Each (IsSeriesOf all pair) series → Each (λ b. AreNamesBefore (names_in a) (names_in b)) series
-    → Each (λ b. AreNamesBefore (names_of (schema_in a)) (names_of b)) (map schema_in series)
+names_before : (all : List Schema) (pair : Pair) (a : PairSeries) (series : List PairSeries) → IsSeriesOf all pair a → Each (IsSeriesOf all pair) series → Each (λ b. AreNamesBefore (pair_names a) (pair_names b)) series
+    → Each (λ b. AreNamesBefore (schema_names (schema_in a)) (schema_names b)) (map schema_in series)
 names_before all pair a [] of each less = tt
 names_before all pair a (b ∷ series) of each less = (
-  subst (λ (n : List ℕ × List ℕ). AreNamesBefore n (names_of (schema_in b))) of.names (subst (λ (n : List ℕ × List ℕ). AreNamesBefore (names_in a) n) each.0.names less.0),
+  subst (λ (n : List ℕ × List ℕ). AreNamesBefore n (schema_names (schema_in b))) of.names (subst (λ (n : List ℕ × List ℕ). AreNamesBefore (pair_names a) n) each.0.names less.0),
   names_before all pair a series of each.1 less.1,
 )
 
-rises : (all : List Schema) (pair : Pair) (series : List PairSeries) → Each (IsSeriesOf all pair) series → AreInNameOrder names_in series → EachPair (λ a b. AreNamesBefore (names_of a) (names_of b)) (map schema_in series)
+rises : (all : List Schema) (pair : Pair) (series : List PairSeries) → Each (IsSeriesOf all pair) series → AreInNameOrder pair_names series → EachPair (λ a b. AreNamesBefore (schema_names a) (schema_names b)) (map schema_in series)
 rises all pair [] each order = tt
 rises all pair (one ∷ series) each order = (names_before all pair one series each.0 each.1 order.0, rises all pair series each.1 order.1)
 
@@ -73,7 +73,7 @@ module _ (all : List Schema) (pair : Pair) (series : List PairSeries) (are : Are
   abbrev numbers : List SeriesId
   numbers = map (λ (one : PairSeries). one.id) series
 
-  drawn : (space : Space) (old new : ℕ) (file : Option FileNumber) → IsDraw space series old new file → IsDrawnFor file (part_of space pair schemas numbers)
+  drawn : (space : Space) (old new : ℕ) (file : Option FileNumber) → IsDraw space series old new file → IsNumberDrawnFor file (filled_part space pair schemas numbers)
   drawn space old new None draw = none_part all space pair series are.each draw.1
   drawn space old new (Some file) draw = some_part all space pair series are.each draw.2
 
@@ -94,22 +94,22 @@ module _ (all : List Schema) (pair : Pair) (series : List PairSeries) (are : Are
     rising = rising;
   }
 
-  flush_of : (next mid end : ℕ) (sequence unsequence : Option FileNumber) → All IsFormed all → HasTypedPoints all pair → AreInNameOrder names_in series → IsDraw Sequence series next mid sequence → IsDraw Unsequence series mid end unsequence
-      → IsFlushOf pair schemas numbers sequence unsequence
+  flush_of : (next mid end : ℕ) (sequence unsequence : Option FileNumber) → All IsFormed all → HasTypedPoints all pair → AreInNameOrder pair_names series → IsDraw Sequence series next mid sequence → IsDraw Unsequence series mid end unsequence
+      → IsFormedFlush pair schemas numbers sequence unsequence
   flush_of next mid end sequence unsequence formed typed order first second = record {
     formed = mapped all pair IsSchema (λ one of. (all_at IsFormed all one.id.0 (schema_in one) formed of.schema).suits) series are.each;
     rising = rises all pair series are.each order;
-    typed = zipped all pair (HasPointsOf pair) (λ one of space. typed space one.id.0 (schema_in one) of.schema) series are.each;
+    typed = zipped all pair (HasPointsOfType pair) (λ one of space. typed space one.id.0 (schema_in one) of.schema) series are.each;
     sequence_drawn = drawn Sequence next mid sequence first;
     unsequence_drawn = drawn Unsequence mid end unsequence second;
   }
 
 -- what is found of memory: the oldest pair, its series in order, and the numbers drawn
-pub record IsFound (store : memory.Store) (next : ℕ) (oldest : memory.FrozenPair) (series : List PairSeries) (sequence unsequence : Option FileNumber) : Type 0 where
+pub record IsFound (store : memory.MemoryState) (next : ℕ) (oldest : memory.FrozenPair) (series : List PairSeries) (sequence unsequence : Option FileNumber) : Type 0 where
   pub newer : List memory.FrozenPair
   pub are : store.frozen ≡ oldest ∷ newer
   pub all : AreSeriesOf store.series oldest.pair series
-  pub order : AreInNameOrder names_in series
+  pub order : AreInNameOrder pair_names series
   pub mid : ℕ
   pub end : ℕ
   pub first : IsDraw Sequence series next mid sequence
@@ -122,7 +122,7 @@ pub record Has (job : FlushJob) (oldest : memory.FrozenPair) (series : List Pair
   pub numbers : job.series ≡ map (λ (one : PairSeries). one.id) series
   pub schemas : job.schemas ≡ map schema_in series
 
-module _ (store : memory.Store) (next : ℕ) (oldest : memory.FrozenPair) (series : List PairSeries) (job : FlushJob) (sound : IsSound store) (found : IsFound store next oldest series job.sequence job.unsequence) (has : Has job oldest series) where
+module _ (store : memory.MemoryState) (next : ℕ) (oldest : memory.FrozenPair) (series : List PairSeries) (job : FlushJob) (sound : IsSoundMemory store) (found : IsFound store next oldest series job.sequence job.unsequence) (has : Has job oldest series) where
   of_oldest : (P : memory.FrozenPair → Type 0) → All P store.frozen → P oldest
   of_oldest P each = All-head P oldest found.newer (subst (All P) found.are each)
 
@@ -134,11 +134,11 @@ module _ (store : memory.Store) (next : ℕ) (oldest : memory.FrozenPair) (serie
 
   pub is_job : IsJob job
   is_job =
-      moved (λ pair schemas numbers. IsFlushOf pair schemas numbers job.sequence job.unsequence)
+      moved (λ pair schemas numbers. IsFormedFlush pair schemas numbers job.sequence job.unsequence)
       (flush_of store.series oldest.pair series found.all next found.mid found.end job.sequence job.unsequence sound.formed
       (of_oldest (λ (frozen : memory.FrozenPair). HasTypedPoints store.series frozen.pair) sound.frozen_typed) found.order found.first found.second)
 
-  pub is_taken : IsTaken store next job
+  pub is_taken : IsJobTaken store next job
   is_taken = record {
     oldest = oldest;
     newer = found.newer;
@@ -148,6 +148,6 @@ module _ (store : memory.Store) (next : ℕ) (oldest : memory.FrozenPair) (serie
     of = moved (IsJobOf store.series) (job_of store.series oldest.pair series found.all sound.once);
     schemas = moved (λ pair schemas numbers. AllZip (λ schema number. slice_get store.series number.0 ≡ Some schema) schemas numbers)
         (zipped store.series oldest.pair (λ schema number. slice_get store.series number.0 ≡ Some schema) (λ one of. of.schema) series found.all.each);
-    filled = moved (λ pair schemas numbers. Each (HasPoint pair) numbers) found.all.numbers.filled;
+    filled = moved (λ pair schemas numbers. Each (HasPairPoint pair) numbers) found.all.numbers.filled;
     numbers = numbers_from next found.mid found.end series job.sequence job.unsequence found.first found.second;
   }

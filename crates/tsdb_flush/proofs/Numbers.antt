@@ -12,15 +12,15 @@ use Rattle.tsdb_base.specs.declared.ids.Space.{Space}
 use Rattle.tsdb_base.specs.declared.ids.Space.TheVariants.{Sequence, Unsequence}
 use Rattle.tsdb_base.specs.declared.point.Point.{Point}
 use Rattle.tsdb_flush.specs.TakingSteps.{AreNumbersOf}
-use Rattle.tsdb_flush.specs.Taking.{HasPoint}
+use Rattle.tsdb_flush.specs.Taking.{HasPairPoint}
 use Rattle.tsdb_base.proofs.Lists.{among_left, among_map, among_right, each_among, each_from_among}
 use Rattle.tsdb_base.specs.Lists.{Among}
 use Rattle.tsdb_memory.proofs.Counts.{among_either}
 use Rattle.tsdb_memory.proofs.Emptiness.{filled_by, not_less}
 use Rattle.tsdb_memory.proofs.Frozen.{image_of}
 use Rattle.tsdb_memory.proofs.Series.{itself, one_number}
-use Rattle.tsdb_memory.specs.Shown.{IsFilled}
-use Rattle.tsdb_memtable.specs.Pairs.{HasRisingSeries, Pair, SeriesPoints, blank, count, is_series, points_in, points_of, table}
+use Rattle.tsdb_memory.specs.Shown.{TellsSpaceFilled}
+use Rattle.tsdb_memtable.specs.Pairs.{HasRisingSeries, Pair, SeriesPoints, blank, space_count, is_series, points_in, points_of, table}
 
 abbrev Row : Type 0
 Row = ℕ × List Point
@@ -109,7 +109,7 @@ pub record AreListed (space : Space) (pair : Pair) (numbers : List SeriesId) : T
   pub are : map (λ (id : SeriesId). id.0) numbers ≡ listed space pair
 
 module _ (pair : Pair) (rising : HasRisingSeries pair) where
-  filled : (space : Space) (numbers : List SeriesId) (id : SeriesId) → map (λ (id : SeriesId). id.0) numbers ≡ listed space pair → Among id numbers → HasPoint pair id
+  filled : (space : Space) (numbers : List SeriesId) (id : SeriesId) → map (λ (id : SeriesId). id.0) numbers ≡ listed space pair → Among id numbers → HasPairPoint pair id
   filled space numbers id are has = record {
     space = space;
     some = row_has space pair id.0 rising (subst (Among id.0) are (among_map (λ (i : SeriesId). i.0) numbers id has));
@@ -124,7 +124,7 @@ module _ (pair : Pair) (rising : HasRisingSeries pair) where
   pub both_spaces : (on_time late all : List SeriesId) → map (λ (id : SeriesId). id.0) on_time ≡ listed Sequence pair → map (λ (id : SeriesId). id.0) late ≡ listed Unsequence pair → all ≡ on_time ++ late
       → AreNumbersOf pair all
   both_spaces on_time late all first second is = record {
-    filled = each_from_among (HasPoint pair) all (λ id has. ⊎_elim (filled Sequence on_time id first) (filled Unsequence late id second) (among_either on_time late id (subst (Among id) is has)));
+    filled = each_from_among (HasPairPoint pair) all (λ id has. ⊎_elim (filled Sequence on_time id first) (filled Unsequence late id second) (among_either on_time late id (subst (Among id) is has)));
     whole = λ id has. subst (Among id) (sym is) (by id has.space has.some);
   }
     where
@@ -135,7 +135,7 @@ module _ (pair : Pair) (rising : HasRisingSeries pair) where
   -- where no point is late, the list of the sequence space alone
   pub one_space : (on_time : List SeriesId) → map (λ (id : SeriesId). id.0) on_time ≡ listed Sequence pair → ((number : ℕ) → points_of Unsequence number pair ≡ []) → AreNumbersOf pair on_time
   one_space on_time first none = record {
-    filled = each_from_among (HasPoint pair) on_time (λ id has. filled Sequence on_time id first has);
+    filled = each_from_among (HasPairPoint pair) on_time (λ id has. filled Sequence on_time id first has);
     whole = λ id has. by id has.space has.some;
   }
     where
@@ -145,5 +145,5 @@ module _ (pair : Pair) (rising : HasRisingSeries pair) where
 
 -- ---- whether there is a point in a space
 
-pub none_in : (space : Space) (pair : Pair) (n : ℕ) → HasRisingSeries pair → n ≡ count space pair → n ≡ 0 → (number : ℕ) → points_of space number pair ≡ []
-none_in space pair n rising is zero = let none : IsFilled (nat_lt 0 0) space pair = subst (λ k. IsFilled (nat_lt 0 k) space pair) zero (filled_by space pair n rising is) in none
+pub none_in : (space : Space) (pair : Pair) (n : ℕ) → HasRisingSeries pair → n ≡ space_count space pair → n ≡ 0 → (number : ℕ) → points_of space number pair ≡ []
+none_in space pair n rising is zero = let none : TellsSpaceFilled (nat_lt 0 0) space pair = subst (λ k. TellsSpaceFilled (nat_lt 0 k) space pair) zero (filled_by space pair n rising is) in none

@@ -7,8 +7,8 @@ use Rattle.std.proofs.lemmas.List.Kept.{Any-dedup, Contains-from_dedup}
 use Rattle.std.proofs.lemmas.List.Sorted.{Contains-permutation, IsPermutation-sym}
 use Rattle.tsdb_base.specs.declared.ids.SeriesId.{SeriesId}
 use Rattle.tsdb_flush.proofs.Members.{among, among_at, contained}
-use Rattle.tsdb_flush.specs.TakingSteps.{AreSeriesOf, HasNumbers, IsSeriesOf, names_in, schema_in}
-use Rattle.tsdb_flush.specs.Taking.{HasPoint}
+use Rattle.tsdb_flush.specs.TakingSteps.{AreSeriesOf, HasNumbers, IsSeriesOf, pair_names, schema_in}
+use Rattle.tsdb_flush.specs.Taking.{HasPairPoint}
 use Rattle.tsdb_flush.specs.declared.series.PairSeries.{PairSeries}
 use Rattle.tsdb_base.proofs.Lists.{among_map, each_among, each_from_among}
 use Rattle.tsdb_base.specs.Lists.{Among}
@@ -31,26 +31,26 @@ module _ (all : List Schema) (pair : Pair) (formed : All IsFormed all) (once : H
       ap (λ (n : List ℕ × List ℕ). child_of n.0 n.1) of.names ∙ child_of-device_of one.path.now nodes
 
   -- two series with the same names have one number
-  one_id : (a b : PairSeries) → IsSeriesOf all pair a → IsSeriesOf all pair b → same_names names_in a b ≡ true → a.id ≡ b.id
+  one_id : (a b : PairSeries) → IsSeriesOf all pair a → IsSeriesOf all pair b → same_names pair_names a b ≡ true → a.id ≡ b.id
   one_id a b of_a of_b same =
-      let alike = names_same names_in a b same in
+      let alike = names_same pair_names a b same in
       let device : a.names.0.now ≡ b.names.0.now = alike.0 in
       let measurement : a.names.1.now ≡ b.names.1.now = alike.1 in
       let path : a.path.now ≡ b.path.now = sym (path_of a of_a) ∙ ap (λ (d : List ℕ). child_of d a.names.1.now) device ∙ ap (child_of b.names.0.now) measurement ∙ path_of b of_b in
       ap (λ n. record { 0 = n })
       (some_same a.id.0 b.id.0 (sym (once a.id.0 (schema_in a) of_a.schema) ∙ ap (λ (p : List ℕ). number_of all p) path ∙ once b.id.0 (schema_in b) of_b.schema))
 
-  pub kept : (old sorted new : List PairSeries) → AreSeriesOf all pair old → IsPermutation old sorted → new ≡ dedup (same_names names_in) sorted → AreSeriesOf all pair new
+  pub kept : (old sorted new : List PairSeries) → AreSeriesOf all pair old → IsPermutation old sorted → new ≡ dedup (same_names pair_names) sorted → AreSeriesOf all pair new
   kept old sorted new are moved is = record {
     each = each_from_among (IsSeriesOf all pair) new (λ one has. of one (back one has));
     numbers = record {
-      filled = each_from_among (HasPoint pair) (map id_of new) (λ id has.
+      filled = each_from_among (HasPairPoint pair) (map id_of new) (λ id has.
           let image = image_of id_of new id has in
-          subst (HasPoint pair) image.is (each_among (HasPoint pair) (map id_of old) (id_of image.element) are.numbers.filled (among_map id_of old image.element (back image.element image.among))));
+          subst (HasPairPoint pair) image.is (each_among (HasPairPoint pair) (map id_of old) (id_of image.element) are.numbers.filled (among_map id_of old image.element (back image.element image.among))));
       whole = λ id has.
           let image = image_of id_of old id (are.numbers.whole id has) in
-          let stays = Any-dedup (same_equiv names_in) sorted image.element (Contains-permutation old sorted image.element moved (contained old image.element image.among)) in
-          let there : Among stays.1 new = subst (Among stays.1) (sym is) (among_at (dedup (same_names names_in) sorted) stays.1 stays.0 stays.2 stays.3) in
+          let stays = Any-dedup (same_equiv pair_names) sorted image.element (Contains-permutation old sorted image.element moved (contained old image.element image.among)) in
+          let there : Among stays.1 new = subst (Among stays.1) (sym is) (among_at (dedup (same_names pair_names) sorted) stays.1 stays.0 stays.2 stays.3) in
           let same : stays.1.id ≡ id = sym (one_id image.element stays.1 (of image.element image.among) (of stays.1 (back stays.1 there)) stays.4) ∙ image.is in
           subst (λ (i : SeriesId). Among i (map id_of new)) same (among_map id_of new stays.1 there);
     };
@@ -65,4 +65,4 @@ module _ (all : List Schema) (pair : Pair) (formed : All IsFormed all) (once : H
       back : (one : PairSeries) → Among one new → Among one old
       back one has =
           among old one (Contains-permutation sorted old one (IsPermutation-sym old sorted moved)
-          (Contains-from_dedup (same_names names_in) sorted one (contained (dedup (same_names names_in) sorted) one (subst (Among one) is has))))
+          (Contains-from_dedup (same_names pair_names) sorted one (contained (dedup (same_names pair_names) sorted) one (subst (Among one) is has))))

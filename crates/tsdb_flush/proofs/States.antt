@@ -13,15 +13,15 @@ use Rattle.tsdb_flush.proofs.Memory.{content_of_part}
 use Rattle.tsdb_flush.specs.BuiltParts.{HasPartPoint, IsContentOfPart, IsJobOf}
 use Rattle.tsdb_flush.proofs.TakenParts.{point_of}
 use Rattle.tsdb_flush.specs.Flushes.{IsFlushOf}
-use Rattle.tsdb_flush.specs.Taking.{IsTaken, drawn_numbers}
+use Rattle.tsdb_flush.specs.Taking.{IsJobTaken, job_numbers}
 use Rattle.tsdb_flush.specs.Jobs.{IsJob}
 use Rattle.tsdb_flush.specs.Parts as jobs
 use Rattle.tsdb_flush.specs.declared.job.FlushJob.{FlushJob}
 use Rattle.tsdb_memory.proofs.LayerLemmas.Places.{same_content}
 use Rattle.tsdb_base.specs.Lists.{Among, if_some}
-use Rattle.tsdb_memory.specs.Places.{Content, Place, place_cmp}
+use Rattle.tsdb_memory.specs.Places.{Content, PointPlace, place_cmp}
 use Rattle.tsdb_model.specs.declared.command.Schema.{Schema}
-use Rattle.tsdb_memory.specs.Shown.{IsContentOf, IsFrozenOf, IsMemoryOf, IsPairOf}
+use Rattle.tsdb_memory.specs.Shown.{IsPairContent, IsFrozenOf, IsMemoryOf, IsPairOf}
 use Rattle.tsdb_memory.specs.Store as memory
 use Rattle.tsdb_memtable.specs.Pairs.{Pair}
 use Rattle.tsdb_memory.specs.Jobs.{IsDrawnFor, drawn_by}
@@ -34,9 +34,9 @@ number_of file = file.0
 
 -- ---- a part is empty exactly where its content is
 
-module _ (series : List Schema) (space : Space) (pair : Pair) (schemas : List Schema) (numbers : List SeriesId) (content : Content) (of : IsJobOf series pair schemas numbers) (shown : IsContentOf series space pair content) where
+module _ (series : List Schema) (space : Space) (pair : Pair) (schemas : List Schema) (numbers : List SeriesId) (content : Content) (of : IsJobOf series pair schemas numbers) (shown : IsPairContent series space pair content) where
   abbrev part : List jobs.Filled
-  part = jobs.part_of space pair schemas numbers
+  part = jobs.filled_part space pair schemas numbers
 
   is : IsContentOfPart part content
   is = content_of_part series space pair schemas numbers content of shown
@@ -44,36 +44,36 @@ module _ (series : List Schema) (space : Space) (pair : Pair) (schemas : List Sc
   no_content : part ≡ [] → content ≡ empty
   no_content none = same_content content empty (λ place. by place (get content place) refl ∙ sym (get-empty place_cmp place))
     where
-      by : (place : Place) (o : Option Value) → get content place ≡ o → o ≡ None
+      by : (place : PointPlace) (o : Option Value) → get content place ≡ o → o ≡ None
       by place None at = refl
       by place (Some value) at = absurd (nothing place value ((is place value).0 at))
         where
-          nothing : (place : Place) (value : Value) → HasPartPoint part place value → ⊥
+          nothing : (place : PointPlace) (value : Value) → HasPartPoint part place value → ⊥
           nothing place value has = subst (Among has.filled) none has.in_part
 
   some_content : part ≢ [] → content ≢ empty
   some_content some none =
       let there = point_of space pair schemas numbers some in
-      let place : Place = record { path = there.filled.schema.path; time = there.point.time } in
+      let place : PointPlace = record { path = there.filled.schema.path; time = there.point.time } in
       let has : get content place ≡ Some there.point.value = (is place there.point.value).1 (record { filled = there.filled; in_part = there.in_part; point = there.point; in_series = there.in_series; path = refl; time = refl; has = refl }) in
       some_none there.point.value (sym has ∙ ap (λ (c : Content). get c place) none ∙ get-empty place_cmp place)
     where
       some_none : (value : Value) → Some value ≡ None → ⊥
       some_none value same = cc
 
-  drawn : (file : Option FileNumber) → jobs.IsDrawnFor file part → IsDrawnFor (option_map number_of file) content
+  drawn : (file : Option FileNumber) → jobs.IsNumberDrawnFor file part → IsDrawnFor (option_map number_of file) content
   drawn None is = no_content is
   drawn (Some file) is = some_content is
 
 -- ---- the oldest pair of the state
 
-record Oldest (series : List Schema) (oldest : memory.FrozenPair) (frozen : List state.FrozenPair) : Type 0 where
-  pub shown : state.FrozenPair
-  pub newer : List state.FrozenPair
+record Oldest (series : List Schema) (oldest : memory.FrozenPair) (frozen : List state.FrozenContent) : Type 0 where
+  pub shown : state.FrozenContent
+  pub newer : List state.FrozenContent
   pub are : frozen ≡ shown ∷ newer
   pub of : IsFrozenOf series oldest shown
 
-oldest_of : (series : List Schema) (oldest : memory.FrozenPair) (newer : List memory.FrozenPair) (frozen : List state.FrozenPair) → AllZip (IsFrozenOf series) (oldest ∷ newer) frozen → Oldest series oldest frozen
+oldest_of : (series : List Schema) (oldest : memory.FrozenPair) (newer : List memory.FrozenPair) (frozen : List state.FrozenContent) → AllZip (IsFrozenOf series) (oldest ∷ newer) frozen → Oldest series oldest frozen
 oldest_of series oldest newer [] zip = absurd zip
 oldest_of series oldest newer (shown ∷ others) zip = record { shown = shown; newer = others; are = refl; of = zip.0 }
 
@@ -83,11 +83,11 @@ same_numbers None (Some late) = refl
 same_numbers (Some on_time) None = refl
 same_numbers (Some on_time) (Some late) = refl
 
-abbrev flush_of : state.FrozenPair → FlushJob → state.FlushJob
+abbrev flush_of : state.FrozenContent → FlushJob → state.FlushState
 flush_of oldest job = record { born = oldest.born; pair = oldest.pair; sequence = option_map number_of job.sequence; unsequence = option_map number_of job.unsequence }
 
-pub taken_flush : (store : memory.Store) (job : FlushJob) (engine : state.EngineState) → IsMemoryOf store engine.store → IsTaken store engine.next_file job → IsJob job → engine.next_file + 2 ≤ end_of_numbers
-    → (flush : state.FlushJob) × IsFlushOf job flush × TakesFlush flush engine × (drawn_by flush ≡ drawn_numbers job)
+pub taken_flush : (store : memory.MemoryState) (job : FlushJob) (engine : state.EngineState) → IsMemoryOf store engine.store → IsJobTaken store engine.next_file job → IsJob job → engine.next_file + 2 ≤ end_of_numbers
+    → (flush : state.FlushState) × IsFlushOf job flush × TakesFlush flush engine × (drawn_by flush ≡ job_numbers job)
 taken_flush store job engine is taken whole left = (
   flush_of oldest.shown job,
   record { series = store.series; of = taken.of; born = oldest.of.born ∙ sym taken.born; pair = pair; sequence = refl; unsequence = refl },
@@ -111,5 +111,5 @@ taken_flush store job engine is taken whole left = (
     pair : IsPairOf store.series (arc_value job.pair) oldest.shown.pair
     pair = subst (λ (p : Pair). IsPairOf store.series p oldest.shown.pair) (sym taken.pair) oldest.of.pair
 
-    same : drawn_by (flush_of oldest.shown job) ≡ drawn_numbers job
+    same : drawn_by (flush_of oldest.shown job) ≡ job_numbers job
     same = same_numbers job.sequence job.unsequence

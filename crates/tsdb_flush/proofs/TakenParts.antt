@@ -10,16 +10,16 @@ use Rattle.tsdb_base.specs.declared.ids.SeriesId.{SeriesId}
 use Rattle.tsdb_base.specs.declared.ids.Space.{Space}
 use Rattle.tsdb_base.specs.declared.ids.Space.TheVariants.{Sequence, Unsequence}
 use Rattle.tsdb_base.specs.declared.point.Point.{Point}
-use Rattle.tsdb_flush.specs.TakingSteps.{IsSeriesOf, has_points, points_in, schema_in}
+use Rattle.tsdb_flush.specs.TakingSteps.{IsSeriesOf, has_points, pair_points_in, schema_in}
 use Rattle.tsdb_flush.specs.declared.series.PairSeries.{PairSeries}
 use Rattle.tsdb_flush.specs.BuiltParts.{IsJobOf}
-use Rattle.tsdb_flush.specs.Parts.{Filled, IsDrawnFor, if_any, part_of}
+use Rattle.tsdb_flush.specs.Parts.{Filled, IsNumberDrawnFor, if_any, filled_part}
 use Rattle.tsdb_base.specs.Lists.{Among, if_some}
 use Rattle.tsdb_memory.proofs.Emptiness.{filled_by}
-use Rattle.tsdb_memory.specs.Fits.{HasNoPoint}
-use Rattle.tsdb_memory.specs.Shown.{IsFilled, number_of}
+use Rattle.tsdb_memory.specs.Fits.{HasNoPairPoint}
+use Rattle.tsdb_memory.specs.Shown.{TellsSpaceFilled, number_of}
 use Rattle.tsdb_model.specs.declared.command.Schema.{Schema}
-use Rattle.tsdb_memtable.specs.Pairs.{HasRisingSeries, Pair, count, points_of}
+use Rattle.tsdb_memtable.specs.Pairs.{HasRisingSeries, Pair, space_count, points_of}
 
 neither : (a b : Bool) → (a || b) ≡ false → (a ≡ false) × (b ≡ false)
 neither true b is = absurd (false≢true (sym is))
@@ -42,7 +42,7 @@ behind schema (point ∷ points) rest empty = absurd (cc)
 
 module _ (all : List Schema) (space : Space) (pair : Pair) where
   abbrev part_with : List PairSeries → List Filled
-  part_with series = part_of space pair (map schema_in series) (map (λ (one : PairSeries). one.id) series)
+  part_with series = filled_part space pair (map schema_in series) (map (λ (one : PairSeries). one.id) series)
 
   no_points : (points : List Point) → not (length points == 0) ≡ false → points ≡ []
   no_points [] is = refl
@@ -57,14 +57,14 @@ module _ (all : List Schema) (space : Space) (pair : Pair) where
   none_part [] each none = refl
   none_part (one ∷ series) each none =
       let both = neither (has_points space one) (list_any (has_points space) series) none in
-      let empty : points_of space one.id.0 pair ≡ [] = sym (each.0.points space) ∙ no_points (points_in space one) both.0 in
+      let empty : points_of space one.id.0 pair ≡ [] = sym (each.0.points space) ∙ no_points (pair_points_in space one) both.0 in
       ap (λ (l : List Point). if_any (schema_in one) l ++ part_with series) empty ∙ none_part series each.1 both.1
 
   -- a point, a part
   pub some_part : (series : List PairSeries) → Each (IsSeriesOf all pair) series → list_any (has_points space) series ≡ true → part_with series ≢ []
   some_part [] each some = absurd (false≢true some)
   some_part (one ∷ series) each some =
-      ⊎_elim (λ (is : has_points space one ≡ true). here (schema_in one) (points_of space one.id.0 pair) (part_with series) (subst (λ (l : List Point). 0 < length l) (each.0.points space) (some_points (points_in space one) is)))
+      ⊎_elim (λ (is : has_points space one ≡ true). here (schema_in one) (points_of space one.id.0 pair) (part_with series) (subst (λ (l : List Point). 0 < length l) (each.0.points space) (some_points (pair_points_in space one) is)))
       (λ (is : list_any (has_points space) series ≡ true) empty. some_part series each.1 is (behind (schema_in one) (points_of space one.id.0 pair) (part_with series) empty)) (one_of (has_points space one) (list_any (has_points space) series) some)
 
 -- a point of a part
@@ -78,25 +78,25 @@ first : (schema : Schema) (points : List Point) (rest : List Filled) → (rest �
 first schema [] rest other some = other some
 first schema (point ∷ points) rest other some = record { filled = record { schema = schema; points = point ∷ points }; in_part = inl refl; point = point; in_series = inl refl }
 
-pub point_of : (space : Space) (pair : Pair) (schemas : List Schema) (numbers : List SeriesId) → part_of space pair schemas numbers ≢ [] → SomePointOf (part_of space pair schemas numbers)
+pub point_of : (space : Space) (pair : Pair) (schemas : List Schema) (numbers : List SeriesId) → filled_part space pair schemas numbers ≢ [] → SomePointOf (filled_part space pair schemas numbers)
 point_of space pair [] numbers some = absurd (some refl)
 point_of space pair (schema ∷ schemas) [] some = absurd (some refl)
 point_of space pair (schema ∷ schemas) (id ∷ numbers) some =
-    first schema (points_of space id.0 pair) (part_of space pair schemas numbers) (point_of space pair schemas numbers) some
+    first schema (points_of space id.0 pair) (filled_part space pair schemas numbers) (point_of space pair schemas numbers) some
 
 -- a series of the job with a point is in the part
 part_there : (all : List Schema) (space : Space) (pair : Pair) (schemas : List Schema) (numbers : List SeriesId)
     → AllZip (λ (schema : Schema) (number : SeriesId). number_of all schema.path ≡ Some number.0) schemas numbers
-    → (n : ℕ) → Among n (map (λ (id : SeriesId). id.0) numbers) → 0 < length (points_of space n pair) → part_of space pair schemas numbers ≡ [] → ⊥
+    → (n : ℕ) → Among n (map (λ (id : SeriesId). id.0) numbers) → 0 < length (points_of space n pair) → filled_part space pair schemas numbers ≡ [] → ⊥
 part_there all space pair [] [] zip n among some empty = absurd among
 part_there all space pair [] (id ∷ numbers) zip n among some empty = absurd zip
 part_there all space pair (schema ∷ schemas) [] zip n among some empty = absurd zip
 part_there all space pair (schema ∷ schemas) (id ∷ numbers) zip n (inl is) some empty =
-    here schema (points_of space id.0 pair) (part_of space pair schemas numbers)
+    here schema (points_of space id.0 pair) (filled_part space pair schemas numbers)
     (subst (λ k. 0 < length (points_of space k pair)) (sym is) some) empty
 part_there all space pair (schema ∷ schemas) (id ∷ numbers) zip n (inr among) some empty =
     part_there all space pair schemas numbers zip.1 n among some
-    (behind schema (points_of space id.0 pair) (part_of space pair schemas numbers) empty)
+    (behind schema (points_of space id.0 pair) (filled_part space pair schemas numbers) empty)
 
 some_among : (point : Point) (points : List Point) → Among point points → 0 < length points
 some_among point [] among = absurd among
@@ -107,22 +107,22 @@ nothing n e = grind (arith, nat_tests)
 
 -- where a space has no part, the pair has no point there
 none_there : (all : List Schema) (space : Space) (pair : Pair) (schemas : List Schema) (numbers : List SeriesId)
-    → HasRisingSeries pair → IsJobOf all pair schemas numbers → part_of space pair schemas numbers ≡ []
-    → count space pair ≡ 0
+    → HasRisingSeries pair → IsJobOf all pair schemas numbers → filled_part space pair schemas numbers ≡ []
+    → space_count space pair ≡ 0
 none_there all space pair schemas numbers rising is empty =
-    by (nat_lt 0 (count space pair)) refl (filled_by space pair (count space pair) rising refl)
+    by (nat_lt 0 (space_count space pair)) refl (filled_by space pair (space_count space pair) rising refl)
   where
-    by : (b : Bool) → nat_lt 0 (count space pair) ≡ b → IsFilled b space pair → count space pair ≡ 0
+    by : (b : Bool) → nat_lt 0 (space_count space pair) ≡ b → TellsSpaceFilled b space pair → space_count space pair ≡ 0
     by true e some =
         let points = some_among some.point (points_of space some.number pair) some.among in
         absurd (part_there all space pair schemas numbers is.numbered some.number (is.whole space some.number points) points
         empty)
-    by false e none = nothing (count space pair) e
+    by false e none = nothing (space_count space pair) e
 
 -- a pair with a point has a part, for which a number is drawn
 pub some_drawn : (all : List Schema) (pair : Pair) (schemas : List Schema) (numbers : List SeriesId)
-    → HasRisingSeries pair → ¬ HasNoPoint pair → IsJobOf all pair schemas numbers → (s u : Option FileNumber)
-    → IsDrawnFor s (part_of Sequence pair schemas numbers) → IsDrawnFor u (part_of Unsequence pair schemas numbers)
+    → HasRisingSeries pair → ¬ HasNoPairPoint pair → IsJobOf all pair schemas numbers → (s u : Option FileNumber)
+    → IsNumberDrawnFor s (filled_part Sequence pair schemas numbers) → IsNumberDrawnFor u (filled_part Unsequence pair schemas numbers)
     → 0 < length (map (λ (file : FileNumber). file.0) (if_some s ++ if_some u))
 some_drawn all pair schemas numbers rising some is (Some s) u first second = omega arith
 some_drawn all pair schemas numbers rising some is None (Some u) first second = omega arith

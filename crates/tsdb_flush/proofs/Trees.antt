@@ -3,10 +3,10 @@ use Rattle.std.proofs.Common.{◌≡◌, ℕ, ◌<◌, List, [], ◌∷◌, ◌+
 use Rattle.std.specs.Prelude.{◌⊎◌, All}
 use Rattle.std.specs.List.{AllByRecursion as Each}
 use Rattle.std.proofs.lemmas.List.Elements.{All-from_recursion, recursion_from_All}
-use Rattle.tsdb_flush.specs.MakingSteps.{ComeBefore, IsSound}
+use Rattle.tsdb_flush.specs.MakingSteps.{ComeBefore, IsSoundSeries}
 use Rattle.tsdb_path.specs.Order.{AreNamesBefore}
 use Rattle.tsdb_flush.specs.Built.{IsFileOf}
-use Rattle.tsdb_flush.specs.Parts.{Filled, names_of, series_of}
+use Rattle.tsdb_flush.specs.Parts.{Filled, schema_names, builder_series}
 use Rattle.tsdb_base.proofs.Lists.{each_append, each_left, each_middle, each_of_map, each_right, each_weaker}
 use Rattle.tsdb_model.specs.declared.command.Schema.{Schema}
 use Rattle.tsfile_writer.specs.File.{IsFile}
@@ -17,12 +17,12 @@ use Rattle.tsfile_writer.specs.Group.{Group}
 use Rattle.tsfile_writer.specs.Tree.{Tree}
 use Rattle.tsdb_path.specs.Nodes.{IsName, IsPath, device_of, measurement_of}
 use Rattle.tsfile_writer.specs.Building.{WasGiven}
-use Rattle.tsfile_writer.specs.Given.{AreChunksOf, IsChunkOf, IsTreeOf, MayBeFollowedBy, Series, placed}
+use Rattle.tsfile_writer.specs.Given.{AreChunksOf, IsChunkOf, IsTreeOf, MayBeFollowedBy, GivenSeries, placed}
 use Rattle.tsfile_writer.specs.declared.builder.Builder.{Builder}
 
-map_push : (part : List Filled) (filled : Filled) → map series_of (part ++ filled ∷ []) ≡ map series_of part ++ series_of filled ∷ []
+map_push : (part : List Filled) (filled : Filled) → map builder_series (part ++ filled ∷ []) ≡ map builder_series part ++ builder_series filled ∷ []
 map_push [] filled = refl
-map_push (f ∷ part) filled = ap (λ (l : List Series). series_of f ∷ l) (map_push part filled)
+map_push (f ∷ part) filled = ap (λ (l : List GivenSeries). builder_series f ∷ l) (map_push part filled)
 
 -- the last series of a part that has one
 pub record EndsIn (part : List Filled) : Type 0 where
@@ -38,41 +38,41 @@ ends_in first (second ∷ part) =
 
 -- a builder that was given nothing, or series of which the last may be followed by this one
 abbrev pub MayFollow : Builder → Schema → Type 0
-MayFollow builder schema = WasGiven builder [] ⊎ ((front : List Series) × (last : Series) × WasGiven builder (front ++ last ∷ [])
+MayFollow builder schema = WasGiven builder [] ⊎ ((front : List GivenSeries) × (last : GivenSeries) × WasGiven builder (front ++ last ∷ [])
     × MayBeFollowedBy (device_of schema.path) (measurement_of schema.path) last)
 
-pub may_follow : (builder : Builder) (part : List Filled) (schema : Schema) → WasGiven builder (map series_of part) → ComeBefore part schema → Each IsSound part → MayFollow builder schema
+pub may_follow : (builder : Builder) (part : List Filled) (schema : Schema) → WasGiven builder (map builder_series part) → ComeBefore part schema → Each IsSoundSeries part → MayFollow builder schema
 may_follow builder [] schema given before sound = inl given
-may_follow builder (first ∷ part) schema given before sound = inr (map series_of ends.front, series_of ends.last, was, follows)
+may_follow builder (first ∷ part) schema given before sound = inr (map builder_series ends.front, builder_series ends.last, was, follows)
   where
     ends : EndsIn (first ∷ part)
     ends = ends_in first part
 
-    was : WasGiven builder (map series_of ends.front ++ series_of ends.last ∷ [])
-    was = subst (WasGiven builder) (ap (map series_of) ends.is ∙ map_push ends.front ends.last) given
+    was : WasGiven builder (map builder_series ends.front ++ builder_series ends.last ∷ [])
+    was = subst (WasGiven builder) (ap (map builder_series) ends.is ∙ map_push ends.front ends.last) given
 
-    here : IsSound ends.last
-    here = each_middle IsSound ends.front ends.last [] (subst (Each IsSound) ends.is sound)
+    here : IsSoundSeries ends.last
+    here = each_middle IsSoundSeries ends.front ends.last [] (subst (Each IsSoundSeries) ends.is sound)
 
-    earlier : AreNamesBefore (names_of ends.last.schema) (names_of schema)
-    earlier = each_middle (λ f. AreNamesBefore (names_of f.schema) (names_of schema)) ends.front ends.last [] (subst (Each (λ f. AreNamesBefore (names_of f.schema) (names_of schema))) ends.is before)
+    earlier : AreNamesBefore (schema_names ends.last.schema) (schema_names schema)
+    earlier = each_middle (λ f. AreNamesBefore (schema_names f.schema) (schema_names schema)) ends.front ends.last [] (subst (Each (λ f. AreNamesBefore (schema_names f.schema) (schema_names schema))) ends.is before)
 
-    follows : MayBeFollowedBy (device_of schema.path) (measurement_of schema.path) (series_of ends.last)
+    follows : MayBeFollowedBy (device_of schema.path) (measurement_of schema.path) (builder_series ends.last)
     follows = record { some = here.some; before = earlier }
 
-pub given_more : (builder : Builder) (part : List Filled) (filled : Filled) → WasGiven builder (map series_of part ++ series_of filled ∷ []) → WasGiven builder (map series_of (part ++ filled ∷ []))
+pub given_more : (builder : Builder) (part : List Filled) (filled : Filled) → WasGiven builder (map builder_series part ++ builder_series filled ∷ []) → WasGiven builder (map builder_series (part ++ filled ∷ []))
 given_more builder part filled was = subst (WasGiven builder) (sym (map_push part filled)) was
 
-pub given_last : (builder : Builder) (part : List Filled) (filled : Filled) → WasGiven builder (map series_of (part ++ filled ∷ [])) → WasGiven builder (map series_of part ++ series_of filled ∷ [])
+pub given_last : (builder : Builder) (part : List Filled) (filled : Filled) → WasGiven builder (map builder_series (part ++ filled ∷ [])) → WasGiven builder (map builder_series part ++ builder_series filled ∷ [])
 given_last builder part filled was = subst (WasGiven builder) (map_push part filled) was
 
 -- a builder that was given a part with a series can end the file
-pub can_finish : (builder : Builder) (part : List Filled) → WasGiven builder (map series_of part) → Each IsSound part → 0 < length part
-    → (front : List Series) × (last : Series) × WasGiven builder (front ++ last ∷ []) × (0 < length last.points)
+pub can_finish : (builder : Builder) (part : List Filled) → WasGiven builder (map builder_series part) → Each IsSoundSeries part → 0 < length part
+    → (front : List GivenSeries) × (last : GivenSeries) × WasGiven builder (front ++ last ∷ []) × (0 < length last.points)
 can_finish builder [] given sound some = absurd (omega (arith, some))
 can_finish builder (first ∷ part) given sound some =
     let ends = ends_in first part in
-    (map series_of ends.front, series_of ends.last, subst (WasGiven builder) (ap (map series_of) ends.is ∙ map_push ends.front ends.last) given, (each_middle IsSound ends.front ends.last [] (subst (Each IsSound) ends.is sound)).some)
+    (map builder_series ends.front, builder_series ends.last, subst (WasGiven builder) (ap (map builder_series) ends.is ∙ map_push ends.front ends.last) given, (each_middle IsSoundSeries ends.front ends.last [] (subst (Each IsSoundSeries) ends.is sound)).some)
 
 -- ---- the tree of a part
 
@@ -81,7 +81,7 @@ pub record IsPlaced (placed : List ℕ × Chunk) : Type 0 where
   pub device : IsPath placed.0
   pub parts : HasParts placed.1
 
-placed_of : (filled : Filled) (device : List ℕ) (chunk : Chunk) → IsSound filled → device ≡ device_of filled.schema.path → IsChunkOf (series_of filled) chunk → IsPlaced (device, chunk)
+placed_of : (filled : Filled) (device : List ℕ) (chunk : Chunk) → IsSoundSeries filled → device ≡ device_of filled.schema.path → IsChunkOf (builder_series filled) chunk → IsPlaced (device, chunk)
 placed_of filled device chunk sound at is = record {
   device = subst IsPath (sym at) sound.device;
   parts = record {
@@ -90,7 +90,7 @@ placed_of filled device chunk sound at is = record {
   };
 }
 
-chunks_placed : (part : List Filled) (chunks : List (List ℕ × Chunk)) → Each IsSound part → AreChunksOf (map series_of part) chunks → Each IsPlaced chunks
+chunks_placed : (part : List Filled) (chunks : List (List ℕ × Chunk)) → Each IsSoundSeries part → AreChunksOf (map builder_series part) chunks → Each IsPlaced chunks
 chunks_placed [] [] sound are = tt
 chunks_placed [] (c ∷ chunks) sound are = absurd are
 chunks_placed (f ∷ part) [] sound are = absurd are
@@ -117,7 +117,7 @@ chunks_made (g ∷ groups) all =
     each_append HasParts g.chunks (chunks_of groups) (group_parts g (each_left IsPlaced here (placed groups) all)) (chunks_made groups (each_right IsPlaced here (placed groups) all))
 
 -- the tree of sound series is one whose parts are as their types have them
-pub file_of_part : (part : List Filled) (bytes : List ℕ) (tree : Tree) → Each IsSound part → IsTreeOf (map series_of part) tree → IsFile tree bytes → IsFileOf part bytes
+pub file_of_part : (part : List Filled) (bytes : List ℕ) (tree : Tree) → Each IsSoundSeries part → IsTreeOf (map builder_series part) tree → IsFile tree bytes → IsFileOf part bytes
 file_of_part part bytes tree sound of is = record {
   tree = tree;
   of = of;

@@ -17,8 +17,8 @@ use Rattle.tsdb_base.specs.declared.point.Point.{Point}
 use Rattle.tsdb_flush.specs.Hulls.{EndsIn, IsWidened}
 use Rattle.tsdb_flush.specs.MakingSteps.{AddsTimes, AreFrom, ComeBefore, filled_with}
 use Rattle.tsdb_path.specs.Order.{AreNamesBefore}
-use Rattle.tsdb_flush.specs.Built.{AreHullsOf, HasHullOver, HasTime}
-use Rattle.tsdb_flush.specs.Parts.{Filled, names_of}
+use Rattle.tsdb_flush.specs.Built.{AreHullsOf, HasHullOver, HasFilledTime}
+use Rattle.tsdb_flush.specs.Parts.{Filled, schema_names}
 use Rattle.tsdb_base.proofs.Lists.{among_left, among_right, each_among, each_append, each_from_among, each_left, each_right, each_weaker}
 use Rattle.tsdb_base.specs.Lists.{Among}
 use Rattle.tsdb_model.specs.declared.command.Schema.{Schema}
@@ -53,7 +53,7 @@ pairs_front R xs ys pairs i j d lt within =
     subst (λ b. R (get_or xs i d) b) (get_or_append_left xs ys d j within) (subst (λ a. R a (get_or (xs ++ ys) j d)) (get_or_append_left xs ys d i (omega (arith, lt, within))) step)
 
 -- more series have the times that some of them have, and more hulls are over the times that some are over
-time_more : (part : List Filled) (filled : Filled) (device : List ℕ) (time : ℤ) → HasTime part device time → HasTime (part ++ filled ∷ []) device time
+time_more : (part : List Filled) (filled : Filled) (device : List ℕ) (time : ℤ) → HasFilledTime part device time → HasFilledTime (part ++ filled ∷ []) device time
 time_more part filled device time has = record {
   filled = has.filled;
   among = among_left part (filled ∷ []) has.filled has.among;
@@ -64,7 +64,7 @@ time_more part filled device time has = record {
 }
 
 new_time : (part : List Filled) (schema : Schema) (points : List Point) (device : List ℕ) (time : ℤ) (point : Point) → device_of schema.path ≡ device → Among point points → point.time ≡ time
-    → HasTime (part ++ filled_with schema points ∷ []) device time
+    → HasFilledTime (part ++ filled_with schema points ∷ []) device time
 new_time part schema points device time point of there at = record {
   filled = filled_with schema points;
   among = among_last part (filled_with schema points);
@@ -84,11 +84,11 @@ over_more hulls more device time has = record {
 }
 
 -- a hull's device comes before that of the series, where it is not the same
-device_before : (part : List Filled) (schema : Schema) (hull : Hull) (device : List ℕ) → device_of schema.path ≡ device → ComeBefore part schema → HasTime part hull.device hull.from
+device_before : (part : List Filled) (schema : Schema) (hull : Hull) (device : List ℕ) → device_of schema.path ≡ device → ComeBefore part schema → HasFilledTime part hull.device hull.from
     → (IsLess hull.device device) ⊎ (hull.device ≡ device)
-device_before part schema hull device of before has = ways (each_among (λ f. AreNamesBefore (names_of f.schema) (names_of schema)) part has.filled before has.among)
+device_before part schema hull device of before has = ways (each_among (λ f. AreNamesBefore (schema_names f.schema) (schema_names schema)) part has.filled before has.among)
   where
-    ways : AreNamesBefore (names_of has.filled.schema) (names_of schema) → (IsLess hull.device device) ⊎ (hull.device ≡ device)
+    ways : AreNamesBefore (schema_names has.filled.schema) (schema_names schema) → (IsLess hull.device device) ⊎ (hull.device ≡ device)
     ways (inl less) = inl (subst (λ (a : List ℕ). IsLess a device) has.of_device (subst (λ (b : List ℕ). IsLess (device_of has.filled.schema.path) b) of less))
     ways (inr same) = inr (sym has.of_device ∙ same.0 ∙ of)
 
@@ -98,7 +98,7 @@ pub all_before : (part : List Filled) (schema : Schema) (front : List Hull) (las
 all_before part schema front last device of before are other = each_append (λ hull. IsLess hull.device device) front (last ∷ []) (each_from_among (λ hull. IsLess hull.device device) front earlier) (last_less, tt)
   where
     last_less : IsLess last.device device
-    last_less = ⊎_elim (λ less. less) (λ same. absurd (other same)) (device_before part schema last device of before (each_right (λ hull. HasTime part hull.device hull.from × HasTime part hull.device hull.to) front (last ∷ []) are.tight).0.0)
+    last_less = ⊎_elim (λ less. less) (λ same. absurd (other same)) (device_before part schema last device of before (each_right (λ hull. HasFilledTime part hull.device hull.from × HasFilledTime part hull.device hull.to) front (last ∷ []) are.tight).0.0)
 
     earlier : (hull : Hull) → Among hull front → IsLess hull.device device
     earlier hull there = nat_list_cmp_total.trans hull.device last.device device
@@ -120,8 +120,8 @@ hull_added part schema points hulls device from to of are span before =
                 (λ p within. record { hull = hull; among = among_last hulls hull; of_device = sym of; from = within.0; to = within.1 }) points span.between,
             tt,
           );
-      tight = each_append (λ (h : Hull). HasTime (part ++ filled ∷ []) h.device h.from × HasTime (part ++ filled ∷ []) h.device h.to) hulls (hull ∷ [])
-          (each_weaker (λ (h : Hull). HasTime part h.device h.from × HasTime part h.device h.to) (λ (h : Hull). HasTime (part ++ filled ∷ []) h.device h.from × HasTime (part ++ filled ∷ []) h.device h.to)
+      tight = each_append (λ (h : Hull). HasFilledTime (part ++ filled ∷ []) h.device h.from × HasFilledTime (part ++ filled ∷ []) h.device h.to) hulls (hull ∷ [])
+          (each_weaker (λ (h : Hull). HasFilledTime part h.device h.from × HasFilledTime part h.device h.to) (λ (h : Hull). HasFilledTime (part ++ filled ∷ []) h.device h.from × HasFilledTime (part ++ filled ∷ []) h.device h.to)
           (λ h has. (time_more part filled h.device h.from has.0, time_more part filled h.device h.to has.1)) hulls are.tight)
           ((new_time part schema points device from span.first of span.has_first span.at_first, new_time part schema points device to span.last of span.has_last span.at_last), tt);
     }
@@ -161,25 +161,25 @@ hull_widened part schema points front old new from to of are span wide =
                 (λ p within. record { hull = new; among = among_last front new; of_device = wide.device ∙ sym of; from = omega (arith, ints, wide.from_new, within.0); to = omega (arith, ints, wide.to_new, within.1) }) points span.between,
             tt,
           );
-      tight = each_append (λ (h : Hull). HasTime (part ++ filled ∷ []) h.device h.from × HasTime (part ++ filled ∷ []) h.device h.to) front (new ∷ [])
-          (each_weaker (λ (h : Hull). HasTime part h.device h.from × HasTime part h.device h.to) (λ (h : Hull). HasTime (part ++ filled ∷ []) h.device h.from × HasTime (part ++ filled ∷ []) h.device h.to)
-          (λ h has. (time_more part filled h.device h.from has.0, time_more part filled h.device h.to has.1)) front (each_left (λ (h : Hull). HasTime part h.device h.from × HasTime part h.device h.to) front (old ∷ []) are.tight))
+      tight = each_append (λ (h : Hull). HasFilledTime (part ++ filled ∷ []) h.device h.from × HasFilledTime (part ++ filled ∷ []) h.device h.to) front (new ∷ [])
+          (each_weaker (λ (h : Hull). HasFilledTime part h.device h.from × HasFilledTime part h.device h.to) (λ (h : Hull). HasFilledTime (part ++ filled ∷ []) h.device h.from × HasFilledTime (part ++ filled ∷ []) h.device h.to)
+          (λ h has. (time_more part filled h.device h.from has.0, time_more part filled h.device h.to has.1)) front (each_left (λ (h : Hull). HasFilledTime part h.device h.from × HasFilledTime part h.device h.to) front (old ∷ []) are.tight))
           ((begins wide.begins, ends wide.ends), tt);
     }
   where
-    last : HasTime part old.device old.from × HasTime part old.device old.to
-    last = (each_right (λ (h : Hull). HasTime part h.device h.from × HasTime part h.device h.to) front (old ∷ []) are.tight).0
+    last : HasFilledTime part old.device old.from × HasFilledTime part old.device old.to
+    last = (each_right (λ (h : Hull). HasFilledTime part h.device h.from × HasFilledTime part h.device h.to) front (old ∷ []) are.tight).0
 
     whole : List Filled
     whole = part ++ filled_with schema points ∷ []
 
-    begins : (new.from ≡ old.from) ⊎ (new.from ≡ from) → HasTime whole new.device new.from
-    begins (inl is) = subst (λ (t : ℤ). HasTime whole new.device t) (sym is) (subst (λ (d : List ℕ). HasTime whole d old.from) (sym wide.device) (time_more part (filled_with schema points) old.device old.from last.0))
-    begins (inr is) = subst (λ (t : ℤ). HasTime whole new.device t) (sym is) (new_time part schema points new.device from span.first (of ∙ sym wide.device) span.has_first span.at_first)
+    begins : (new.from ≡ old.from) ⊎ (new.from ≡ from) → HasFilledTime whole new.device new.from
+    begins (inl is) = subst (λ (t : ℤ). HasFilledTime whole new.device t) (sym is) (subst (λ (d : List ℕ). HasFilledTime whole d old.from) (sym wide.device) (time_more part (filled_with schema points) old.device old.from last.0))
+    begins (inr is) = subst (λ (t : ℤ). HasFilledTime whole new.device t) (sym is) (new_time part schema points new.device from span.first (of ∙ sym wide.device) span.has_first span.at_first)
 
-    ends : (new.to ≡ old.to) ⊎ (new.to ≡ to) → HasTime whole new.device new.to
-    ends (inl is) = subst (λ (t : ℤ). HasTime whole new.device t) (sym is) (subst (λ (d : List ℕ). HasTime whole d old.to) (sym wide.device) (time_more part (filled_with schema points) old.device old.to last.1))
-    ends (inr is) = subst (λ (t : ℤ). HasTime whole new.device t) (sym is) (new_time part schema points new.device to span.last (of ∙ sym wide.device) span.has_last span.at_last)
+    ends : (new.to ≡ old.to) ⊎ (new.to ≡ to) → HasFilledTime whole new.device new.to
+    ends (inl is) = subst (λ (t : ℤ). HasFilledTime whole new.device t) (sym is) (subst (λ (d : List ℕ). HasFilledTime whole d old.to) (sym wide.device) (time_more part (filled_with schema points) old.device old.to last.1))
+    ends (inr is) = subst (λ (t : ℤ). HasFilledTime whole new.device t) (sym is) (new_time part schema points new.device to span.last (of ∙ sym wide.device) span.has_last span.at_last)
 
 -- the least of two times, and the greatest
 pub widened : (hull : Hull) (from to new_from new_to : ℤ) → new_from ≡ int_min hull.from from → new_to ≡ int_max hull.to to → IsWidened hull from to (record { device = hull.device; from = new_from; to = new_to })

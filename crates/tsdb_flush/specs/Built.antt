@@ -3,7 +3,7 @@ use Rattle.std.specs.Prelude.{◌≡◌, ℕ, ℤ, ◌≤ℤ◌, List, length, m
 use Rattle.std.specs.List.{AllByRecursion as Each}
 use Rattle.tsdb_base.specs.declared.point.Point.{Point}
 use Rattle.tsdb_base.specs.declared.ids.FileNumber.{FileNumber}
-use Rattle.tsdb_flush.specs.Parts.{Filled, series_of}
+use Rattle.tsdb_flush.specs.Parts.{Filled, builder_series}
 use Rattle.tsdb_flush.specs.declared.job.Built.{Built}
 use Rattle.tsdb_base.specs.Lists.{Among}
 use Rattle.tsdb_outside.specs.Files.{NamedFile, Names, Store}
@@ -11,7 +11,7 @@ use Rattle.tsfile_writer.specs.File.{IsFile}
 use Rattle.tsfile_writer.specs.Trees.{IsMade}
 use Rattle.tsfile_writer.specs.Tree.{Tree}
 use Rattle.tsdb_path.specs.Nodes.{device_of}
-use Rattle.tsdb_plan.specs.Files.{AreRising}
+use Rattle.tsdb_plan.specs.Files.{AreHullsRising}
 use Rattle.tsdb_plan.specs.declared.entry.FileEntry.{FileEntry}
 use Rattle.tsdb_plan.specs.declared.entry.Hull.{Hull}
 use Rattle.tsfile_writer.specs.Given.{IsTreeOf}
@@ -19,7 +19,7 @@ use Rattle.tsfile_writer.specs.Given.{IsTreeOf}
 -- the bytes are those of the tree of these series, with pages that are filled in turn
 pub record IsFileOf (part : List Filled) (bytes : List ℕ) : Type 0 where
   pub tree : Tree
-  pub of : IsTreeOf (map series_of part) tree
+  pub of : IsTreeOf (map builder_series part) tree
   pub made : IsMade tree
   pub is : IsFile tree bytes
 
@@ -32,7 +32,7 @@ pub record HasHullOver (hulls : List Hull) (device : List ℕ) (time : ℤ) : Ty
   pub to : time ≤ℤ hull.to
 
 -- a series of the device has a point at the time
-pub record HasTime (part : List Filled) (device : List ℕ) (time : ℤ) : Type 0 where
+pub record HasFilledTime (part : List Filled) (device : List ℕ) (time : ℤ) : Type 0 where
   pub filled : Filled
   pub among : Among filled part
   pub of_device : device_of filled.schema.path ≡ device
@@ -42,13 +42,13 @@ pub record HasTime (part : List Filled) (device : List ℕ) (time : ℤ) : Type 
 
 -- one hull for each device of the part, in order of device bytes, from its least time to its greatest
 pub record AreHullsOf (part : List Filled) (hulls : List Hull) : Type 0 where
-  pub rising : AreRising hulls
+  pub rising : AreHullsRising hulls
   pub over : Each (λ filled. Each (λ point. HasHullOver hulls (device_of filled.schema.path) point.time) filled.points)
       part
-  pub tight : Each (λ hull. HasTime part hull.device hull.from × HasTime part hull.device hull.to) hulls
+  pub tight : Each (λ hull. HasFilledTime part hull.device hull.from × HasFilledTime part hull.device hull.to) hulls
 
 -- the entry of a file of the part, which no job has claimed
-pub record IsEntryOf (number born : ℕ) (bytes : List ℕ) (part : List Filled) (entry : FileEntry) : Type 0 where
+pub record IsFileEntryOf (number born : ℕ) (bytes : List ℕ) (part : List Filled) (entry : FileEntry) : Type 0 where
   pub number_is : entry.number.0 ≡ number
   pub born_is : entry.born.0 ≡ born
   pub bytes_are : entry.size ≡ length bytes
@@ -70,14 +70,14 @@ pub record IsBuiltOf (store : Store) (number born : ℕ) (part : List Filled) (n
   pub in_store : name.store ≡ store
   pub unread : rights ≡ 0
   pub file : IsFileOf part bytes
-  pub kept : IsEntryOf number born bytes part entry
+  pub kept : IsFileEntryOf number born bytes part entry
   pub paths : series ≡ paths_of part
 
 module _ {F S R P : Type 0} (file : S → NamedFile) (rights : S → ℕ) (store : Store) where
   -- the part has its file exactly where a number is drawn for it, in the store, where tokens name these files and count these rights
-  abbrev pub IsDone : ℕ → List Filled → Option FileNumber → Option (Built F S R P) → Type 0
-  IsDone born part None None = ⊤
-  IsDone born part None (Some built) = ⊥
-  IsDone born part (Some number) None = ⊥
-  IsDone born part (Some number) (Some built) =
+  abbrev pub IsPartDone : ℕ → List Filled → Option FileNumber → Option (Built F S R P) → Type 0
+  IsPartDone born part None None = ⊤
+  IsPartDone born part None (Some built) = ⊥
+  IsPartDone born part (Some number) None = ⊥
+  IsPartDone born part (Some number) (Some built) =
       IsBuiltOf store number.0 born part (file built.sealed) (rights built.sealed) built.entry built.series

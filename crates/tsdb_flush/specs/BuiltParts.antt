@@ -8,17 +8,17 @@ use Rattle.tsdb_base.specs.declared.point.Point.{Point}
 use Rattle.tsdb_base.specs.declared.value.Value.{Value}
 use Rattle.tsdb_flush.specs.Parts.{Filled}
 use Rattle.tsdb_base.specs.Lists.{Among, EachPair}
-use Rattle.tsdb_memory.specs.Places.{Content, Place}
+use Rattle.tsdb_memory.specs.Places.{Content, PointPlace}
 use Rattle.tsdb_model.specs.declared.command.Schema.{Schema}
 use Rattle.tsdb_memory.specs.Shown.{number_of}
 use Rattle.tsdb_memtable.specs.Pairs.{Pair, points_of}
 use Rattle.tsdb_base.specs.Points.{IsRising}
 use Rattle.tsdb_path.specs.Nodes.{node_count}
 use Rattle.tsdb_plan.specs.declared.entry.FileEntry.{FileEntry}
-use Rattle.tsdb_memory.specs.State.{Entry}
+use Rattle.tsdb_memory.specs.State.{KnownFile}
 
 -- a series of the part has a point of this value at the place
-pub record HasPartPoint (part : List Filled) (place : Place) (value : Value) : Type 0 where
+pub record HasPartPoint (part : List Filled) (place : PointPlace) (value : Value) : Type 0 where
   pub filled : Filled
   pub in_part : Among filled part
   pub point : Point
@@ -29,11 +29,11 @@ pub record HasPartPoint (part : List Filled) (place : Place) (value : Value) : T
 
 -- the content has the points of the part, and no others
 abbrev pub IsContentOfPart : List Filled → Content → Type 0
-IsContentOfPart part content = (place : Place) (value : Value)
+IsContentOfPart part content = (place : PointPlace) (value : Value)
     → (get content place ≡ Some value) ↔ HasPartPoint part place value
 
 -- a series has a path with a device, and points in order of time, one at least
-pub record IsSeries (filled : Filled) : Type 0 where
+pub record IsFilledSeries (filled : Filled) : Type 0 where
   pub nodes : 2 ≤ node_count filled.schema.path
   pub some : 0 < length filled.points
   pub rising : IsRising filled.points
@@ -41,11 +41,11 @@ pub record IsSeries (filled : Filled) : Type 0 where
 -- one series at least, each with a path of its own
 pub record IsPart (part : List Filled) : Type 0 where
   pub some : 0 < length part
-  pub each : Each IsSeries part
+  pub each : Each IsFilledSeries part
   pub differ : EachPair (λ a b. a.schema.path ≢ b.schema.path) part
 
 -- what is kept of the file of these series
-abbrev pub entry_of : FileEntry → List (List ℕ) → Entry
+abbrev pub entry_of : FileEntry → List (List ℕ) → KnownFile
 entry_of entry series = record { size = entry.size; points = entry.points; hulls = entry.hulls; series = series }
 
 -- The schemas of a job are those of series that are there, each beside its number, and no other series has a point in the

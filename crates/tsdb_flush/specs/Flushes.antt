@@ -11,7 +11,7 @@ use Rattle.tsdb_memory.specs.State as state
 
 -- The job has the born, the points and the numbers of the flush. `series` are those that were there when it was taken,
 -- by whose numbers its pair has its points.
-pub record IsFlushOf (job : FlushJob) (flush : state.FlushJob) : Type 0 where
+pub record IsFlushOf (job : FlushJob) (flush : state.FlushState) : Type 0 where
   pub series : List Schema
   pub of : IsJobOf series (arc_value job.pair) job.schemas job.series
   pub born : flush.born ≡ job.born.0

@@ -19,7 +19,7 @@ pub use Rattle.tsdb_memory.specs.Steps
 pub use Rattle.tsdb_memory.specs.Model
 pub use Rattle.tsdb_memory.specs.Store
 pub use Rattle.tsdb_memory.specs.declared.store.FrozenPair
-pub use Rattle.tsdb_memory.specs.declared.reading.Numbered
+pub use Rattle.tsdb_memory.specs.declared.reading.NumberedSeries
 pub use Rattle.tsdb_memory.specs.LogRecord
 pub use Rattle.tsdb_memory.specs.Worlds
 pub use Rattle.tsdb_memory.specs.Marks

@@ -5,7 +5,7 @@ use Rattle.tsdb_base.specs.declared.point.Point.{Point}
 use Rattle.tsdb_base.specs.Values.{type_of}
 use Rattle.tsdb_path.specs.Order.{AreNamesBefore}
 use Rattle.tsdb_flush.specs.Built.{AreHullsOf}
-use Rattle.tsdb_flush.specs.Parts.{Filled, names_of, series_of}
+use Rattle.tsdb_flush.specs.Parts.{Filled, schema_names, builder_series}
 use Rattle.tsdb_base.specs.Lists.{Among}
 use Rattle.tsdb_model.specs.declared.command.Schema.{Schema}
 use Rattle.tsfile_writer.specs.Pages.{IsInRange}
@@ -16,7 +16,7 @@ use Rattle.tsfile_writer.specs.declared.builder.Builder.{Builder}
 
 -- each series comes before this one in the order of a tree
 abbrev pub ComeBefore : List Filled → Schema → Type 0
-ComeBefore part schema = Each (λ filled. AreNamesBefore (names_of filled.schema) (names_of schema)) part
+ComeBefore part schema = Each (λ filled. AreNamesBefore (schema_names filled.schema) (schema_names schema)) part
 
 -- the series of the schema, with these points
 abbrev pub filled_with : Schema → List Point → Filled
@@ -26,7 +26,7 @@ filled_with schema points = record { schema = schema; points = points }
 pub record HaveBegun (builder : Builder) (points : List Point) : Type 0 where
   pub part : List Filled
   pub schema : Schema
-  pub given : WasGiven builder (map series_of (part ++ filled_with schema [] ∷ []))
+  pub given : WasGiven builder (map builder_series (part ++ filled_with schema [] ∷ []))
   pub typed : Each (λ point. type_of point.value ≡ schema.data_type) points
 
 -- the points lie from the one time to the other, and both have a point
@@ -45,7 +45,7 @@ AddsTimes device points old new = (part : List Filled) (schema : Schema) → dev
     → AreHullsOf part old → AreHullsOf (part ++ filled_with schema points ∷ []) new
 
 -- a series that has a point, whose names and points are as their types have them
-pub record IsSound (filled : Filled) : Type 0 where
+pub record IsSoundSeries (filled : Filled) : Type 0 where
   pub some : 0 < length filled.points
   pub device : IsPath (device_of filled.schema.path)
   pub measurement : IsName (measurement_of filled.schema.path)

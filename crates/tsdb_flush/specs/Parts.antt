@@ -13,7 +13,7 @@ use Rattle.tsdb_model.specs.Commands.{IsSchema}
 use Rattle.tsdb_model.specs.declared.command.Schema.{Schema}
 use Rattle.tsdb_memtable.specs.Pairs.{Pair, points_of}
 use Rattle.tsdb_path.specs.Nodes.{device_of, measurement_of}
-use Rattle.tsfile_writer.specs.Given.{Series}
+use Rattle.tsfile_writer.specs.Given.{GivenSeries}
 
 -- a series that has points in a part, with them
 pub record Filled : Type 0 where
@@ -26,19 +26,19 @@ if_any schema [] = []
 if_any schema (point ∷ points) = record { schema = schema; points = point ∷ points } ∷ []
 
 -- the series that have points in the space, each schema with the points of the number at its place
-abbrev pub part_of : Space → Pair → List Schema → List SeriesId → List Filled
-part_of space pair [] numbers = []
-part_of space pair (schema ∷ schemas) [] = []
-part_of space pair (schema ∷ schemas) (number ∷ numbers) =
-    if_any schema (points_of space number.0 pair) ++ part_of space pair schemas numbers
+abbrev pub filled_part : Space → Pair → List Schema → List SeriesId → List Filled
+filled_part space pair [] numbers = []
+filled_part space pair (schema ∷ schemas) [] = []
+filled_part space pair (schema ∷ schemas) (number ∷ numbers) =
+    if_any schema (points_of space number.0 pair) ++ filled_part space pair schemas numbers
 
 -- the names by which a tree is ordered
-abbrev pub names_of : Schema → List ℕ × List ℕ
-names_of schema = (device_of schema.path, measurement_of schema.path)
+abbrev pub schema_names : Schema → List ℕ × List ℕ
+schema_names schema = (device_of schema.path, measurement_of schema.path)
 
 -- the series as a builder is given it
-abbrev pub series_of : Filled → Series
-series_of filled = record {
+abbrev pub builder_series : Filled → GivenSeries
+builder_series filled = record {
   device = device_of filled.schema.path;
   measurement = measurement_of filled.schema.path;
   data_type = filled.schema.data_type;
@@ -47,22 +47,22 @@ series_of filled = record {
 }
 
 -- the points of the number are of the schema's type, in both spaces
-abbrev pub HasPointsOf : Pair → Schema → SeriesId → Type 0
-HasPointsOf pair schema number =
+abbrev pub HasPointsOfType : Pair → Schema → SeriesId → Type 0
+HasPointsOfType pair schema number =
     (space : Space) → Each (λ point. type_of point.value ≡ schema.data_type) (points_of space number.0 pair)
 
 -- a number is drawn for a part exactly where it has a point
-abbrev pub IsDrawnFor : Option FileNumber → List Filled → Type 0
-IsDrawnFor None part = part ≡ []
-IsDrawnFor (Some number) part = part ≢ []
+abbrev pub IsNumberDrawnFor : Option FileNumber → List Filled → Type 0
+IsNumberDrawnFor None part = part ≡ []
+IsNumberDrawnFor (Some number) part = part ≢ []
 
 -- a flush that is out: schemas are well-formed and in the order of a tree, each with the points of its type, and a
 -- number is drawn for each part that has a point
-pub record IsFlushOf (pair : Pair) (schemas : List Schema) (numbers : List SeriesId)
+pub record IsFormedFlush (pair : Pair) (schemas : List Schema) (numbers : List SeriesId)
     (sequence unsequence : Option FileNumber)
     : Type 0 where
   pub formed : Each IsSchema schemas
-  pub rising : EachPair (λ a b. AreNamesBefore (names_of a) (names_of b)) schemas
-  pub typed : AllZip (HasPointsOf pair) schemas numbers
-  pub sequence_drawn : IsDrawnFor sequence (part_of Sequence pair schemas numbers)
-  pub unsequence_drawn : IsDrawnFor unsequence (part_of Unsequence pair schemas numbers)
+  pub rising : EachPair (λ a b. AreNamesBefore (schema_names a) (schema_names b)) schemas
+  pub typed : AllZip (HasPointsOfType pair) schemas numbers
+  pub sequence_drawn : IsNumberDrawnFor sequence (filled_part Sequence pair schemas numbers)
+  pub unsequence_drawn : IsNumberDrawnFor unsequence (filled_part Unsequence pair schemas numbers)

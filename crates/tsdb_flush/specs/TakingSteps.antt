@@ -7,9 +7,9 @@ use Rattle.tsdb_base.specs.declared.ids.SeriesId.{SeriesId}
 use Rattle.tsdb_base.specs.declared.ids.Space.{Space}
 use Rattle.tsdb_base.specs.declared.ids.Space.TheVariants.{Sequence, Unsequence}
 use Rattle.tsdb_base.specs.declared.point.Point.{Point}
-use Rattle.tsdb_flush.specs.Taking.{HasPoint}
+use Rattle.tsdb_flush.specs.Taking.{HasPairPoint}
 use Rattle.tsdb_flush.specs.declared.series.PairSeries.{PairSeries}
-use Rattle.tsdb_flush.specs.Parts.{names_of}
+use Rattle.tsdb_flush.specs.Parts.{schema_names}
 use Rattle.tsdb_base.specs.Lists.{Among}
 use Rattle.tsdb_model.specs.declared.command.Schema.{Schema}
 use Rattle.tsdb_memory.specs.Model.{frozen_in}
@@ -33,28 +33,28 @@ schema_in series = record {
 }
 
 -- the names by which a tree is ordered, as they lie in the path
-abbrev pub names_in : PairSeries → List ℕ × List ℕ
-names_in series = (series.names.0.now, series.names.1.now)
+abbrev pub pair_names : PairSeries → List ℕ × List ℕ
+pair_names series = (series.names.0.now, series.names.1.now)
 
 -- its points in the space, and whether there are any
-abbrev pub points_in : Space → PairSeries → List Point
-points_in Sequence series = series.sequence.now
-points_in Unsequence series = series.unsequence.now
+abbrev pub pair_points_in : Space → PairSeries → List Point
+pair_points_in Sequence series = series.sequence.now
+pair_points_in Unsequence series = series.unsequence.now
 
 abbrev pub has_points : Space → PairSeries → Bool
-has_points space series = not (length (points_in space series) == 0)
+has_points space series = not (length (pair_points_in space series) == 0)
 
 -- the series is that of its number in memory, with its points in the pair, which are in order of time
 pub record IsSeriesOf (all : List Schema) (pair : Pair) (series : PairSeries) : Type 0 where
   pub schema : slice_get all series.id.0 ≡ Some (schema_in series)
-  pub names : names_in series ≡ names_of (schema_in series)
-  pub points : (space : Space) → points_in space series ≡ points_of space series.id.0 pair
+  pub names : pair_names series ≡ schema_names (schema_in series)
+  pub points : (space : Space) → pair_points_in space series ≡ points_of space series.id.0 pair
   pub rising : (space : Space) → IsRising (points_of space series.id.0 pair)
 
 -- these are the numbers of the series that have a point, maybe some of them twice
 pub record AreNumbersOf (pair : Pair) (numbers : List SeriesId) : Type 0 where
-  pub filled : Each (HasPoint pair) numbers
-  pub whole : (number : SeriesId) → HasPoint pair number → Among number numbers
+  pub filled : Each (HasPairPoint pair) numbers
+  pub whole : (number : SeriesId) → HasPairPoint pair number → Among number numbers
 
 -- these are the series that have a point, maybe some of them twice
 pub record AreSeriesOf (all : List Schema) (pair : Pair) (series : List PairSeries) : Type 0 where
@@ -68,6 +68,6 @@ IsDraw space series old new (Some file) =
     (file.0 ≡ old) × (new ≡ old + 1) × (list_any (has_points space) series ≡ true)
 
 -- it is the oldest of these frozen pairs
-pub record IsOldest (frozen : List store.FrozenPair) (oldest : FrozenPair) : Type 0 where
+pub record IsOldestFrozen (frozen : List store.FrozenPair) (oldest : FrozenPair) : Type 0 where
   pub newer : List store.FrozenPair
   pub are : frozen ≡ frozen_in oldest ∷ newer

@@ -1,16 +1,16 @@
 //! Running a flush. Depends on `part`.
 ghost use Rattle.std.specs.Prelude.{◌≡◌, ◌≢◌, ◌≤◌, ◌⊎◌, [], None, IfOk, IfErr};
 ghost use Rattle.tsdb_base.specs.declared.ids.Space.TheVariants.{Sequence, Unsequence};
-ghost use Rattle.tsdb_flush.specs.Making.{IsPart};
-ghost use Rattle.tsdb_flush.specs.Built.{IsBuiltOf, IsDone, IsEntryOf, IsFileOf, paths_of};
+ghost use Rattle.tsdb_flush.specs.Making.{IsPartInMaking};
+ghost use Rattle.tsdb_flush.specs.Built.{IsBuiltOf, IsPartDone, IsFileEntryOf, IsFileOf, paths_of};
 ghost use Rattle.tsdb_flush.specs.Jobs.{IsJob, job_part};
-ghost use Rattle.tsdb_flush.specs.Parts.{IsDrawnFor};
+ghost use Rattle.tsdb_flush.specs.Parts.{IsNumberDrawnFor};
 ghost use Rattle.tsdb_base.specs.Causes.{Rose};
 ghost use Rattle.tsdb_outside.specs.Causes.{HasStoreCause};
 ghost use Rattle.tsdb_outside.specs.declared.faults.StoreFault.TheVariants.{Failed};
 
 use crate::job::{Built, FlushJob, Flushed};
-use crate::part::{Part, Whole};
+use crate::part::{PartBuilder, Whole};
 use std::alloc::Global;
 use tsdb_base::{FileNumber, Memory, Space};
 use tsdb_outside::{Files, Port, StoreFault};
@@ -22,11 +22,11 @@ pub struct FlushRefused<F: Files> {
 }
 
 /// The series of the job that have points in the space, with their points.
-fn gather(alloc: Global, job: &FlushJob, space: Space) -> Result<Part, Memory>
+fn gather(alloc: Global, job: &FlushJob, space: Space) -> Result<PartBuilder, Memory>
     requires { IsJob job.now }
-    ensures { IfOk result (IsPart (job_part space job.now)) }
+    ensures { IfOk result (IsPartInMaking (job_part space job.now)) }
 {
-    let mut part = Part::new(alloc);
+    let mut part = PartBuilder::new(alloc);
     let numbers = job.series.items();
     for (place, schema) in job.schemas.items().iter().enumerate() {
         let points = job.pair.points_of(space, numbers[place]);
@@ -48,7 +48,7 @@ fn write_part(
     requires some { job_part space job.now ≢ [] }
     ensures bytes { IfOk result (λ whole.
         IsFileOf (job_part space job.now) whole.bytes.items) }
-    ensures entry { IfOk result (λ whole. IsEntryOf number.0 job.now.born.0 whole.bytes.items
+    ensures entry { IfOk result (λ whole. IsFileEntryOf number.0 job.now.born.0 whole.bytes.items
         (job_part space job.now) whole.entry) }
     ensures series { IfOk result (λ whole.
         whole.series ≡ paths_of (job_part space job.now)) }
@@ -94,8 +94,8 @@ fn put_drawn<F: Files>(
     port: &mut F::Port,
 ) -> Result<Option<Built<F>>, StoreFault>
     requires job { IsJob job.now }
-    requires drawn { IsDrawnFor drawn (job_part space job.now) }
-    ensures done { IfOk result (IsDone F.Sealed.file F.Sealed.rights (F.Port.store port.old) job.now.born.0
+    requires drawn { IsNumberDrawnFor drawn (job_part space job.now) }
+    ensures done { IfOk result (IsPartDone F.Sealed.file F.Sealed.rights (F.Port.store port.old) job.now.born.0
         (job_part space job.now) drawn) }
     ensures same_store { F.Port.store port.new ≡ F.Port.store port.old }
     ensures cause { HasStoreCause (F.Port.faults port.old) (F.Port.faults port.new) result }
@@ -131,11 +131,11 @@ pub fn run_flush<F: Files>(
     port: &mut F::Port,
 ) -> Result<Flushed<F>, FlushRefused<F>>
     requires { IsJob job.now }
-    ensures sequence { IfOk result (λ files. IsDone F.Sealed.file F.Sealed.rights (F.Port.store port.old) job.now.born.0
+    ensures sequence { IfOk result (λ files. IsPartDone F.Sealed.file F.Sealed.rights (F.Port.store port.old) job.now.born.0
         (job_part Sequence job.now) job.now.sequence files.sequence) }
-    ensures unsequence { IfOk result (λ files. IsDone F.Sealed.file F.Sealed.rights (F.Port.store port.old) job.now.born.0
+    ensures unsequence { IfOk result (λ files. IsPartDone F.Sealed.file F.Sealed.rights (F.Port.store port.old) job.now.born.0
         (job_part Unsequence job.now) job.now.unsequence files.unsequence) }
-    ensures put { IfErr result (λ refused. (refused.files.sequence ≡ None) ⊎ IsDone F.Sealed.file F.Sealed.rights
+    ensures put { IfErr result (λ refused. (refused.files.sequence ≡ None) ⊎ IsPartDone F.Sealed.file F.Sealed.rights
         (F.Port.store port.old) job.now.born.0 (job_part Sequence job.now) job.now.sequence refused.files.sequence) }
     ensures not_put { IfErr result (λ refused. refused.files.unsequence ≡ None) }
     ensures same_store { F.Port.store port.new ≡ F.Port.store port.old }

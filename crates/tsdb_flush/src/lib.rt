@@ -33,7 +33,7 @@ pub use built_laws::{
 pub use flush::{FlushRefused, run_flush};
 pub use hulls::{ends_in, widen};
 pub use job::{Built, FlushJob, Flushed};
-pub use part::{Part, Whole};
+pub use part::{PartBuilder, Whole};
 pub use taking::take;
 pub use taking_laws::a_taken_job_is_a_flush_of_the_state;
 pub use tsdb_memory::{MemoryStore, lesser};

@@ -4,10 +4,10 @@ ghost use Rattle.std.specs.Prelude.{IsTrue, true, length, IfOk, OnOk};
 ghost use Rattle.std.specs.List.{AllByRecursion as Each};
 ghost use Rattle.tsdb_base.specs.Values.{is_suitable, type_of};
 ghost use Rattle.tsdb_base.specs.declared.point.Point.{Point as PointOf};
-ghost use Rattle.tsdb_flush.specs.Making.{IsOpen, IsPart, MayAdd, MayPut};
+ghost use Rattle.tsdb_flush.specs.Making.{IsSeriesOpen, IsPartInMaking, MayAdd, MayPut};
 ghost use Rattle.tsdb_flush.specs.MakingSteps.{AreFrom, ComeBefore, filled_with};
 ghost use Rattle.tsdb_model.specs.declared.command.Schema.{Schema as SchemaOf};
-ghost use Rattle.tsdb_flush.specs.Built.{IsEntryOf, IsFileOf, paths_of};
+ghost use Rattle.tsdb_flush.specs.Built.{IsFileEntryOf, IsFileOf, paths_of};
 ghost use Rattle.tsdb_flush.specs.Parts.{Filled};
 ghost use Rattle.tsdb_base.specs.Points.{IsRising};
 ghost use Rattle.tsdb_path.specs.Nodes.{node_count};
@@ -25,7 +25,7 @@ use tsfile_writer::Builder;
 /// A file in the making: its bytes so far, and of its series so far how many points they have, the hulls of their
 /// devices, and their paths.
 #[derive(Drop)]
-pub struct Part {
+pub struct PartBuilder {
     builder: Builder,
     points: u64,
     hulls: Vec<Hull>,
@@ -40,12 +40,12 @@ pub struct Whole {
     pub series: List<Path>,
 }
 
-impl Part {
+impl PartBuilder {
     /// No series so far.
-    pub fn new(alloc: Global) -> Part
-        ensures { IsPart [] result }
+    pub fn new(alloc: Global) -> PartBuilder
+        ensures { IsPartInMaking [] result }
     {
-        Part {
+        PartBuilder {
             builder: Builder::new(alloc),
             points: 0,
             hulls: Vec::new(alloc),
@@ -61,8 +61,8 @@ impl Part {
         requires typed { Each (λ point. type_of point.value ≡ schema.now.data_type) points.now }
         requires rising { IsRising points.now }
         requires follows { MayAdd self.old schema.now }
-        ensures ok { OnOk result ((part : ListOf Filled) → IsPart part self.old → ComeBefore part schema.now
-            → IsPart (part ++ filled_with schema.now points.now ∷ []) self.new) }
+        ensures ok { OnOk result ((part : ListOf Filled) → IsPartInMaking part self.old → ComeBefore part schema.now
+            → IsPartInMaking (part ++ filled_with schema.now points.now ∷ []) self.new) }
     {
         let Some(total) = self.points.checked_add(points.len() as u64) else {
             return Err(Memory);
@@ -77,7 +77,7 @@ impl Part {
 
     /// Whether it has no series.
     pub fn is_empty(&self) -> bool
-        ensures { (part : ListOf Filled) → IsPart part self.now → IsTrue result ↔ (part ≡ []) }
+        ensures { (part : ListOf Filled) → IsPartInMaking part self.now → IsTrue result ↔ (part ≡ []) }
     {
         self.series.is_empty()
     }
@@ -87,8 +87,8 @@ impl Part {
         requires nodes { 2 ≤ node_count schema.now.path }
         requires suits { is_suitable schema.now.data_type schema.now.encoding ≡ true }
         requires follows { MayAdd self.old schema.now }
-        ensures ok { OnOk result ((part : ListOf Filled) → IsPart part self.old → ComeBefore part schema.now
-            → IsOpen part schema.now [] self.new) }
+        ensures ok { OnOk result ((part : ListOf Filled) → IsPartInMaking part self.old → ComeBefore part schema.now
+            → IsSeriesOpen part schema.now [] self.new) }
     {
         begin(&mut self.builder, schema)?;
         Ok(())
@@ -98,7 +98,7 @@ impl Part {
     pub fn put(&mut self, point: Point) -> Result<(), Memory>
         requires { MayPut point self.old }
         ensures ok { OnOk result ((part : ListOf Filled) (schema : SchemaOf) (points : ListOf PointOf) →
-            IsOpen part schema points self.old → IsOpen part schema (points ++ point ∷ []) self.new) }
+            IsSeriesOpen part schema points self.old → IsSeriesOpen part schema (points ++ point ∷ []) self.new) }
     {
         put_point(&mut self.builder, point)?;
         Ok(())
@@ -107,11 +107,12 @@ impl Part {
     /// Ends the series that was begun, which was given so many points, from the one time to the other.
     pub fn end(&mut self, schema: &Schema, count: u64, from: Time, to: Time) -> Result<(), Memory>
         requires nodes { 2 ≤ node_count schema.now.path }
-        requires open { (part : ListOf Filled) × (points : ListOf PointOf) × IsOpen part schema.now points self.old
+        requires open { (part : ListOf Filled) × (points : ListOf PointOf)
+            × IsSeriesOpen part schema.now points self.old
             × (length points ≡ count) × AreFrom points from to }
         ensures ok { OnOk result ((part : ListOf Filled) (points : ListOf PointOf) →
-            IsOpen part schema.now points self.old → (length points ≡ count) → AreFrom points from to
-            → IsPart (part ++ filled_with schema.now points ∷ []) self.new) }
+            IsSeriesOpen part schema.now points self.old → (length points ≡ count) → AreFrom points from to
+            → IsPartInMaking (part ++ filled_with schema.now points ∷ []) self.new) }
     {
         let Some(total) = self.points.checked_add(count) else {
             return Err(Memory);
@@ -124,14 +125,15 @@ impl Part {
 
     /// The file of a part that has a series.
     pub fn finish(self, number: FileNumber, born: Stamp) -> Result<Whole, Memory>
-        requires { (part : ListOf Filled) × IsPart part self × (0 < length part) }
-        ensures bytes { IfOk result (λ whole. (part : ListOf Filled) → IsPart part self → IsFileOf part whole.bytes.items) }
-        ensures entry { IfOk result (λ whole. (part : ListOf Filled) → IsPart part self
-            → IsEntryOf number.0 born.0 whole.bytes.items part whole.entry) }
-        ensures series { IfOk result (λ whole. (part : ListOf Filled) → IsPart part self
+        requires { (part : ListOf Filled) × IsPartInMaking part self × (0 < length part) }
+        ensures bytes { IfOk result (λ whole. (part : ListOf Filled) → IsPartInMaking part self
+            → IsFileOf part whole.bytes.items) }
+        ensures entry { IfOk result (λ whole. (part : ListOf Filled) → IsPartInMaking part self
+            → IsFileEntryOf number.0 born.0 whole.bytes.items part whole.entry) }
+        ensures series { IfOk result (λ whole. (part : ListOf Filled) → IsPartInMaking part self
             → whole.series ≡ paths_of part) }
     {
-        let Part {
+        let PartBuilder {
             builder,
             points,
             hulls,

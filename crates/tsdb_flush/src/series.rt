@@ -1,8 +1,8 @@
 //! The series that have a point in a pair, in the order of a tree. Depends on tsdb_memory and tsdb_memtable.
 ghost use Rattle.std.specs.Prelude.{◌≡◌, ◌<◌, All, IfOk, length, map};
 ghost use Rattle.std.specs.List.{list_any};
-ghost use Rattle.tsdb_flush.specs.TakingSteps.{AreNumbersOf, AreSeriesOf, HasNumbers, IsSeriesOf, names_in};
-ghost use Rattle.tsdb_flush.specs.TakingSteps.{has_points, points_in, schema_in};
+ghost use Rattle.tsdb_flush.specs.TakingSteps.{AreNumbersOf, AreSeriesOf, HasNumbers, IsSeriesOf, pair_names};
+ghost use Rattle.tsdb_flush.specs.TakingSteps.{has_points, pair_points_in, schema_in};
 ghost use Rattle.tsdb_memory.specs.Model.{HasKnownSeries, IsFormed};
 ghost use Rattle.tsdb_path.specs.Order.{AreInNameOrder};
 
@@ -29,7 +29,7 @@ pub(crate) struct PairSeries<'a> {
 impl<'a> PairSeries<'a> {
     /// Its points in the space.
     fn points(&self, space: Space) -> &'a [Point]
-        ensures { result.now ≡ points_in space self.now }
+        ensures { result.now ≡ pair_points_in space self.now }
     {
         match space {
             Space::Sequence => self.sequence,
@@ -101,7 +101,7 @@ pub(crate) fn series_in_order<'a>(
     requires known { HasKnownSeries memory.now.series pair.now }
     requires once { HasNumbers memory.now.series }
     ensures all { IfOk result (λ all. AreSeriesOf memory.now.series pair.now all.items) }
-    ensures order { IfOk result (λ all. AreInNameOrder names_in all.items) }
+    ensures order { IfOk result (λ all. AreInNameOrder pair_names all.items) }
 {
     let mut all = series(memory, pair)?;
     all.sort_unstable_by_key(|series| series.names);

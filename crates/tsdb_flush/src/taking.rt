@@ -1,7 +1,7 @@
 //! Taking the job. Depends on `series`.
 ghost use Rattle.std.specs.Prelude.{◌<◌, ◌+◌, ◌≤◌, IfOk, length};
-ghost use Rattle.tsdb_flush.specs.TakingSteps.{IsDraw, IsOldest};
-ghost use Rattle.tsdb_flush.specs.Taking.{IsTaken, drawn_numbers};
+ghost use Rattle.tsdb_flush.specs.TakingSteps.{IsDraw, IsOldestFrozen};
+ghost use Rattle.tsdb_flush.specs.Taking.{IsJobTaken, job_numbers};
 ghost use Rattle.tsdb_flush.specs.Jobs.{IsJob};
 ghost use Rattle.tsdb_base.specs.Limits.{end_of_numbers};
 
@@ -13,7 +13,7 @@ use tsdb_memory::{FrozenPair, MemoryStore};
 /// The oldest frozen pair.
 fn oldest(memory: &MemoryStore) -> &FrozenPair
     requires { 0 < length memory.now.frozen }
-    ensures { IsOldest memory.now.frozen result.now }
+    ensures { IsOldestFrozen memory.now.frozen result.now }
 {
     &memory.frozen()[0]
 }
@@ -37,8 +37,8 @@ pub fn take(memory: &MemoryStore, next: u64) -> Result<FlushJob, Memory>
     requires frozen { 0 < length memory.now.frozen }
     requires left { next + 2 ≤ end_of_numbers }
     ensures job { IfOk result IsJob }
-    ensures taken { IfOk result (IsTaken memory.now next) }
-    ensures some { IfOk result (λ job. 0 < length (drawn_numbers job)) }
+    ensures taken { IfOk result (IsJobTaken memory.now next) }
+    ensures some { IfOk result (λ job. 0 < length (job_numbers job)) }
 {
     // (a call that tells what always holds of memory)
     memory.sound();

@@ -14,7 +14,7 @@ use Rattle.tsdb_frames.specs.Firsts.{HasFirst}
 use Rattle.tsdb_frames.specs.Log.{first_bytes}
 use Rattle.tsdb_frames.specs.Pieces.{HasPiece}
 use Rattle.tsdb_frames.specs.Readers.{HasAllLeft, IsReading, IsWholeRead, StaysAt, disk_read, left_of}
-use Rattle.tsdb_frames.specs.Slots.{GoesOn, HasRecords, IsPayload, IsTorn, IsTornBehind, open_records, payloads_of, with_length}
+use Rattle.tsdb_frames.specs.Slots.{HasRecordsThenGate, HasRecords, IsPayload, IsTorn, IsTornBehind, open_records, payloads_of, with_length}
 use Rattle.tsdb_frames.specs.Steps.{HasFrames}
 use Rattle.tsdb_frames.specs.declared.reader.FrameReader.{FrameReader}
 use Rattle.tsdb_frames.specs.declared.record.Frame.{Frame}
@@ -238,7 +238,7 @@ module _ {J : Type 0} {means : disk.Ghosts J} {counts : counted.Ghosts J} where
   -- behind the frames that were read the slot goes on with the next gate
   pub goes_on : (reader : FrameReader J means counts) (journal : J) (place : Slot) (frames : List Frame) (frame : Frame)
       → IsReading journal place reader (frames ++ frame ∷ [])
-      → IfSome (means.state journal).seen (λ image. GoesOn (payloads_of (frames ++ frame ∷ [])) (in_slot place image))
+      → IfSome (means.state journal).seen (λ image. HasRecordsThenGate (payloads_of (frames ++ frame ∷ [])) (in_slot place image))
   goes_on reader journal place frames frame reading =
       by_cases place (means.state journal).seen (disk_read reader).seen reading.keeps.seen reading.told
       (subst (λ (s : Slot). ForSome (disk_read reader).seen (λ image. reader.end ≤ length (in_slot s image))) reading.slot reader.within.long)
@@ -252,7 +252,7 @@ module _ {J : Type 0} {means : disk.Ghosts J} {counts : counted.Ghosts J} where
       by_cases : (place : Slot) (old now : Option Image) → now ≡ old
           → IfSome old (λ image. take reader.at (in_slot place image) ≡ open_records (payloads_of (frames ++ frame ∷ [])))
           → ForSome now (λ image. reader.end ≤ length (in_slot place image))
-          → IfSome old (λ image. GoesOn (payloads_of (frames ++ frame ∷ [])) (in_slot place image))
+          → IfSome old (λ image. HasRecordsThenGate (payloads_of (frames ++ frame ∷ [])) (in_slot place image))
       by_cases place None now same told long = tt
       by_cases place (Some image) now same told long = record {
         fit = reading.front.fit;

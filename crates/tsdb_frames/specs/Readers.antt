@@ -80,8 +80,8 @@ module _ {J : Type 0} {means : disk.Ghosts J} {counts : counted.Ghosts J} where
       → Keeps (means.state journal) (disk_read new)
 
   -- the next gate is there
-  abbrev pub HasEnded : FrameReader J means counts → Type 0
-  HasEnded reader = reader.at < reader.end
+  abbrev pub HasNextGate : FrameReader J means counts → Type 0
+  HasNextGate reader = reader.at < reader.end
 
   -- a call stays at the same gate, and writes nothing
   pub record StaysAt (old new : FrameReader J means counts) : Type 0 where

@@ -29,7 +29,7 @@ pub record HasRecords (payloads : List (List ℕ)) (bytes : List ℕ) : Type 0 w
   pub closed : gate ≢ 1
 
 -- The slot begins with these records behind open gates, and goes on with a gate.
-pub record GoesOn (payloads : List (List ℕ)) (bytes : List ℕ) : Type 0 where
+pub record HasRecordsThenGate (payloads : List (List ℕ)) (bytes : List ℕ) : Type 0 where
   pub fit : All IsPayload payloads
   pub rest : List ℕ
   pub split : bytes ≡ open_records payloads ++ rest

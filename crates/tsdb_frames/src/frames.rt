@@ -58,7 +58,7 @@ impl<J: Journal> Frames<J> {
     ghost use Rattle.tsdb_frames.specs.Frames.{is_aside_in_doubt, IsAside, settled_aside};
     ghost use Rattle.tsdb_frames.specs.Log.{IsFrame, payload_of, HasRecordsOrOneMore, IsSettled};
     ghost use Rattle.tsdb_outside.specs.Moments.{LeavesOnly, LeavesFirstThen, IsUntouched, other};
-    ghost use Rattle.tsdb_frames.specs.Readers.{HasEnded, IsWholeRead};
+    ghost use Rattle.tsdb_frames.specs.Readers.{HasNextGate, IsWholeRead};
     ghost use Rattle.tsdb_frames.specs.Scans.{IsScanned, IsScanRefused};
     ghost use Rattle.tsdb_frames.specs.declared.record.Frame.{Frame};
     ghost use Rattle.tsdb_frames.specs.Slots.{open_records, HasRecords, IsTorn};
@@ -103,7 +103,7 @@ impl<J: Journal> Frames<J> {
 
     /// The log of a slot that was read frame by frame, up to its first closed gate.
     pub fn of_reader(reader: FrameReader<J>) -> Frames<J>
-        requires { HasEnded reader }
+        requires { HasNextGate reader }
         ensures { (journal : J) (place : Slot) (frames : List Frame) → IsWholeRead journal place reader frames
             → IsScanned journal place result frames }
     {

@@ -39,7 +39,8 @@ pub struct FrameReader<J: Journal> {
 }
 
 impl<J: Journal> FrameReader<J> {
-    ghost use Rattle.tsdb_frames.specs.Readers.{EndsReading, HasAllLeft, HasEnded, IsReading, IsTornReading, IsTornSlot};
+    ghost use Rattle.tsdb_frames.specs.Readers.{EndsReading, HasAllLeft, HasNextGate, IsReading, IsTornReading};
+    ghost use Rattle.tsdb_frames.specs.Readers.{IsTornSlot};
     ghost use Rattle.tsdb_frames.specs.Readers.{KeepsJournal, ReadsAll, ReadsOne, StaysAt, StaysReading, faults_read};
     ghost use Rattle.tsdb_frames.specs.Readers.{left_of, read_journal, unread_of};
 
@@ -63,7 +64,7 @@ impl<J: Journal> FrameReader<J> {
         ensures frame { IfOk result (λ next. IfSome next (ReadsOne self.old self.new)) }
         ensures forward { IfOk result (λ next. IfSome next (λ frame. unread_of self.new < unread_of self.old)) }
         ensures whole { IfOk result (λ next. next ≡ None → EndsReading self.old self.new) }
-        ensures ended { IfOk result (λ next. next ≡ None → HasEnded self.new) }
+        ensures ended { IfOk result (λ next. next ≡ None → HasNextGate self.new) }
         ensures torn { (at : ℕ) → IsErrOf result (ScanFault.Torn at) → IsTornReading self.old at }
         ensures stays { OnErr result (StaysReading self.old self.new) }
         ensures cause { HasScanCause (faults_read self.old) (faults_read self.new) result }
@@ -83,7 +84,7 @@ impl<J: Journal> FrameReader<J> {
     /// Reads all frames of a slot, of which none is read yet.
     pub(crate) fn read_all(&mut self, alloc: Global) -> Result<Vec<Frame>, ScanFault>
         ensures whole { IfOk result (λ frames. ReadsAll self.old self.new frames.items) }
-        ensures ended { IfOk result (λ frames. HasEnded self.new) }
+        ensures ended { IfOk result (λ frames. HasNextGate self.new) }
         ensures torn { (at : ℕ) → IsErrOf result (ScanFault.Torn at) → IsTornSlot self.old at }
         ensures keeps { OnErr result (KeepsJournal self.old self.new) }
         ensures cause { HasScanCause (faults_read self.old) (faults_read self.new) result }

@@ -9,22 +9,22 @@ use Rattle.tsdb_querying.proofs.CoreJobs.{is_there}
 use Rattle.tsdb_querying.specs.Core.{files_of, logged_of}
 use Rattle.tsdb_querying.specs.Listings.{TellsStore}
 use Rattle.tsdb_querying.specs.CoreType.{Core}
-use Rattle.tsdb_fileset.specs.Held.{AreFilesOf, listed, leaving}
+use Rattle.tsdb_fileset.specs.Held.{AreFilesOf, listed, outgoing_file}
 use Rattle.tsdb_fileset.proofs.StoredPlaces.{IsToldAt, at_place, differing, each_stored, few, found, named, stored_at}
-use Rattle.tsdb_history.specs.Closing.{IsClosed}
+use Rattle.tsdb_history.specs.Closing.{IsCoreClosed}
 use Rattle.tsdb_history.specs.Listings.{IsListingOf}
 use Rattle.tsdb_state.proofs.ImageLemmas.Kept.{holds_found, kept_by_number}
 use Rattle.tsdb_state.proofs.ImageLemmas.Storing.{others_kept}
 use Rattle.tsdb_state.specs.Stored.{LeadsTo, LeavesOneOf, kept_bytes}
-use Rattle.tsdb_fileset.specs.Closing.{ArePutBack, AreRising, names_at}
-use Rattle.tsdb_fileset.specs.Files.{AreKept, KeptFiles, entry_numbers, kept_file, numbers_of, outgoing_numbers}
-use Rattle.tsdb_fileset.specs.Places.{KeptFile, file_at, place_at}
+use Rattle.tsdb_fileset.specs.Closing.{ArePutBack, AreNumbersRising, names_at}
+use Rattle.tsdb_fileset.specs.Files.{AreKept, KeptFiles, entry_numbers, kept_file, all_numbers, outgoing_numbers}
+use Rattle.tsdb_fileset.specs.Places.{KeptFile, file_at, place_of_number}
 use Rattle.tsdb_fileset.specs.declared.files.Outgoing.{Outgoing}
 use Rattle.tsdb_base.proofs.Lists.{each_from_among, each_left, among_map}
 use Rattle.tsdb_base.specs.Lists.{Among, count, if_some}
 use Rattle.tsdb_log.specs.declared.record.LogRecord.{LogRecord}
 use Rattle.tsdb_memory.specs.Closing as logged
-use Rattle.tsdb_memory.specs.Logged.{IsSound, Outside}
+use Rattle.tsdb_memory.specs.Logged.{IsSoundLogged, Outside}
 use Rattle.tsdb_model.specs.State as plain
 use Rattle.tsdb_model.specs.declared.reply.Listing.{Listing}
 use Rattle.tsdb_base.specs.Causes.{Rose}
@@ -40,9 +40,9 @@ use Rattle.tsdb_state.specs.Stores as store
 use Rattle.tsdb_querying.proofs.Held.{wider}
 use Rattle.tsdb_querying.specs.Flushing.{faults_under}
 use Rattle.tsdb_querying.specs.Serving.{AreHeldWith, IsServing, disk_under, slot_under}
-use Rattle.tsdb_state.specs.Order.{files_of as state_files}
+use Rattle.tsdb_state.specs.Order.{all_files as state_files}
 use Rattle.tsdb_state.specs.Records.{numbers_of as state_numbers}
-use Rattle.tsdb_state.specs.State.{EngineState, Entries, File}
+use Rattle.tsdb_state.specs.State.{EngineState, KnownFiles, File}
 
 -- ---- the numbers of files
 
@@ -50,12 +50,12 @@ listed_numbers : (entries : List FileEntry) → state_numbers (map listed entrie
 listed_numbers [] = refl
 listed_numbers (entry ∷ entries) = ap (λ ns. entry.number.0 ∷ ns) (listed_numbers entries)
 
-leaving_numbers : (files : List Outgoing) → state_numbers (map leaving files) ≡ outgoing_numbers files
+leaving_numbers : (files : List Outgoing) → state_numbers (map outgoing_file files) ≡ outgoing_numbers files
 leaving_numbers [] = refl
 leaving_numbers (file ∷ files) = ap (λ ns. file.number.0 ∷ ns) (leaving_numbers files)
 
-same_numbers : (files : KeptFiles) (known : Entries) (state : EngineState) → AreFilesOf files known state
-    → state_numbers (state_files state) ≡ numbers_of files
+same_numbers : (files : KeptFiles) (known : KnownFiles) (state : EngineState) → AreFilesOf files known state
+    → state_numbers (state_files state) ≡ all_numbers files
 same_numbers files known state are =
     map-append (λ (f : File). f.number) (state.store.sequence ++ state.store.unsequence) state.outgoing
     ∙ (λ i. map-append (λ (f : File). f.number) state.store.sequence state.store.unsequence i
@@ -80,18 +80,18 @@ some_of None none = absurd (omega (arith, none))
 some_of (Some x) one = (x, refl)
 
 module _ {J F S R P : Type 0} {means : disk.Ghosts J} {counts : counted.Ghosts J} (core : Core J F S R P means counts)
-    (are_kept : AreKept (files_of core)) (rising : AreRising (files_of core).places) (put : List StoredFile)
+    (are_kept : AreKept (files_of core)) (rising : AreNumbersRising (files_of core).places) (put : List StoredFile)
     (at : plain.State) (next : Option plain.State) (serving : IsServing core put at next) where
   abbrev kept : List StoredFile
   kept = serving.outside.kept
 
-  numbers_are : state_numbers (state_files serving.state) ≡ numbers_of (files_of core)
+  numbers_are : state_numbers (state_files serving.state) ≡ all_numbers (files_of core)
   numbers_are = same_numbers (files_of core) serving.outside.known serving.state serving.seen.files
 
   -- a kept file is one of the state
   in_state : (n : ℕ) (file : KeptFile) → kept_file n (files_of core) ≡ Some file
       → Among n (state_numbers (state_files serving.state))
-  in_state n file is = subst (Among n) (sym numbers_are) (is_there n (numbers_of (files_of core))
+  in_state n file is = subst (Among n) (sym numbers_are) (is_there n (all_numbers (files_of core))
       (let c = are_kept n ∙ ap (λ f. length (if_some f)) is in omega (arith, c)))
 
   -- its bytes are told, and are those that are kept
@@ -148,7 +148,7 @@ module _ {J F S R P : Type 0} {means : disk.Ghosts J} {counts : counted.Ghosts J
       one : (file : File) → Among file.number (state_numbers (state_files serving.state))
           → kept_bytes stored file.number ≡ kept_bytes kept file.number
       one file among =
-          let some = stands_counted file.number (numbers_of (files_of core)) (subst (Among file.number) numbers_are among) in
+          let some = stands_counted file.number (all_numbers (files_of core)) (subst (Among file.number) numbers_are among) in
           let count = are_kept file.number in
           let there = some_of (kept_file file.number (files_of core)) (omega (arith, some, count)) in
           let is = known file.number there.0 there.1 in
@@ -157,7 +157,7 @@ module _ {J F S R P : Type 0} {means : disk.Ghosts J} {counts : counted.Ghosts J
   abbrev outside : Outside
   outside = record serving.outside { kept = stored }
 
-  sound : IsSound (logged_of core) outside serving.state
+  sound : IsSoundLogged (logged_of core) outside serving.state
   sound = record {
     memory = serving.seen.sound.memory;
     log = record { log = serving.seen.sound.log.log; named = serving.seen.sound.log.named };
@@ -178,7 +178,7 @@ module _ {J F S R P : Type 0} {means : disk.Ghosts J} {counts : counted.Ghosts J
       (λ file. (bytes : List ℕ) → file.name.bytes ≡ Some bytes → kept_bytes stored place.0 ≡ Some bytes))
       (files_of core).places (λ place among. by place (at_place (files_of core).places rising place among)))
     where
-      by : (place : ℕ × Option KeptFile) → place_at place.0 (files_of core).places ≡ Some place.1
+      by : (place : ℕ × Option KeptFile) → place_of_number place.0 (files_of core).places ≡ Some place.1
           → IfSome place.1 (λ file. (bytes : List ℕ) → file.name.bytes ≡ Some bytes
           → kept_bytes stored place.0 ≡ Some bytes)
       by (n, None) here = tt
@@ -198,7 +198,7 @@ module _ {J F S R P : Type 0} {means : disk.Ghosts J} {counts : counted.Ghosts J
       by (Some item) leads = absurd leads
 
   is_closed : (new : DiskState) (faults : ℕ) → IsLawful new → logged.IsClosed (logged_of core) new faults
-      → IsClosed core new stored (Rose (faults_under core) faults) put at next
+      → IsCoreClosed core new stored (Rose (faults_under core) faults) put at next
   is_closed new faults laws closes = record {
     differ = differing (files_of core).places rising;
     numbers = numbers;
@@ -247,7 +247,7 @@ module _ {J F S R P : Type 0} {means : disk.Ghosts J} {counts : counted.Ghosts J
   pub closed : (new : DiskState) (faults : ℕ) → IsLawful new → logged.IsClosed (logged_of core) new faults
       → (old rest : Option (List StoredFile)) → old ≡ Some []
       → WhereTold (ArePutBack (names_at (files_of core).places)) old rest
-      → IsSomeAnd rest (λ files. IsClosed core new files (Rose (faults_under core) faults) put at next)
+      → IsSomeAnd rest (λ files. IsCoreClosed core new files (Rose (faults_under core) faults) put at next)
   closed new faults laws closes old rest none back =
       by rest (subst (λ o. WhereTold (ArePutBack (names_at (files_of core).places)) o rest) none back)
     where
@@ -260,7 +260,7 @@ module _ {J F S R P : Type 0} {means : disk.Ghosts J} {counts : counted.Ghosts J
           (each_place (λ n file. n < 9223372036854775808) (λ n file is. is.to))
 
       by : (rest : Option (List StoredFile)) → WhereTold (ArePutBack (names_at (files_of core).places)) (Some []) rest
-          → IsSomeAnd rest (λ files. IsClosed core new files (Rose (faults_under core) faults) put at next)
+          → IsSomeAnd rest (λ files. IsCoreClosed core new files (Rose (faults_under core) faults) put at next)
       by None back = absurd back
-      by (Some files) back = subst (λ list. IsClosed core new list (Rose (faults_under core) faults) put at next)
+      by (Some files) back = subst (λ list. IsCoreClosed core new list (Rose (faults_under core) faults) put at next)
           (sym (back stored (named (files_of core).places told) (omega (arith, bound)))) (is_closed new faults laws closes)

@@ -4,7 +4,7 @@ use Rattle.std.proofs.lemmas.List.{length-append}
 use Rattle.std.proofs.lemmas.List.Elements.{All-from_recursion, recursion_from_All}
 use Rattle.std.specs.List.{AllByRecursion as Each}
 use Rattle.tsdb_history.proofs.Entries.{heads}
-use Rattle.tsdb_history.specs.Prefixes.{EndsDone, EndsListed, IsDone, IsQuery}
+use Rattle.tsdb_history.specs.Prefixes.{EndsDone, EndsListed, IsDoneChange, IsQuery}
 use Rattle.tsdb_base.proofs.Lists.{each_left, each_right}
 use Rattle.tsdb_model.specs.History.{Entry}
 use Rattle.tsdb_model.specs.declared.command.Command.{Command}
@@ -35,12 +35,12 @@ ends_in (y ∷ xs) = by (ends_in xs)
 
 -- what ends in a change that was done does so in its last entry, or the last is a query and those before it do so
 pub last_ends : (entries : List Entry) (entry : Entry) → EndsDone (entries ++ entry ∷ [])
-    → IsDone entry ⊎ (EndsDone entries × IsQuery entry.command)
+    → IsDoneChange entry ⊎ (EndsDone entries × IsQuery entry.command)
 last_ends entries entry ends = by (ends_in ends.later)
   where
     by : (ends.later ≡ []) ⊎ ((front : List Entry) × (x : Entry) × (ends.later ≡ front ++ x ∷ []))
-        → IsDone entry ⊎ (EndsDone entries × IsQuery entry.command)
-    by (inl none) = inl (subst IsDone (sym (same_end entries ends.before entry ends.last
+        → IsDoneChange entry ⊎ (EndsDone entries × IsQuery entry.command)
+    by (inl none) = inl (subst IsDoneChange (sym (same_end entries ends.before entry ends.last
         (ends.split ∙ ap (λ l. ends.before ++ (ends.last ∷ l)) none)).1) ends.done)
     by (inr found) =
         let same = same_end entries (ends.before ++ (ends.last ∷ found.0)) entry found.1

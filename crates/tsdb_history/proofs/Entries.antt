@@ -9,7 +9,7 @@ use Rattle.std.proofs.lemmas.Option.{same_Some}
 use Rattle.tsdb_model.specs.declared.command.Command.{Command}
 use Rattle.tsdb_model.specs.History.{Entry}
 use Rattle.tsdb_script.specs.declared.numbered.Numbered.{Numbered}
-use Rattle.tsdb_history.specs.History.{IsComplete, command_of, commands_of, entry_of, replies_to}
+use Rattle.tsdb_history.specs.History.{IsComplete, replied_command, commands_of, history_entry, replies_to}
 use Rattle.tsdb_history.specs.declared.told.Told.{Told}
 
 -- an element keeps its place as the list grows
@@ -92,7 +92,7 @@ module _ (script : List Numbered) (history : List Told) (numbered : Numbered) (t
     counts session = subst CountUp (sym (replies_to-push history told session))
         (CountUp-one (eqb told.session session) (replies_to history session) told (its_index session) (is session).1)
 
-  pub command_of-last : command_of (script ++ numbered ∷ []) told ≡ Some numbered.command
+  pub command_of-last : replied_command (script ++ numbered ∷ []) told ≡ Some numbered.command
   command_of-last =
       ap (λ s. slice_get (commands_of (script ++ numbered ∷ []) s) told.index) same
       ∙ ap (slice_get (commands_of (script ++ numbered ∷ []) numbered.session)) at
@@ -102,7 +102,7 @@ module _ (script : List Numbered) (history : List Told) (numbered : Numbered) (t
 
 -- what was answered is so in a longer script
 command_of-longer : (script : List Numbered) (numbered : Numbered) (told : Told) (command : Command)
-    → command_of script told ≡ Some command → command_of (script ++ numbered ∷ []) told ≡ Some command
+    → replied_command script told ≡ Some command → replied_command (script ++ numbered ∷ []) told ≡ Some command
 command_of-longer script numbered told command is =
     ap (λ l. slice_get l told.index) (commands_of-push script numbered told.session)
     ∙ get-append (commands_of script told.session) (cond (eqb numbered.session told.session) (numbered.command ∷ []) []) told.index command is
@@ -117,30 +117,30 @@ with_reply told command = record { command = command; reply = told.reply }
 -- an entry has the command that its reply answers
 
 entry_of-longer : (script : List Numbered) (numbered : Numbered) (told : Told) (entry : Entry)
-    → entry_of script told ≡ Some entry → entry_of (script ++ numbered ∷ []) told ≡ Some entry
+    → history_entry script told ≡ Some entry → history_entry (script ++ numbered ∷ []) told ≡ Some entry
 entry_of-longer script numbered told entry is =
-    let m = made (with_reply told) (command_of script told) entry is in
+    let m = made (with_reply told) (replied_command script told) entry is in
     ap (option_map (with_reply told)) (command_of-longer script numbered told m.0 m.1) ∙ ap Some m.2
 
 pub heads : {X : Type 0} (x y : X) (xs ys : List X) → x ∷ xs ≡ y ∷ ys → (x ≡ y) × (xs ≡ ys)
 heads x y xs ys e = (cc, cc)
 
 answers-longer : (script : List Numbered) (numbered : Numbered) (history : List Told) (entries : List Entry)
-    → map (entry_of script) history ≡ map Some entries → map (entry_of (script ++ numbered ∷ [])) history ≡ map Some entries
+    → map (history_entry script) history ≡ map Some entries → map (history_entry (script ++ numbered ∷ [])) history ≡ map Some entries
 answers-longer script numbered [] [] are = refl
 answers-longer script numbered [] (e ∷ entries) are = cc
 answers-longer script numbered (t ∷ history) [] are = cc
 answers-longer script numbered (t ∷ history) (e ∷ entries) are =
-    let h = heads (entry_of script t) (Some e) (map (entry_of script) history) (map Some entries) are in
-    ap (λ o. o ∷ map (entry_of (script ++ numbered ∷ [])) history) (entry_of-longer script numbered t e h.0)
+    let h = heads (history_entry script t) (Some e) (map (history_entry script) history) (map Some entries) are in
+    ap (λ o. o ∷ map (history_entry (script ++ numbered ∷ [])) history) (entry_of-longer script numbered t e h.0)
     ∙ ap (λ l. Some e ∷ l) (answers-longer script numbered history entries h.1)
 
 -- one more entry
 pub answers-push : (script : List Numbered) (numbered : Numbered) (history : List Told) (told : Told) (entries : List Entry)
-    → map (entry_of script) history ≡ map Some entries → command_of (script ++ numbered ∷ []) told ≡ Some numbered.command
-    → map (entry_of (script ++ numbered ∷ [])) (history ++ told ∷ []) ≡ map Some (entries ++ with_reply told numbered.command ∷ [])
+    → map (history_entry script) history ≡ map Some entries → replied_command (script ++ numbered ∷ []) told ≡ Some numbered.command
+    → map (history_entry (script ++ numbered ∷ [])) (history ++ told ∷ []) ≡ map Some (entries ++ with_reply told numbered.command ∷ [])
 answers-push script numbered history told entries are is =
-    map-append (entry_of (script ++ numbered ∷ [])) history (told ∷ [])
-    ∙ ap (λ l. l ++ entry_of (script ++ numbered ∷ []) told ∷ []) (answers-longer script numbered history entries are)
+    map-append (history_entry (script ++ numbered ∷ [])) history (told ∷ [])
+    ∙ ap (λ l. l ++ history_entry (script ++ numbered ∷ []) told ∷ []) (answers-longer script numbered history entries are)
     ∙ ap (λ o. map Some entries ++ o ∷ []) (ap (option_map (with_reply told)) is)
     ∙ sym (map-append Some entries (with_reply told numbered.command ∷ []))

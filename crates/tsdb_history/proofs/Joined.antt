@@ -11,14 +11,14 @@ use Rattle.tsdb_model.specs.declared.reply.Reply.TheVariants.{Plain}
 use Rattle.tsdb_outside.specs.Disk.{Image, DiskState, in_slot}
 use Rattle.tsdb_outside.specs.declared.disk.Slot.{Slot}
 use Rattle.tsdb_state.proofs.ReplayLemmas.Stores.{new_log_stands, stands_once}
-use Rattle.tsdb_state.specs.Stores.{Files, IsSound, StandsFor, no_changes}
+use Rattle.tsdb_state.specs.Stores.{BytesByNumber, IsSound, StoreStandsFor, no_changes}
 
-pub joined : (files : Files) (bytes : List ℕ) (start middle last : plain.State) (first second : List Entry)
-    → StandsAfterPrefix (StandsFor files bytes) start first → StandsFor files bytes middle → IsLegal middle second last
+pub joined : (files : BytesByNumber) (bytes : List ℕ) (start middle last : plain.State) (first second : List Entry)
+    → StandsAfterPrefix (StoreStandsFor files bytes) start first → StoreStandsFor files bytes middle → IsLegal middle second last
     → IsJoined start first second last
 joined files bytes start middle last first second left stands legal = by left.stands
   where
-    by : StandsAfter (StandsFor files bytes) left.after left.prefix → IsJoined start first second last
+    by : StandsAfter (StoreStandsFor files bytes) left.after left.prefix → IsJoined start first second last
     by (inl is) = record {
       prefix = left.prefix;
       rest = left.rest;
@@ -41,12 +41,12 @@ joined files bytes start middle last first second left stands legal = by left.st
           (stands_once files bytes middle (state_after left.after command (Plain answer.Done)) stands is) legal;
     }
 
-pub followed : (files : Files) (bytes : List ℕ) (start between middle last : plain.State) (first second : List Entry)
-    → IsLegal start first between → StandsAfter (StandsFor files bytes) between first → StandsFor files bytes middle
+pub followed : (files : BytesByNumber) (bytes : List ℕ) (start between middle last : plain.State) (first second : List Entry)
+    → IsLegal start first between → StandsAfter (StoreStandsFor files bytes) between first → StoreStandsFor files bytes middle
     → IsLegal middle second last → IsFollowed start first second last
 followed files bytes start between middle last first second leads left stands legal = by left
   where
-    by : StandsAfter (StandsFor files bytes) between first → IsFollowed start first second last
+    by : StandsAfter (StoreStandsFor files bytes) between first → IsFollowed start first second last
     by (inl is) = record {
       between = between;
       legal = leads;
@@ -63,14 +63,14 @@ followed files bytes start between middle last first second leads left stands le
           (stands_once files bytes middle (state_after between command (Plain answer.Done)) stands is) legal;
     }
 
-pub new_is_sound : (slot : Slot) (disk : DiskState) (files : Files) (image : Image) → disk.seen ≡ Some image
+pub new_is_sound : (slot : Slot) (disk : DiskState) (files : BytesByNumber) (image : Image) → disk.seen ≡ Some image
     → in_slot slot image ≡ 0 ∷ [] → ((left : Image) → disk.may_leave left → in_slot slot left ≡ 0 ∷ [])
     → IsSound slot disk files no_changes
 new_is_sound slot disk files image seen new leaves = record {
   told = subst IsSome (sym seen) refl;
   settled = λ payloads found left is records may.
       subst (HasRecords payloads) (of_seen found is ∙ sym (leaves left may)) records;
-  stands = λ found is. subst (λ bytes. StandsFor files bytes no_changes) (sym (of_seen found is)) (new_log_stands files);
+  stands = λ found is. subst (λ bytes. StoreStandsFor files bytes no_changes) (sym (of_seen found is)) (new_log_stands files);
 }
   where
     of_seen : (found : Image) → disk.seen ≡ Some found → in_slot slot found ≡ 0 ∷ []

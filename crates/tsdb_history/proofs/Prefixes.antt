@@ -4,8 +4,8 @@ use Rattle.std.proofs.Common.{append-nil, append_assoc, arith, subst, ◌∙◌}
 use Rattle.std.proofs.lemmas.List.Elements.{All-append, All-cons, All-nil}
 use Rattle.std.proofs.lemmas.Option.{same_Some}
 use Rattle.tsdb_base.specs.declared.answers.Answer.TheVariants as answer
-use Rattle.tsdb_history.specs.Prefixes.{IsDone, IsInDoubt, StandsAfter, StandsAfterPrefix}
-use Rattle.tsdb_history.specs.Serves.{MayDoubt}
+use Rattle.tsdb_history.specs.Prefixes.{IsDoneChange, IsInDoubt, StandsAfter, StandsAfterPrefix}
+use Rattle.tsdb_history.specs.Serves.{MayDoubtAfter}
 use Rattle.tsdb_model.specs.Apply.{reply_of}
 use Rattle.tsdb_model.specs.History.{Entry, IsAllowed, IsChange, IsLegal, state_after}
 use Rattle.tsdb_model.specs.State as plain
@@ -15,7 +15,7 @@ use Rattle.tsdb_model.specs.declared.command.Command.TheVariants.{Create, Insert
 use Rattle.tsdb_model.specs.declared.command.Command.TheVariants.{CompactCross, ShowFiles}
 use Rattle.tsdb_model.specs.declared.reply.Reply.{Reply}
 use Rattle.tsdb_model.specs.declared.reply.Reply.TheVariants.{Plain, Lines, Values, Files}
-use Rattle.tsdb_state.specs.Stores.{StandsFor, StandsForOneOf}
+use Rattle.tsdb_state.specs.Stores.{StoreStandsFor, StandsForOneOf}
 use Rattle.tsdb_state.specs.Stores as stores
 
 -- ---- commands and replies
@@ -89,7 +89,7 @@ no_change at (CompactInner space) not = same_at at
 no_change at CompactCross not = same_at at
 no_change at ShowFiles not = same_at at
 
-pub state_stays : (at : plain.State) (command : Command) (reply : Reply) → ¬ IsDone (entry_of command reply)
+pub state_stays : (at : plain.State) (command : Command) (reply : Reply) → ¬ IsDoneChange (entry_of command reply)
     → state_after at command reply ≡ at
 state_stays at command reply not = by (done_or_not reply) (is_change command)
   where
@@ -167,19 +167,19 @@ module _ (Stands Wider : plain.State → Type 0) (wider : (at : plain.State) →
 
 -- a change in doubt stays so behind an entry that is no change that was done
 pub doubt_stays : (entries : List Entry) (at : plain.State) (entry : Entry) (command : Command)
-    → IsInDoubt entries at command → ¬ IsDone entry → IsInDoubt (entries ++ entry ∷ []) at command
+    → IsInDoubt entries at command → ¬ IsDoneChange entry → IsInDoubt (entries ++ entry ∷ []) at command
 doubt_stays entries at entry command doubt not = record {
   before = doubt.before;
   later = doubt.later ++ entry ∷ [];
   split = longer entries doubt.before (entry_of command (Plain answer.Device) ∷ doubt.later) entry doubt.split;
-  since = All-append (λ e. ¬ IsDone e) doubt.later (entry ∷ []) doubt.since
-      (All-cons (λ e. ¬ IsDone e) entry [] not (All-nil (λ e. ¬ IsDone e)));
+  since = All-append (λ e. ¬ IsDoneChange e) doubt.later (entry ∷ []) doubt.since
+      (All-cons (λ e. ¬ IsDoneChange e) entry [] not (All-nil (λ e. ¬ IsDoneChange e)));
   change = doubt.change;
   accepted = doubt.accepted;
 }
 
-pub may_stay : (entries : List Entry) (at : plain.State) (entry : Entry) (doubt : Option plain.State) → ¬ IsDone entry
-    → MayDoubt entries at doubt → MayDoubt (entries ++ entry ∷ []) at doubt
+pub may_stay : (entries : List Entry) (at : plain.State) (entry : Entry) (doubt : Option plain.State) → ¬ IsDoneChange entry
+    → MayDoubtAfter entries at doubt → MayDoubtAfter (entries ++ entry ∷ []) at doubt
 may_stay entries at entry doubt not (inl none) = inl none
 may_stay entries at entry doubt not (inr (inl same)) = inr (inl same)
 may_stay entries at entry doubt not (inr (inr changed)) =
@@ -193,24 +193,24 @@ last_doubt entries at command reply change is accepts = record {
   before = entries;
   later = [];
   split = ap (λ r. entries ++ entry_of command r ∷ []) is;
-  since = All-nil (λ e. ¬ IsDone e);
+  since = All-nil (λ e. ¬ IsDoneChange e);
   change = change;
   accepted = accepts;
 }
 
 -- the log stands for the state after the entries, or for the one in doubt
-pub stands_after : (files : stores.Files) (at : plain.State) (entries : List Entry) (doubt : Option plain.State)
-    (bytes : List ℕ) → MayDoubt entries at doubt → StandsForOneOf files bytes at doubt
-    → StandsAfter (StandsFor files bytes) at entries
+pub stands_after : (files : stores.BytesByNumber) (at : plain.State) (entries : List Entry) (doubt : Option plain.State)
+    (bytes : List ℕ) → MayDoubtAfter entries at doubt → StandsForOneOf files bytes at doubt
+    → StandsAfter (StoreStandsFor files bytes) at entries
 stands_after files at entries None bytes may is = inl is
 stands_after files at entries (Some other) bytes may (inl is) = inl is
 stands_after files at entries (Some other) bytes (inl none) (inr is) = absurd cc
 stands_after files at entries (Some other) bytes (inr (inl same)) (inr is) =
-    inl (subst (StandsFor files bytes) (same_Some other at same) is)
+    inl (subst (StoreStandsFor files bytes) (same_Some other at same) is)
 stands_after files at entries (Some other) bytes (inr (inr changed)) (inr is) =
     inr (
       changed.0,
       changed.1,
-      subst (StandsFor files bytes)
+      subst (StoreStandsFor files bytes)
           (same_Some other (state_after at changed.0 (Plain answer.Done)) changed.2) is,
     )

@@ -20,8 +20,8 @@ use Rattle.tsdb_outside.specs.declared.disk.Disk as disk
 use Rattle.tsdb_outside.specs.declared.faults.Counted as counted
 use Rattle.tsdb_querying.proofs.Answered.{unmoved}
 use Rattle.tsdb_querying.proofs.Held.{same_state}
-use Rattle.tsdb_querying.specs.Faults.{answer_of}
-use Rattle.tsdb_querying.specs.Serving.{Answers, IsAnsweredBy, IsDrawn, IsServedBy, IsServing, IsSure, KeepsServing}
+use Rattle.tsdb_querying.specs.Faults.{flush_answer}
+use Rattle.tsdb_querying.specs.Serving.{ServesCommand, IsAnsweredBy, IsDrawn, IsServedBy, IsServing, IsSure, KeepsServing}
 use Rattle.tsdb_querying.specs.Serving.{LeavesDoubt, LeavesEither, MayDoubt, disk_under, slot_under}
 use Rattle.tsdb_querying.specs.FlushFault.{FlushFault}
 use Rattle.tsdb_querying.specs.TheVariants as fault
@@ -73,7 +73,7 @@ module _ (command : Command) (writes : WritesFiles command) where
 
   fault_allowed : (at : plain.State) (why : FlushFault)
       → ((counter : ℕ) → why ≡ fault.Full counter → end_of_numbers < counter + 2)
-      → IsAllowed at command (Plain (answer_of why))
+      → IsAllowed at command (Plain (flush_answer why))
   fault_allowed at fault.Device full = writes.not_listing
   fault_allowed at fault.Memory full = tt
   fault_allowed at (fault.Full counter) full = inr (record { draws = writes.draws; end = full counter refl })
@@ -89,13 +89,13 @@ module _ (command : Command) (writes : WritesFiles command) where
   state_stays at (answer.Full counter) = refl
 
 -- a fault is not called done
-pub fault_is_not_done : (why : FlushFault) → answer_of why ≢ answer.Done
+pub fault_is_not_done : (why : FlushFault) → flush_answer why ≢ answer.Done
 fault_is_not_done fault.Device is = absurd cc
 fault_is_not_done fault.Memory is = absurd cc
 fault_is_not_done (fault.Full counter) is = absurd cc
 
 -- and it is one of the device where it is answered so
-pub fault_is_device : (why : FlushFault) → answer_of why ≡ answer.Device → why ≡ fault.Device
+pub fault_is_device : (why : FlushFault) → flush_answer why ≡ answer.Device → why ≡ fault.Device
 fault_is_device fault.Device is = refl
 fault_is_device fault.Memory is = absurd cc
 fault_is_device (fault.Full counter) is = absurd cc
@@ -146,21 +146,21 @@ module _ {J F S R P : Type 0} {means : disk.Ghosts J} {counts : counted.Ghosts J
     }
 
   pub writing_done : (command : Command) → WritesFiles command → (old new : Core J F S R P means counts)
-      → KeepsServing old new → Answers old new command (Plain answer.Done)
+      → KeepsServing old new → ServesCommand old new command (Plain answer.Done)
   writing_done command writes old new keeps files at next serving = kept_answered command writes (IsDrawn old new) old new
       files at next (keeps files at next serving) answer.Done (done_allowed command writes at)
 
   pub writing_failed : (command : Command) → WritesFiles command → (old new : Core J F S R P means counts)
       → KeepsServing old new → (why : FlushFault)
       → ((counter : ℕ) → why ≡ fault.Full counter → end_of_numbers < counter + 2) → (result : Answer)
-      → result ≡ answer_of why → Answers old new command (Plain result)
+      → result ≡ flush_answer why → ServesCommand old new command (Plain result)
   writing_failed command writes old new keeps why full result is files at next serving = kept_answered command writes
       (IsDrawn old new) old new files at next (keeps files at next serving) result
       (subst (λ answer. IsAllowed at command (Plain answer)) (sym is) (fault_allowed command writes at why full))
 
   -- a listing for which memory ended
   pub not_shown : ((journal : J) → IsLawful (means.state journal)) → (core : Core J F S R P means counts)
-      → Answers core core ShowFiles (Plain answer.Memory)
+      → ServesCommand core core ShowFiles (Plain answer.Memory)
   not_shown laws core files at next serving =
       unmoved laws core core refl ShowFiles (Plain answer.Memory) (λ change. cc) files at next serving serving refl tt
 
@@ -174,7 +174,7 @@ module _ {J F S R P : Type 0} {means : disk.Ghosts J} {counts : counted.Ghosts J
 
   -- the core is in a state of the plain model behind a command too
   pub sure_still : (store : Store) (old new : Core J F S R P means counts) (command : Command) (reply : Reply)
-      → (store.tells ≡ true → Answers old new command reply) → IsSure store old → IsSure store new
+      → (store.tells ≡ true → ServesCommand old new command reply) → IsSure store old → IsSure store new
   sure_still store old new command reply answers (inl none) = inl none
   sure_still store old new command reply answers (inr is) = by store.tells refl
     where

@@ -9,7 +9,7 @@ use Rattle.std.proofs.lemmas.List.Sums.{sum_by_push}
 use Rattle.std.proofs.Math.Seq.{take-length}
 use Rattle.tsdb_base.specs.declared.answers.Answer.TheVariants as answer
 use Rattle.tsdb_history.proofs.Entries.{IsComplete-push, answers-push, command_of-last, length-commands_of-push}
-use Rattle.tsdb_history.specs.History.{IsHistory, IsInLineOrder, commands_of, is_device, is_device_reply}
+use Rattle.tsdb_history.specs.History.{IsHistory, IsInLineOrder, commands_of, told_device, is_device_reply}
 use Rattle.tsdb_history.specs.History.{session_numbers}
 use Rattle.tsdb_history.specs.declared.told.Told.{Told}
 use Rattle.tsdb_model.specs.History.{Entry}
@@ -123,14 +123,14 @@ one_of a a_new b b_new first second (inr rose) = omega (arith, first, second, ro
 
 -- each reply `device` is a fault of the journal or of the port
 pub devices_more : (first a a_new b b_new : ℕ) (history : List Told) (told : Told)
-    → min (first + count_by is_device history) (2 ^ 64 - 1) ≤ a + b → a ≤ a_new → b ≤ b_new
+    → min (first + count_by told_device history) (2 ^ 64 - 1) ≤ a + b → a ≤ a_new → b ≤ b_new
     → (told.reply ≡ Plain answer.Device → Rose a a_new ⊎ Rose b b_new)
-    → min (first + count_by is_device (history ++ told ∷ [])) (2 ^ 64 - 1) ≤ a_new + b_new
+    → min (first + count_by told_device (history ++ told ∷ [])) (2 ^ 64 - 1) ≤ a_new + b_new
 devices_more first a a_new b b_new history told few later port rose =
     elim (is_device_or_not told.reply) [
-      | inl is ↦ (let one : is_device told ≡ true = ap is_device_reply is in
-          let e = count_more is_device history told ∙ ap (λ b. count_by is_device history + cond b 1 0) one in
+      | inl is ↦ (let one : told_device told ≡ true = ap is_device_reply is in
+          let e = count_more told_device history told ∙ ap (λ b. count_by told_device history + cond b 1 0) one in
           omega (arith, few, one_of a a_new b b_new later port (rose is), e))
-      | inr not ↦ (let e = count_more is_device history told ∙ ap (λ b. count_by is_device history + cond b 1 0) not in
+      | inr not ↦ (let e = count_more told_device history told ∙ ap (λ b. count_by told_device history + cond b 1 0) not in
           omega (arith, few, later, port, e))
     ]

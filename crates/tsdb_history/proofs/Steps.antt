@@ -9,10 +9,10 @@ use Rattle.tsdb_frames.proofs.MomentLemmas.{leaves_on, weaker}
 use Rattle.tsdb_history.proofs.Ends.{last_ends, last_listed, none_listed}
 use Rattle.tsdb_history.proofs.Prefixes.{done_or_not, entry_of, is_change, is_reply, last_doubt, legal_more, may_stay}
 use Rattle.tsdb_history.proofs.Prefixes.{no_change, prefix_stays, stands_after, state_stays, whole_prefix}
-use Rattle.tsdb_history.specs.Prefixes.{EndsDone, IsDone, IsQuery, StandsAfter, StandsAfterPrefix}
+use Rattle.tsdb_history.specs.Prefixes.{EndsDone, IsDoneChange, IsQuery, StandsAfter, StandsAfterPrefix}
 use Rattle.tsdb_history.proofs.Reach.{all_further, within_more}
 use Rattle.tsdb_history.specs.Reach.{AreFullWithin, IsFullWithin}
-use Rattle.tsdb_history.specs.Serves.{HasServed, LeavesPrefix, MayDoubt}
+use Rattle.tsdb_history.specs.Serves.{HasServed, LeavesPrefix, MayDoubtAfter}
 use Rattle.tsdb_base.proofs.Lists.{each_append, each_left, each_weaker}
 use Rattle.tsdb_memory.specs.Logged.{memory_of}
 use Rattle.tsdb_model.specs.Apply.{reply_of}
@@ -27,18 +27,18 @@ use Rattle.tsdb_outside.specs.Disk.{Image, IsLawful, in_slot}
 use Rattle.tsdb_outside.specs.Files.{StoredFile}
 use Rattle.tsdb_outside.specs.declared.disk.Disk as disk
 use Rattle.tsdb_outside.specs.declared.faults.Counted as counted
-use Rattle.tsdb_state.specs.Stores.{HoldsKept, StandsFor, StandsForOneOf}
+use Rattle.tsdb_state.specs.Stores.{HoldsKept, StoreStandsFor, StandsForOneOf}
 use Rattle.tsdb_state.specs.Stores as stores
 use Rattle.tsdb_querying.proofs.Differing.{differ_on, drawn_apart}
 use Rattle.tsdb_querying.proofs.Parts.{more_files}
 use Rattle.tsdb_querying.proofs.Steps.{idle, image_left}
 use Rattle.tsdb_querying.proofs.ServingAnswered.{stamp_is}
 use Rattle.tsdb_querying.specs.Serving as serving
-use Rattle.tsdb_querying.specs.Serving.{Answers, HasFullCause, IsAnsweredBy, IsDrawn, IsServedBy, IsServing, IsWritten}
+use Rattle.tsdb_querying.specs.Serving.{ServesCommand, HasFullCause, IsAnsweredBy, IsDrawn, IsServedBy, IsServing, MayBeWritten}
 use Rattle.tsdb_querying.specs.Serving.{LeavesDoubt, LeavesEither, StaysInPlace, disk_under, slot_under}
 
 -- this is held of a file
-abbrev Held : stores.Files → StoredFile → Type 0
+abbrev Held : stores.BytesByNumber → StoredFile → Type 0
 Held files file = files file.number ≡ Some file.bytes
 
 module _ {J F S R P : Type 0} {means : disk.Ghosts J} {counts : counted.Ghosts J} where
@@ -66,7 +66,7 @@ module _ {J F S R P : Type 0} {means : disk.Ghosts J} {counts : counted.Ghosts J
     serving = more_files laws core files [] start None is;
     moments = idle (disk_under core) (LeavesPrefix (files ++ []) (slot_under core) start [])
         (laws core.logged.frames.journal)
-        (λ image left there holds. whole_prefix (StandsFor there (in_slot (slot_under core) image)) start start [] refl
+        (λ image left there holds. whole_prefix (StoreStandsFor there (in_slot (slot_under core) image)) start start [] refl
         (inl (image_left laws core files start None image is left there (each_left (Held there) files [] holds))));
     listed = λ listing ends. absurd (none_listed listing ends);
   }
@@ -74,7 +74,7 @@ module _ {J F S R P : Type 0} {means : disk.Ghosts J} {counts : counted.Ghosts J
   module _ (first mid new : Core J F S R P means counts) (files : List StoredFile) (start : plain.State)
       (entries : List Entry) (command : Command) (reply : Reply) (so_far : HasServed first mid files start entries)
       (place : StaysInPlace first mid) (stays : StaysInPlace mid new) (full : HasFullCause new reply)
-      (answers : Answers mid new command reply)
+      (answers : ServesCommand mid new command reply)
       (shows : (listing : Listing) → command ≡ ShowFiles → reply ≡ Files listing → TellsStore new listing) where
     abbrev at : plain.State
     at = so_far.after
@@ -101,22 +101,22 @@ module _ {J F S R P : Type 0} {means : disk.Ghosts J} {counts : counted.Ghosts J
     legal_all = legal_more start at entries command reply so_far.legal answered.allowed
 
     -- the log stands for the state before the command, or for the one in doubt
-    before : (there : stores.Files) (bytes : List ℕ) → StandsForOneOf there bytes at so_far.doubt
-        → StandsAfterPrefix (StandsFor there bytes) start all
-    before there bytes is = prefix_stays (StandsFor there bytes) start entries entry
-        (whole_prefix (StandsFor there bytes) start at entries so_far.legal
+    before : (there : stores.BytesByNumber) (bytes : List ℕ) → StandsForOneOf there bytes at so_far.doubt
+        → StandsAfterPrefix (StoreStandsFor there bytes) start all
+    before there bytes is = prefix_stays (StoreStandsFor there bytes) start entries entry
+        (whole_prefix (StoreStandsFor there bytes) start at entries so_far.legal
         (stands_after there at entries so_far.doubt bytes so_far.may is))
 
-    stands_still : (there : stores.Files) (bytes : List ℕ) → StandsFor there bytes at
-        → StandsAfterPrefix (StandsFor there bytes) start all
-    stands_still there bytes is = prefix_stays (StandsFor there bytes) start entries entry
-        (whole_prefix (StandsFor there bytes) start at entries so_far.legal (inl is))
+    stands_still : (there : stores.BytesByNumber) (bytes : List ℕ) → StoreStandsFor there bytes at
+        → StandsAfterPrefix (StoreStandsFor there bytes) start all
+    stands_still there bytes is = prefix_stays (StoreStandsFor there bytes) start entries entry
+        (whole_prefix (StoreStandsFor there bytes) start at entries so_far.legal (inl is))
 
     -- the command led to the state `later`, where it took effect
     module _ (later then : plain.State) (same : then ≡ now)
         (served : IsServedBy (IsDrawn mid new) mid new held at so_far.doubt later then)
-        (stands_later : (there : stores.Files) (bytes : List ℕ) → StandsFor there bytes later
-        → StandsAfterPrefix (StandsFor there bytes) start all) where
+        (stands_later : (there : stores.BytesByNumber) (bytes : List ℕ) → StoreStandsFor there bytes later
+        → StandsAfterPrefix (StoreStandsFor there bytes) start all) where
       abbrev put : List StoredFile
       put = so_far.put ++ served.put
 
@@ -126,15 +126,15 @@ module _ {J F S R P : Type 0} {means : disk.Ghosts J} {counts : counted.Ghosts J
       abbrev AtAll : Image → Type 0
       AtAll = LeavesPrefix (files ++ put) (slot_under first) start all
 
-      holds_all : (there : stores.Files) → HoldsKept (files ++ put) there → HoldsKept (held ++ served.put) there
+      holds_all : (there : stores.BytesByNumber) → HoldsKept (files ++ put) there → HoldsKept (held ++ served.put) there
       holds_all there holds = subst (λ list. HoldsKept list there) (sym joined) holds
 
       begins : (image : Image) → LeavesPrefix held (slot_under first) start entries image → AtAll image
-      begins image leaves there holds = prefix_stays (StandsFor there (in_slot (slot_under first) image)) start entries
+      begins image leaves there holds = prefix_stays (StoreStandsFor there (in_slot (slot_under first) image)) start entries
           entry (leaves there (each_left (Held there) held served.put (holds_all there holds)))
 
-      one_of : (there : stores.Files) (bytes : List ℕ) → StandsForOneOf there bytes at (Some later)
-          → StandsAfterPrefix (StandsFor there bytes) start all
+      one_of : (there : stores.BytesByNumber) (bytes : List ℕ) → StandsForOneOf there bytes at (Some later)
+          → StandsAfterPrefix (StoreStandsFor there bytes) start all
       one_of there bytes (inl is) = stands_still there bytes is
       one_of there bytes (inr is) = stands_later there bytes is
 
@@ -171,7 +171,7 @@ module _ {J F S R P : Type 0} {means : disk.Ghosts J} {counts : counted.Ghosts J
       reached_all = within_more (next_of new) start at entries command reply so_far.legal
           (all_further (next_of mid) (next_of new) start entries stays.next so_far.reached) last_within
 
-      led : MayDoubt all now served.doubt → (EndsDone all → served.doubt ≡ None) → HasServed first new files start all
+      led : MayDoubtAfter all now served.doubt → (EndsDone all → served.doubt ≡ None) → HasServed first new files start all
       led may settled = record {
         after = now;
         legal = legal_all;
@@ -201,11 +201,11 @@ module _ {J F S R P : Type 0} {means : disk.Ghosts J} {counts : counted.Ghosts J
 
     -- ---- a command whose record may have been written, or that has none
 
-    doubt_then : (doubt : Option plain.State) → ¬ IsDone entry → LeavesDoubt so_far.doubt at command reply doubt
-        → MayDoubt all at doubt
+    doubt_then : (doubt : Option plain.State) → ¬ IsDoneChange entry → LeavesDoubt so_far.doubt at command reply doubt
+        → MayDoubtAfter all at doubt
     doubt_then doubt not (inl none) = inl none
     doubt_then doubt not (inr (inl was)) =
-        may_stay entries at entry doubt not (subst (MayDoubt entries at) (sym was) so_far.may)
+        may_stay entries at entry doubt not (subst (MayDoubtAfter entries at) (sym was) so_far.may)
     doubt_then doubt not (inr (inr (inl drawn))) = inr (inl drawn.1)
     doubt_then doubt not (inr (inr (inr failed))) = inr (inr (
       command,
@@ -213,21 +213,21 @@ module _ {J F S R P : Type 0} {means : disk.Ghosts J} {counts : counted.Ghosts J
       failed.leads,
     ))
 
-    is_done : IsDone entry ⊎ (¬ IsDone entry)
+    is_done : IsDoneChange entry ⊎ (¬ IsDoneChange entry)
     is_done = by (done_or_not reply) (is_change command)
       where
         by : (reply ≡ Plain answer.Done) ⊎ (reply ≢ Plain answer.Done) → IsChange command ⊎ (¬ IsChange command)
-            → IsDone entry ⊎ (¬ IsDone entry)
+            → IsDoneChange entry ⊎ (¬ IsDoneChange entry)
         by (inl is) (inl change) = inl (change, is)
         by (inl is) (inr none) = inr (λ is. none is.0)
         by (inr other) change = inr (λ is. other is.1)
 
-    doubted : MayDoubt all now answered.served.doubt
+    doubted : MayDoubtAfter all now answered.served.doubt
     doubted = by is_done
       where
-        by : IsDone entry ⊎ (¬ IsDone entry) → MayDoubt all now answered.served.doubt
+        by : IsDoneChange entry ⊎ (¬ IsDoneChange entry) → MayDoubtAfter all now answered.served.doubt
         by (inl done) = inl (answered.settled done.0 done.1)
-        by (inr not) = subst (λ state. MayDoubt all state answered.served.doubt) (sym (state_stays at command reply not))
+        by (inr not) = subst (λ state. MayDoubtAfter all state answered.served.doubt) (sym (state_stays at command reply not))
             (doubt_then answered.served.doubt not answered.doubtful)
 
     query_doubt : (doubt : Option plain.State) → IsQuery command → so_far.doubt ≡ None
@@ -240,53 +240,53 @@ module _ {J F S R P : Type 0} {means : disk.Ghosts J} {counts : counted.Ghosts J
     settled_then : EndsDone all → answered.served.doubt ≡ None
     settled_then ends = by (last_ends entries entry ends)
       where
-        by : IsDone entry ⊎ (EndsDone entries × IsQuery entry.command) → answered.served.doubt ≡ None
+        by : IsDoneChange entry ⊎ (EndsDone entries × IsQuery entry.command) → answered.served.doubt ≡ None
         by (inl done) = answered.settled done.0 done.1
         by (inr rest) = query_doubt answered.served.doubt rest.1 (so_far.settled rest.0) answered.doubtful
 
-    tried : ((there : stores.Files) (bytes : List ℕ) → StandsFor there bytes done
-        → StandsAfterPrefix (StandsFor there bytes) start all) → HasServed first new files start all
+    tried : ((there : stores.BytesByNumber) (bytes : List ℕ) → StoreStandsFor there bytes done
+        → StandsAfterPrefix (StoreStandsFor there bytes) start all) → HasServed first new files start all
     tried stands = led done now refl answered.served stands doubted settled_then
 
     -- it was done
-    done_stands : reply ≡ Plain answer.Done → (there : stores.Files) (bytes : List ℕ) → StandsFor there bytes done
-        → StandsAfterPrefix (StandsFor there bytes) start all
-    done_stands is there bytes stands = whole_prefix (StandsFor there bytes) start now all legal_all
-        (inl (subst (StandsFor there bytes) (ap (state_after at command) (sym is)) stands))
+    done_stands : reply ≡ Plain answer.Done → (there : stores.BytesByNumber) (bytes : List ℕ) → StoreStandsFor there bytes done
+        → StandsAfterPrefix (StoreStandsFor there bytes) start all
+    done_stands is there bytes stands = whole_prefix (StoreStandsFor there bytes) start now all legal_all
+        (inl (subst (StoreStandsFor there bytes) (ap (state_after at command) (sym is)) stands))
 
     -- its device failed
     doubt_stands : IsChange command → reply ≡ Plain answer.Device → reply_of at.world command ≡ Plain answer.Done
-        → (there : stores.Files) (bytes : List ℕ) → StandsFor there bytes done → StandsAfterPrefix (StandsFor there bytes) start all
-    doubt_stands change is accepts there bytes stands = whole_prefix (StandsFor there bytes) start now all legal_all
-        (subst (λ state. StandsAfter (StandsFor there bytes) state all) (sym (ap (state_after at command) is))
+        → (there : stores.BytesByNumber) (bytes : List ℕ) → StoreStandsFor there bytes done → StandsAfterPrefix (StoreStandsFor there bytes) start all
+    doubt_stands change is accepts there bytes stands = whole_prefix (StoreStandsFor there bytes) start now all legal_all
+        (subst (λ state. StandsAfter (StoreStandsFor there bytes) state all) (sym (ap (state_after at command) is))
         (inr (command, last_doubt entries at command reply change is accepts, stands)))
 
     -- ---- a change whose record cannot have been written
 
-    module _ (change : IsChange command) (not : ¬ IsWritten at command reply) where
-      other : ¬ IsDone entry
+    module _ (change : IsChange command) (not : ¬ MayBeWritten at command reply) where
+      other : ¬ IsDoneChange entry
       other is = not (inl is.1)
 
       kept : IsServedBy (IsDrawn mid new) mid new held at so_far.doubt at at
       kept = answered.unwritten change not
 
-      kept_doubt : (doubt : Option plain.State) → serving.MayDoubt so_far.doubt at at doubt → MayDoubt all at doubt
+      kept_doubt : (doubt : Option plain.State) → serving.MayDoubt so_far.doubt at at doubt → MayDoubtAfter all at doubt
       kept_doubt doubt (inl none) = inl none
       kept_doubt doubt (inr (inl was)) =
-          may_stay entries at entry doubt other (subst (MayDoubt entries at) (sym was) so_far.may)
+          may_stay entries at entry doubt other (subst (MayDoubtAfter entries at) (sym was) so_far.may)
       kept_doubt doubt (inr (inr (inl same))) = inr (inl same)
       kept_doubt doubt (inr (inr (inr same))) = inr (inl same)
 
       no_end : EndsDone all → kept.doubt ≡ None
       no_end ends = by (last_ends entries entry ends)
         where
-          by : IsDone entry ⊎ (EndsDone entries × IsQuery entry.command) → kept.doubt ≡ None
+          by : IsDoneChange entry ⊎ (EndsDone entries × IsQuery entry.command) → kept.doubt ≡ None
           by (inl done) = absurd (other done)
           by (inr rest) = absurd (rest.1.0 change)
 
       not_tried : HasServed first new files start all
       not_tried = led at at (sym (state_stays at command reply other)) kept stands_still
-          (subst (λ state. MayDoubt all state kept.doubt) (sym (state_stays at command reply other))
+          (subst (λ state. MayDoubtAfter all state kept.doubt) (sym (state_stays at command reply other))
           (kept_doubt kept.doubt kept.may)) no_end
 
     by_device : IsChange command → reply ≡ Plain answer.Device
@@ -296,7 +296,7 @@ module _ {J F S R P : Type 0} {means : disk.Ghosts J} {counts : counted.Ghosts J
     by_device change is (inr refuses) = not_tried change (neither is refuses)
       where
         neither : reply ≡ Plain answer.Device → reply_of at.world command ≢ Plain answer.Done
-            → ¬ IsWritten at command reply
+            → ¬ MayBeWritten at command reply
         neither is refuses (inl done) =
             absurd (let e : Plain answer.Device ≡ Plain answer.Done = sym is ∙ done in cc)
         neither is refuses (inr device) = absurd (refuses device.1)
@@ -308,14 +308,14 @@ module _ {J F S R P : Type 0} {means : disk.Ghosts J} {counts : counted.Ghosts J
     by_reply change (inr (inl is)) = by_device change is (done_or_not (reply_of at.world command))
     by_reply change (inr (inr other)) = not_tried change (neither other)
       where
-        neither : (reply ≢ Plain answer.Done) × (reply ≢ Plain answer.Device) → ¬ IsWritten at command reply
+        neither : (reply ≢ Plain answer.Done) × (reply ≢ Plain answer.Device) → ¬ MayBeWritten at command reply
         neither other (inl done) = other.0 done
         neither other (inr device) = other.1 device.0
 
     by_command : IsChange command ⊎ (¬ IsChange command) → HasServed first new files start all
     by_command (inl change) = by_reply change (is_reply reply)
     by_command (inr none) = tried (λ there bytes stands.
-        stands_still there bytes (subst (StandsFor there bytes) (no_change at command none) stands))
+        stands_still there bytes (subst (StoreStandsFor there bytes) (no_change at command none) stands))
 
     pub one_more_served : HasServed first new files start all
     one_more_served = by_command (is_change command)

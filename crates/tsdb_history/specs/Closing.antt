@@ -22,7 +22,8 @@ module _ {J F S R P : Type 0} {means : disk.Ghosts J} {counts : counted.Ghosts J
   -- A stop at any moment left the state, or the one in doubt. What is left stands with the stored files for the state, or
   -- for the one in doubt. Unless the journal failed, and wherever nothing is in doubt, it is a sound store, and a listing
   -- of the core is the store's.
-  pub record IsClosed (core : Core J F S R P means counts) (new : DiskState) (stored : List StoredFile) (rose : Type 0)
+  pub record IsCoreClosed (core : Core J F S R P means counts) (new : DiskState) (stored : List StoredFile)
+      (rose : Type 0)
       (files : List StoredFile) (at : plain.State) (next : Option plain.State)
       : Type 0 where
     pub differ : EachPair (λ (a b : StoredFile). a.number ≢ b.number) stored

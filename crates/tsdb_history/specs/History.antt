@@ -39,18 +39,18 @@ IsComplete script history = (session : ℕ) →
     × ((k : ℕ) (told : Told) → slice_get (replies_to history session) k ≡ Some told → told.index ≡ k)
 
 -- the command that a reply answers
-abbrev pub command_of : List Numbered → Told → Option Command
-command_of script told = slice_get (commands_of script told.session) told.index
+abbrev pub replied_command : List Numbered → Told → Option Command
+replied_command script told = slice_get (commands_of script told.session) told.index
 
 -- a reply with its command
-abbrev pub entry_of : List Numbered → Told → Option Entry
-entry_of script told =
-    option_map (λ command. record { command = command; reply = told.reply }) (command_of script told)
+abbrev pub history_entry : List Numbered → Told → Option Entry
+history_entry script told =
+    option_map (λ command. record { command = command; reply = told.reply }) (replied_command script told)
 
 -- the replies to the commands of a script, each an entry with its command
 pub record IsHistory (script : List Numbered) (history : List Told) (entries : List Entry) : Type 0 where
   pub complete : IsComplete script history
-  pub answers : map (entry_of script) history ≡ map Some entries
+  pub answers : map (history_entry script) history ≡ map Some entries
 
 -- the commands took place in the order of the script's lines
 abbrev pub IsInLineOrder : List Numbered → List Told → Type 0
@@ -61,5 +61,5 @@ abbrev pub is_device_reply : Reply → Bool
 is_device_reply (Plain answer.Device) = true
 is_device_reply reply = false
 
-abbrev pub is_device : Told → Bool
-is_device told = is_device_reply told.reply
+abbrev pub told_device : Told → Bool
+told_device told = is_device_reply told.reply

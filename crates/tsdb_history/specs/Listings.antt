@@ -4,14 +4,14 @@ use Rattle.std.specs.List.{AllByRecursion as Each}
 use Rattle.tsdb_querying.specs.Listings.{ListsStore}
 use Rattle.tsdb_model.specs.declared.reply.Listing.{Listing}
 use Rattle.tsdb_state.specs.Replays.{IsReplayOf}
-use Rattle.tsdb_state.specs.Stores.{Files, IsWhole, Recorded, store_steps}
-use Rattle.tsdb_state.specs.State.{Told}
+use Rattle.tsdb_state.specs.Stores.{BytesByNumber, IsWhole, Recorded, store_steps}
+use Rattle.tsdb_state.specs.State.{ToldContents}
 
 -- The log in these bytes of a slot has a replay, and with the points that these files have the listing is that of its
 -- store.
-pub record IsListingOf (files : Files) (bytes : List ℕ) (listing : Listing) : Type 0 where
+pub record IsListingOf (files : BytesByNumber) (bytes : List ℕ) (listing : Listing) : Type 0 where
   pub recorded : Recorded
   pub replayed : IsReplayOf store_steps bytes recorded
-  pub told : Told
+  pub told : ToldContents
   pub whole : Each (IsWhole files told) (recorded.store.sequence ++ recorded.store.unsequence)
   pub lists : ListsStore told recorded.store listing

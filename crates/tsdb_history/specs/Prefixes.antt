@@ -11,8 +11,8 @@ use Rattle.tsdb_model.specs.declared.reply.Listing.{Listing}
 use Rattle.tsdb_model.specs.declared.reply.Reply.TheVariants.{Plain, Files}
 
 -- a change that was done
-abbrev pub IsDone : Entry → Type 0
-IsDone entry = IsChange entry.command × (entry.reply ≡ Plain answer.Done)
+abbrev pub IsDoneChange : Entry → Type 0
+IsDoneChange entry = IsChange entry.command × (entry.reply ≡ Plain answer.Done)
 
 -- The change is in doubt after these entries, which lead to the state: it was answered `device`, the map accepts it, and
 -- no change was done since.
@@ -20,7 +20,7 @@ pub record IsInDoubt (entries : List Entry) (after : plain.State) (command : Com
   pub before : List Entry
   pub later : List Entry
   pub split : entries ≡ before ++ (record { command = command; reply = Plain answer.Device } ∷ later)
-  pub since : All (λ entry. ¬ IsDone entry) later
+  pub since : All (λ entry. ¬ IsDoneChange entry) later
   pub change : IsChange command
   pub accepted : reply_of after.world command ≡ Plain answer.Done
 
@@ -48,7 +48,7 @@ pub record EndsDone (entries : List Entry) : Type 0 where
   pub last : Entry
   pub later : List Entry
   pub split : entries ≡ before ++ (last ∷ later)
-  pub done : IsDone last
+  pub done : IsDoneChange last
   pub since : All (λ entry. IsQuery entry.command) later
 
 -- the last of these entries is `show files`, answered with this listing

@@ -25,28 +25,29 @@ use Rattle.tsdb_outside.specs.Moments.{LeavesOnly}
 use Rattle.tsdb_outside.specs.declared.disk.Disk as disk
 use Rattle.tsdb_outside.specs.declared.disk.Slot.{Slot}
 use Rattle.tsdb_outside.specs.declared.faults.Counted as counted
-use Rattle.tsdb_state.specs.Stores.{Files, HoldsKept, StandsFor}
+use Rattle.tsdb_state.specs.Stores.{BytesByNumber, HoldsKept, StoreStandsFor}
 use Rattle.tsdb_rewriting.specs.Rewriting.{IsCompacted}
-use Rattle.tsdb_memory.specs.Fits.{HasNoPoint}
+use Rattle.tsdb_memory.specs.Fits.{HasNoPairPoint}
 use Rattle.tsdb_script.specs.declared.numbered.Numbered.{Numbered}
-use Rattle.tsdb_querying.specs.Flushing.{frozen_in}
+use Rattle.tsdb_querying.specs.Flushing.{frozen_under}
 use Rattle.tsdb_querying.specs.Serving.{IsDrawn, IsServing, disk_under, slot_under}
 
 -- What may be in doubt after these entries: nothing, a record that changes no state, or one change.
-abbrev pub MayDoubt : List Entry → plain.State → Option plain.State → Type 0
-MayDoubt entries after doubt = (doubt ≡ None) ⊎ ((doubt ≡ Some after)
+abbrev pub MayDoubtAfter : List Entry → plain.State → Option plain.State → Type 0
+MayDoubtAfter entries after doubt = (doubt ≡ None) ⊎ ((doubt ≡ Some after)
     ⊎ ((command : Command) × IsInDoubt entries after command
     × (doubt ≡ Some (state_after after command (Plain answer.Done)))))
 
 -- with whatever files hold these, what a stop left in the slot stands for the state after a prefix of the entries
 abbrev pub LeavesPrefix : List StoredFile → Slot → plain.State → List Entry → Image → Type 0
 LeavesPrefix kept slot start entries image =
-    (files : Files) → HoldsKept kept files → StandsAfterPrefix (StandsFor files (in_slot slot image)) start entries
+    (files : BytesByNumber) → HoldsKept kept files
+    → StandsAfterPrefix (StoreStandsFor files (in_slot slot image)) start entries
 
 module _ {J F S R P : Type 0} {means : disk.Ghosts J} {counts : counted.Ghosts J} where
   -- All points are in files: no pair is frozen, and the working pair has no point.
   abbrev pub HasFlushed : Core J F S R P means counts → Type 0
-  HasFlushed core = (frozen_in core ≡ []) × HasNoPoint (working_of core)
+  HasFlushed core = (frozen_under core ≡ []) × HasNoPairPoint (working_of core)
 
   -- What a compaction that was done leaves: the files of a plan, where there is one, are one file, or none.
   abbrev pub HasCompacted : Command → Core J F S R P means counts → Core J F S R P means counts → Type 0
@@ -72,7 +73,7 @@ module _ {J F S R P : Type 0} {means : disk.Ghosts J} {counts : counted.Ghosts J
     pub numbers : Each (λ (file : StoredFile). IsDrawn old new file.number) put
     pub differ : EachPair (λ (a b : StoredFile). a.number ≢ b.number) put
     pub doubt : Option plain.State
-    pub may : MayDoubt entries after doubt
+    pub may : MayDoubtAfter entries after doubt
     pub settled : EndsDone entries → doubt ≡ None
     pub serving : IsServing new (files ++ put) after doubt
     pub moments : LeavesOnly (disk_under old) (disk_under new)

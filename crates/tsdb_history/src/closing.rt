@@ -1,7 +1,7 @@
 //! The end of a core. Depends on tsdb_core.
 ghost use Rattle.std.specs.Prelude.{◌≡◌, ◌≤◌, [], List, Option, Some, true};
 ghost use Rattle.std.specs.Option.{IsSomeAnd};
-ghost use Rattle.tsdb_history.specs.Closing.{IsClosed};
+ghost use Rattle.tsdb_history.specs.Closing.{IsCoreClosed};
 ghost use Rattle.tsdb_model.specs.State as plain;
 ghost use Rattle.tsdb_base.specs.Causes.{Rose};
 ghost use Rattle.tsdb_outside.specs.Files.{StoredFile};
@@ -17,7 +17,7 @@ pub fn close<J: Journal, F: Files>(core: Core<J, F>, files: &mut F) -> J
     requires ready { IsReady (F.store files.old) core }
     ensures closed { F.at_rest files.old ≡ Some [] → (put : List StoredFile) (at : plain.State)
         (next : Option plain.State) → IsServing core put at next → IsSomeAnd (F.at_rest files.new)
-        (λ stored. IsClosed core (J.state result) stored (Rose (faults_under core) (J.faults result)) put at next) }
+        (λ stored. IsCoreClosed core (J.state result) stored (Rose (faults_under core) (J.faults result)) put at next) }
     ensures later { faults_under core ≤ J.faults result }
     ensures same_store { F.store files.new ≡ F.store files.old }
     ensures faults { F.faults files.new ≡ F.faults files.old }

@@ -1,6 +1,6 @@
 //! The commands of a script. Depends on `room`, `serving` and `told`.
 ghost use Rattle.std.specs.Prelude.{◌≡◌, ◌+◌, ◌-◌, ◌*◌, ◌^◌, ◌<◌, ◌≤◌, min, count_by, length, slice_index, slice_set};
-ghost use Rattle.tsdb_history.specs.History.{CanExecute, is_device, session_numbers};
+ghost use Rattle.tsdb_history.specs.History.{CanExecute, told_device, session_numbers};
 ghost use Rattle.tsdb_querying.specs.Core.{next_of};
 ghost use Rattle.tsdb_history.specs.Reach.{max_drawn};
 ghost use Rattle.tsdb_history.specs.Rooms.{IsRoomFor};
@@ -9,7 +9,7 @@ ghost use Rattle.tsdb_base.specs.Limits.{max_commands};
 ghost use Rattle.tsdb_querying.specs.Flushing.{IsReady, faults_under};
 ghost use Rattle.tsdb_querying.specs.Serving.{IsSure, StaysInPlace};
 
-use crate::room::Room;
+use crate::room::ReplyRoom;
 use crate::serving::serve;
 use crate::told::Told;
 use std::alloc::Global;
@@ -24,7 +24,7 @@ pub fn execute<J: Journal, F: Files>(
     core: &mut Core<J, F>,
     port: &mut F::Port,
     script: &[Numbered],
-    room: Room,
+    room: ReplyRoom,
 ) -> List<Told>
     requires script { CanExecute script.now }
     requires room { IsRoomFor (length script.now) room }
@@ -35,12 +35,12 @@ pub fn execute<J: Journal, F: Files>(
     ensures draws { next_of core.new ≤ next_of core.old + max_drawn * length script.now }
     ensures same_store { F.Port.store port.new ≡ F.Port.store port.old }
     ensures devices { IsSure (F.Port.store port.old) core.old
-        → min ((faults_under core.old + F.Port.faults port.old) + count_by is_device result) (2 ^ 64 - 1)
+        → min ((faults_under core.old + F.Port.faults port.old) + count_by told_device result) (2 ^ 64 - 1)
         ≤ faults_under core.new + F.Port.faults port.new }
     ensures later { (faults_under core.old ≤ faults_under core.new)
         × (F.Port.faults port.old ≤ F.Port.faults port.new) }
 {
-    let Room {
+    let ReplyRoom {
         mut counts,
         mut history,
     } = room;

@@ -13,7 +13,7 @@ mod told;
 pub use closing::close;
 pub use executing::execute;
 pub use laws::{a_new_store_is_sound, runs_join};
-pub use room::Room;
+pub use room::ReplyRoom;
 pub use serving::serve;
 pub use told::Told;
 pub use tsdb_querying::{Core, Options, Stream, delete, insert, open_column, pull};

@@ -13,19 +13,19 @@ const SESSIONS: usize = SESSION_NUMBERS;
 /// The memory that the execution of a script takes for its history, so that no reply is lost once a command is executed:
 /// how many commands each session has had, and places for the replies.
 #[derive(Drop)]
-pub struct Room {
+pub struct ReplyRoom {
     pub counts: Vec<u32>,
     pub history: Vec<Told>,
 }
 
-impl Room {
+impl ReplyRoom {
     /// Room for the replies to so many commands.
-    pub fn new(alloc: Global, commands: usize) -> Result<Room, Memory>
+    pub fn new(alloc: Global, commands: usize) -> Result<ReplyRoom, Memory>
         ensures { IfOk result (IsRoomFor commands) }
     {
         let counts = zeros(alloc, SESSIONS)?;
         let history = Vec::with_capacity(alloc, commands)?;
-        Ok(Room { counts, history })
+        Ok(ReplyRoom { counts, history })
     }
 }
 

@@ -14,14 +14,14 @@ ghost use Rattle.tsdb_model.specs.declared.reply.Reply.{Reply as ReplyOf};
 ghost use Rattle.tsdb_base.specs.Causes.{Rose};
 ghost use Rattle.tsdb_rewriting.specs.Rewriting.{IsCompacted};
 ghost use Rattle.tsdb_querying.specs.Flushing.{IsReady, faults_under};
-ghost use Rattle.tsdb_querying.specs.Serving.{Answers, HasFullCause, IsSure, StaysInPlace};
+ghost use Rattle.tsdb_querying.specs.Serving.{ServesCommand, HasFullCause, IsSure, StaysInPlace};
 
 use std::alloc::Global;
 use tsdb_base::{Answer, Range, Space};
 use tsdb_model::{Command, Item, Reply, ask_aggregates};
 use tsdb_outside::{Files, Journal};
 use tsdb_path::Path;
-use tsdb_querying::{Core, aggregates, create, delete, flush, insert, select, show};
+use tsdb_querying::{Core, create, delete, flush, insert, select_aggregates, select_rows, show};
 use tsdb_rewriting::{compact_cross, compact_inner};
 
 /// Serves a command: the core makes one step of the plain map, whatever it does for it.
@@ -33,7 +33,7 @@ pub fn serve<J: Journal, F: Files>(
 ) -> Reply
     requires well_formed { IsWellFormed command.now }
     requires ready { IsReady (F.Port.store port.old) core.old }
-    ensures answers { (F.Port.store port.old).tells ≡ true → Answers core.old core.new command.now result }
+    ensures answers { (F.Port.store port.old).tells ≡ true → ServesCommand core.old core.new command.now result }
     ensures ready { IsReady (F.Port.store port.old) core.new }
     ensures stays { StaysInPlace core.old core.new }
     ensures draws { next_of core.new ≤ next_of core.old + max_drawn }
@@ -75,7 +75,7 @@ fn query<J: Journal, F: Files>(
     range: &Range,
 ) -> Reply
     requires ready { IsReady (F.Port.store port.old) core.old }
-    ensures answers { Answers core.old core.new (CommandOf.Select device.now items.now range.now) result }
+    ensures answers { ServesCommand core.old core.new (CommandOf.Select device.now items.now range.now) result }
     ensures ready { IsReady (F.Port.store port.old) core.new }
     ensures stays { StaysInPlace core.old core.new }
     ensures draws { next_of core.new ≡ next_of core.old }
@@ -87,16 +87,16 @@ fn query<J: Journal, F: Files>(
     ensures later { F.Port.faults port.old ≤ F.Port.faults port.new }
 {
     if ask_aggregates(items) {
-        return aggregates(alloc, core, port, device, items, range);
+        return select_aggregates(alloc, core, port, device, items, range);
     }
-    select(alloc, core, port, device, items, range)
+    select_rows(alloc, core, port, device, items, range)
 }
 
 /// What a flush is answered.
 fn flushed<J: Journal, F: Files>(alloc: Global, core: &mut Core<J, F>, port: &mut F::Port) -> Answer
     requires ready { IsReady (F.Port.store port.old) core.old }
     ensures answers { (F.Port.store port.old).tells ≡ true
-        → Answers core.old core.new CommandOf.Flush (ReplyOf.Plain result) }
+        → ServesCommand core.old core.new CommandOf.Flush (ReplyOf.Plain result) }
     ensures ready { IsReady (F.Port.store port.old) core.new }
     ensures stays { StaysInPlace core.old core.new }
     ensures draws { next_of core.new ≤ next_of core.old + 6 }
@@ -123,7 +123,7 @@ fn inner_compacted<J: Journal, F: Files>(
 ) -> Answer
     requires ready { IsReady (F.Port.store port.old) core.old }
     ensures answers { (F.Port.store port.old).tells ≡ true
-        → Answers core.old core.new (CommandOf.CompactInner space) (ReplyOf.Plain result) }
+        → ServesCommand core.old core.new (CommandOf.CompactInner space) (ReplyOf.Plain result) }
     ensures ready { IsReady (F.Port.store port.old) core.new }
     ensures stays { StaysInPlace core.old core.new }
     ensures draws { next_of core.new ≤ next_of core.old + 1 }
@@ -150,7 +150,7 @@ fn cross_compacted<J: Journal, F: Files>(
 ) -> Answer
     requires ready { IsReady (F.Port.store port.old) core.old }
     ensures answers { (F.Port.store port.old).tells ≡ true
-        → Answers core.old core.new CommandOf.CompactCross (ReplyOf.Plain result) }
+        → ServesCommand core.old core.new CommandOf.CompactCross (ReplyOf.Plain result) }
     ensures ready { IsReady (F.Port.store port.old) core.new }
     ensures stays { StaysInPlace core.old core.new }
     ensures draws { next_of core.new ≤ next_of core.old + 1 }
@@ -171,7 +171,7 @@ fn cross_compacted<J: Journal, F: Files>(
 
 /// What a listing is answered.
 fn shown<J: Journal, F: Files>(core: &Core<J, F>) -> Reply
-    ensures answers { Answers core.now core.now CommandOf.ShowFiles result }
+    ensures answers { ServesCommand core.now core.now CommandOf.ShowFiles result }
     ensures listed { (listing : Listing) → result ≡ ReplyOf.Files listing → TellsStore core.now listing }
     ensures no_fault { result ≢ ReplyOf.Plain AnswerOf.Device }
     ensures no_full { (counter : ℕ) → result ≢ ReplyOf.Plain (AnswerOf.Full counter) }

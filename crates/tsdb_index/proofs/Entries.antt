@@ -17,7 +17,7 @@ use Rattle.tsdb_index.specs.declared.index.PageEntry.{PageEntry}
 use Rattle.tsdb_index.specs.declared.pointer.Pointer.{Pointer}
 use Rattle.tsdb_index.specs.Entries.{IsEntry, IsPageOf}
 use Rattle.tsdb_index.specs.Parts.{IsPointer, pointer_bytes}
-use Rattle.tsdb_index.specs.Spelling.{entry_field, page_field}
+use Rattle.tsdb_index.specs.Spelling.{entry_field, page_entry_field}
 use Rattle.tsdb_index.proofs.Fields.{name-prefix_free, none_behind, none_here, path-prefix_free, stats_field-prefix_free}
 
 abbrev pub Is64 : ℕ → Type 0
@@ -28,15 +28,15 @@ Is32 n = n < 2 ^ 32
 
 -- ---- pages
 
-pub no_place : (t : DataType) (bytes : List ℕ) → BeginsWithNone number64 Is64 bytes → BeginsWithNone page_field (IsPageOf t) bytes
-no_place t bytes none = none_here page_field (IsPageOf t) number64 Is64 (λ (p : PageEntry). p.place) (λ (p : PageEntry). stats_field p.stats) (λ p. refl) (λ p is. is.place) bytes none
+pub no_place : (t : DataType) (bytes : List ℕ) → BeginsWithNone number64 Is64 bytes → BeginsWithNone page_entry_field (IsPageOf t) bytes
+no_place t bytes none = none_here page_entry_field (IsPageOf t) number64 Is64 (λ (p : PageEntry). p.place) (λ (p : PageEntry). stats_field p.stats) (λ p. refl) (λ p is. is.place) bytes none
 
-pub no_stats : (t : DataType) (place : ℕ) (bytes rest : List ℕ) → Is64 place → bytes ≡ number64 place ++ rest → BeginsWithNone stats_field (IsStatsOf t) rest → BeginsWithNone page_field (IsPageOf t) bytes
+pub no_stats : (t : DataType) (place : ℕ) (bytes rest : List ℕ) → Is64 place → bytes ≡ number64 place ++ rest → BeginsWithNone stats_field (IsStatsOf t) rest → BeginsWithNone page_entry_field (IsPageOf t) bytes
 no_stats t place bytes rest is found none =
-    none_behind page_field (IsPageOf t) number64 Is64 (λ (p : PageEntry). p.place) (λ (p : PageEntry). stats_field p.stats) (λ p. refl) (λ p is. is.place) number64-prefix_free place bytes rest is found
+    none_behind page_entry_field (IsPageOf t) number64 Is64 (λ (p : PageEntry). p.place) (λ (p : PageEntry). stats_field p.stats) (λ p. refl) (λ p is. is.place) number64-prefix_free place bytes rest is found
     (λ page behind of e. none page.stats behind of.0.stats e)
 
-pub page-prefix_free : (t : DataType) → IsPrefixFree page_field (IsPageOf t)
+pub page-prefix_free : (t : DataType) → IsPrefixFree page_entry_field (IsPageOf t)
 page-prefix_free t a b x y is_a is_b e =
     let made : ℕ → Stats → PageEntry = λ n s. record { place = n; stats = s } in
     let same = pair_field-prefix_free number64 stats_field Is64 (IsStatsOf t) number64-prefix_free (stats_field-prefix_free t) (a.place, a.stats) (b.place, b.stats) x y (is_a.place, is_a.stats) (is_b.place, is_b.stats) e in
@@ -61,7 +61,7 @@ kind_of e = (e.data_type, (e.encoding, e.place))
 
 -- what is left of an entry behind each of its parts
 abbrev pub behind_number : IndexEntry → List ℕ
-behind_number e = flat_map page_field e.pages
+behind_number e = flat_map page_entry_field e.pages
 
 abbrev pub behind_stats : IndexEntry → List ℕ
 behind_stats e = number32 (length e.pages) ++ behind_number e
@@ -84,7 +84,7 @@ entry_apart e =
     let p = number64 e.place in
     let s = stats_field e.stats in
     let n = number32 (length e.pages) in
-    let g = flat_map page_field e.pages in
+    let g = flat_map page_entry_field e.pages in
     append_assoc (d ++ m ++ t ++ c ++ p ++ s) n g ∙ append_assoc (d ++ m ++ t ++ c ++ p) s (n ++ g) ∙ append_assoc (d ++ m ++ t ++ c) p (s ++ (n ++ g)) ∙ append_assoc (d ++ m ++ t) c (p ++ (s ++ (n ++ g)))
     ∙ append_assoc (d ++ m) t (c ++ (p ++ (s ++ (n ++ g)))) ∙ append_assoc d m (t ++ (c ++ (p ++ (s ++ (n ++ g)))))
     ∙ ap (λ (l : List ℕ). d ++ (m ++ l)) (sym (append_assoc t (c ++ p) (s ++ (n ++ g)) ∙ ap (λ (l : List ℕ). t ++ l) (append_assoc c p (s ++ (n ++ g)))))
@@ -158,15 +158,15 @@ pub past_number : (d m : List ℕ) (k : DataType × (Encoding × ℕ)) (s : Stat
 past_number d m k s n bytes rest is found none =
     none_behind behind_stats (HasStats d m k s) number32 Is32 (λ (e : IndexEntry). length e.pages) behind_number (λ e. refl) (number_good d m k s) number32-prefix_free n bytes rest is found none
 
-pub no_pages : (d m : List ℕ) (k : DataType × (Encoding × ℕ)) (s : Stats) (n : ℕ) (bytes : List ℕ) → BeginsWithNone (flat_map page_field) (AreValues (IsPageOf k.0) n) bytes → BeginsWithNone behind_number (HasNumber d m k s n) bytes
+pub no_pages : (d m : List ℕ) (k : DataType × (Encoding × ℕ)) (s : Stats) (n : ℕ) (bytes : List ℕ) → BeginsWithNone (flat_map page_entry_field) (AreValues (IsPageOf k.0) n) bytes → BeginsWithNone behind_number (HasNumber d m k s n) bytes
 no_pages d m k s n bytes none = λ e behind is found.
     none e.pages behind (is.1, subst (λ (t : DataType). All (IsPageOf t) e.pages) (of_type d m k e is.0.0) is.0.0.0.0.0.pages) found
 
 -- no entry's bytes begin those of another entry
 pub entry-prefix_free : IsPrefixFree entry_field IsEntry
 entry-prefix_free a b x y is_a is_b e =
-    let right : (c : IndexEntry) (r : List ℕ) → entry_field c ++ r ≡ plain_text c.device ++ (plain_text c.measurement ++ (kind_field (kind_of c) ++ (stats_field c.stats ++ (number32 (length c.pages) ++ (flat_map page_field c.pages ++ r))))) = λ c r.
-    let g = flat_map page_field c.pages in
+    let right : (c : IndexEntry) (r : List ℕ) → entry_field c ++ r ≡ plain_text c.device ++ (plain_text c.measurement ++ (kind_field (kind_of c) ++ (stats_field c.stats ++ (number32 (length c.pages) ++ (flat_map page_entry_field c.pages ++ r))))) = λ c r.
+    let g = flat_map page_entry_field c.pages in
     ap (λ (l : List ℕ). l ++ r) (entry_apart c) ∙ append_assoc (plain_text c.device) (behind_path c) r
     ∙ ap (λ (l : List ℕ). plain_text c.device ++ l) (append_assoc (plain_text c.measurement) (behind_name c) r
     ∙ ap (λ (l : List ℕ). plain_text c.measurement ++ l) (append_assoc (kind_field (kind_of c)) (behind_kind c) r
@@ -179,7 +179,7 @@ entry-prefix_free a b x y is_a is_b e =
     let types : b.data_type ≡ a.data_type = ap (λ (k : DataType × (Encoding × ℕ)). k.0) (sym kinds.0) in
     let stats = stats_field-prefix_free a.data_type a.stats b.stats _ _ is_a.stats (subst (λ (t : DataType). IsStatsOf t b.stats) types is_b.stats) kinds.1 in
     let numbers = number32-prefix_free (length a.pages) (length b.pages) _ _ (let few = is_a.few in omega (arith, few)) (let few = is_b.few in omega (arith, few)) stats.1 in
-    let pages = same_values page_field (IsPageOf a.data_type) (page-prefix_free a.data_type) a.pages b.pages x y numbers.0 is_a.pages (subst (λ (t : DataType). All (IsPageOf t) b.pages) types is_b.pages) numbers.1 in
+    let pages = same_values page_entry_field (IsPageOf a.data_type) (page-prefix_free a.data_type) a.pages b.pages x y numbers.0 is_a.pages (subst (λ (t : DataType). All (IsPageOf t) b.pages) types is_b.pages) numbers.1 in
     let d : a.device ≡ b.device = paths.0 in
     let m : a.measurement ≡ b.measurement = names.0 in
     let t : a.data_type ≡ b.data_type = sym types in

@@ -18,7 +18,7 @@ use Rattle.tsdb_fields.specs.declared.rest.Rest.{Rest}
 use Rattle.tsdb_fields.specs.Reading.{ReadsParts}
 use Rattle.tsdb_fields.specs.Statistics.{optional_field, stats_field, IsExtremeOf, IsStatsOf}
 use Rattle.tsdb_index.specs.Faults.{ReadsWhole}
-use Rattle.tsdb_index.specs.Steps.{IsCounted}
+use Rattle.tsdb_index.specs.Steps.{IsCountedList}
 use Rattle.tsdb_fields.proofs.Laws.{value_field-prefix_free}
 use Rattle.tsdb_fields.proofs.Parts.{times, AreTimes, ends, AreEnds, extremes, AreExtremes, times-prefix_free, ends-prefix_free}
 
@@ -84,36 +84,36 @@ tail_same : (n : ℕ) (xs ys : List ℕ) → n ∷ xs ≡ n ∷ ys → xs ≡ ys
 tail_same n xs ys same = cc
 
 pub no_mark : {A : Type 0} (mark : ℕ) (number : ℕ → List ℕ) (limit : ℕ) (f : A → List ℕ) (IsItem : A → Type 0) (bytes : List ℕ) → ((rest : List ℕ) → bytes ≡ mark ∷ rest → ⊥)
-    → (items : List A) → IsCounted mark number limit f IsItem bytes items → ⊥
+    → (items : List A) → IsCountedList mark number limit f IsItem bytes items → ⊥
 no_mark mark number limit f IsItem bytes none items is = none (number (length items) ++ flat_map f items) is.bytes_are
 
-fields_of : {A : Type 0} (mark : ℕ) (number : ℕ → List ℕ) (limit : ℕ) (f : A → List ℕ) (IsItem : A → Type 0) (bytes fields : List ℕ) (items : List A) → bytes ≡ mark ∷ fields → IsCounted mark number limit f IsItem bytes items → fields ≡ number (length items) ++ flat_map f items
+fields_of : {A : Type 0} (mark : ℕ) (number : ℕ → List ℕ) (limit : ℕ) (f : A → List ℕ) (IsItem : A → Type 0) (bytes fields : List ℕ) (items : List A) → bytes ≡ mark ∷ fields → IsCountedList mark number limit f IsItem bytes items → fields ≡ number (length items) ++ flat_map f items
 fields_of mark number limit f IsItem bytes fields items found is = tail_same mark fields (number (length items) ++ flat_map f items) (sym found ∙ is.bytes_are)
 
 pub no_count : {A : Type 0} (mark : ℕ) (number : ℕ → List ℕ) (limit : ℕ) (f : A → List ℕ) (IsItem : A → Type 0) (bytes fields : List ℕ) → bytes ≡ mark ∷ fields → BeginsWithNone number (λ n. n < limit) fields
-    → (items : List A) → IsCounted mark number limit f IsItem bytes items → ⊥
+    → (items : List A) → IsCountedList mark number limit f IsItem bytes items → ⊥
 no_count mark number limit f IsItem bytes fields found none items is = none (length items) (flat_map f items) is.few (fields_of mark number limit f IsItem bytes fields items found is)
 
 -- the number is there: items with these bytes are so many, and their bytes are the rest
 count_is : {A : Type 0} (mark : ℕ) (number : ℕ → List ℕ) (limit : ℕ) (f : A → List ℕ) (IsItem : A → Type 0) (free : IsPrefixFree number (λ n. n < limit)) (bytes fields rest : List ℕ) (n : ℕ) (items : List A) → bytes ≡ mark ∷ fields → fields ≡ number n ++ rest → n < limit
-    → IsCounted mark number limit f IsItem bytes items → (n ≡ length items) × (rest ≡ flat_map f items)
+    → IsCountedList mark number limit f IsItem bytes items → (n ≡ length items) × (rest ≡ flat_map f items)
 count_is mark number limit f IsItem free bytes fields rest n items found counted small is =
     free n (length items) rest (flat_map f items) small is.few (sym counted ∙ fields_of mark number limit f IsItem bytes fields items found is)
 
 pub no_items : {A : Type 0} (mark : ℕ) (number : ℕ → List ℕ) (limit : ℕ) (f : A → List ℕ) (IsItem : A → Type 0) (free : IsPrefixFree number (λ n. n < limit)) (bytes fields rest : List ℕ) (n : ℕ) → bytes ≡ mark ∷ fields → fields ≡ number n ++ rest → n < limit
-    → BeginsWithNone (flat_map f) (AreValues IsItem n) rest → (items : List A) → IsCounted mark number limit f IsItem bytes items → ⊥
+    → BeginsWithNone (flat_map f) (AreValues IsItem n) rest → (items : List A) → IsCountedList mark number limit f IsItem bytes items → ⊥
 no_items mark number limit f IsItem free bytes fields rest n found counted small none items is =
     let same = count_is mark number limit f IsItem free bytes fields rest n items found counted small is in
     none items [] (sym same.0, is.good) (same.1 ∙ sym (append-nil (flat_map f items)))
 
 pub more_behind : {A : Type 0} (mark : ℕ) (number : ℕ → List ℕ) (limit : ℕ) (f : A → List ℕ) (IsItem : A → Type 0) (free : IsPrefixFree number (λ n. n < limit)) (free_items : IsPrefixFree f IsItem) (bytes fields rest behind : List ℕ) (n : ℕ) (found_items : List A)
-    → bytes ≡ mark ∷ fields → fields ≡ number n ++ rest → n < limit → rest ≡ flat_map f found_items ++ behind → AreValues IsItem n found_items → (behind ≡ [] → ⊥) → (items : List A) → IsCounted mark number limit f IsItem bytes items → ⊥
+    → bytes ≡ mark ∷ fields → fields ≡ number n ++ rest → n < limit → rest ≡ flat_map f found_items ++ behind → AreValues IsItem n found_items → (behind ≡ [] → ⊥) → (items : List A) → IsCountedList mark number limit f IsItem bytes items → ⊥
 more_behind mark number limit f IsItem free free_items bytes fields rest behind n found_items found counted small split are some items is =
     let same = count_is mark number limit f IsItem free bytes fields rest n items found counted small is in
     some (same_values f IsItem free_items found_items items behind [] (are.0 ∙ same.0) are.1 is.good (sym split ∙ same.1 ∙ sym (append-nil (flat_map f items)))).1
 
 pub is_counted : {A : Type 0} (mark : ℕ) (number : ℕ → List ℕ) (limit : ℕ) (f : A → List ℕ) (IsItem : A → Type 0) (bytes fields rest behind : List ℕ) (n : ℕ) (items : List A)
-    → bytes ≡ mark ∷ fields → fields ≡ number n ++ rest → n < limit → rest ≡ flat_map f items ++ behind → AreValues IsItem n items → behind ≡ [] → IsCounted mark number limit f IsItem bytes items
+    → bytes ≡ mark ∷ fields → fields ≡ number n ++ rest → n < limit → rest ≡ flat_map f items ++ behind → AreValues IsItem n items → behind ≡ [] → IsCountedList mark number limit f IsItem bytes items
 is_counted mark number limit f IsItem bytes fields rest behind n items found number-is small split are none = record {
   few = subst (λ k. k < limit) (sym are.0) small;
   good = are.1;

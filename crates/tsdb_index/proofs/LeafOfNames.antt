@@ -10,7 +10,7 @@ use Rattle.tsdb_index.specs.declared.pointer.Pointer.{Pointer}
 use Rattle.tsdb_index.specs.Entries.{AreInOrder, names_of}
 use Rattle.tsdb_fields.specs.Order.{AreNamesBefore}
 use Rattle.tsdb_index.specs.Finding.{AreBehind, IsEntryFor}
-use Rattle.tsdb_index.specs.Parts.{AreLeavesAt, BeginAt, BeginWith, IsLeaf, end_of, next_names, pointer_names}
+use Rattle.tsdb_index.specs.Parts.{AreLeavesAt, BeginAt, BeginWith, IsLeaf, leaf_end, next_names, pointer_names}
 use Rattle.tsdb_index.specs.Steps.{AreSpread}
 use Rattle.tsdb_index.proofs.Orders.{order_back}
 use Rattle.tsdb_fields.proofs.Order.{Names, before_trans, not_itself}
@@ -27,18 +27,18 @@ pub record IsAmong (root base : ℕ) (pointer : Pointer) (behind : List Pointer)
   pub back : List Leaf
   pub split : leaves ≡ front ++ leaf ∷ back
   pub from : base ≤ pointer.place
-  pub to : pointer.place ≤ end_of root behind
-  pub end : end_of root behind ≤ root
-  pub is : IsLeaf pointer behind (take (end_of root behind - pointer.place) (drop (pointer.place - base) bytes)) leaf
+  pub to : pointer.place ≤ leaf_end root behind
+  pub end : leaf_end root behind ≤ root
+  pub is : IsLeaf pointer behind (take (leaf_end root behind - pointer.place) (drop (pointer.place - base) bytes)) leaf
   pub rest : List ℕ
   pub back-are : AreLeavesAt root behind rest back
 
-first_place : (root : ℕ) (ps : List Pointer) (pointer : Pointer) (behind : List Pointer) → BeginAt (end_of root (ps ++ pointer ∷ behind)) (ps ++ pointer ∷ behind)
+first_place : (root : ℕ) (ps : List Pointer) (pointer : Pointer) (behind : List Pointer) → BeginAt (leaf_end root (ps ++ pointer ∷ behind)) (ps ++ pointer ∷ behind)
 first_place root [] pointer behind = refl
 first_place root (p ∷ ps) pointer behind = refl
 
 -- where a leaf ends lies in what is left
-end_inside : (root : ℕ) (behind : List Pointer) (left : ℕ) → AreSpread root behind left → end_of root behind ≤ root
+end_inside : (root : ℕ) (behind : List Pointer) (left : ℕ) → AreSpread root behind left → leaf_end root behind ≤ root
 end_inside root [] left spread = omega arith
 end_inside root (p ∷ ps) left spread = let whole = spread.0 in omega (arith, whole)
 
@@ -54,21 +54,21 @@ among root base [] pointer behind bytes (leaf ∷ leaves) begin spread are =
       split = refl;
       from = omega (arith, begin);
       to = spread.1;
-      end = end_inside root behind (length bytes - (end_of root behind - pointer.place)) spread.2;
-      is = subst (λ (n : ℕ). IsLeaf pointer behind (take (end_of root behind - pointer.place) (drop n bytes)) leaf) none are.0;
-      rest = drop (end_of root behind - pointer.place) bytes;
+      end = end_inside root behind (length bytes - (leaf_end root behind - pointer.place)) spread.2;
+      is = subst (λ (n : ℕ). IsLeaf pointer behind (take (leaf_end root behind - pointer.place) (drop n bytes)) leaf) none are.0;
+      rest = drop (leaf_end root behind - pointer.place) bytes;
       back-are = are.1;
     }
 among root base (p ∷ ps) pointer behind bytes [] begin spread are = absurd are
 among root base (p ∷ ps) pointer behind bytes (leaf ∷ leaves) begin spread are =
-    let rest = among root (end_of root (ps ++ pointer ∷ behind)) ps pointer behind (drop (end_of root (ps ++ pointer ∷ behind) - p.place) bytes) leaves (first_place root ps pointer behind)
-    (subst (λ (n : ℕ). AreSpread root (ps ++ pointer ∷ behind) n) (sym (length-drop (end_of root (ps ++ pointer ∷ behind) - p.place) bytes)) spread.2) are.1 in
+    let rest = among root (leaf_end root (ps ++ pointer ∷ behind)) ps pointer behind (drop (leaf_end root (ps ++ pointer ∷ behind) - p.place) bytes) leaves (first_place root ps pointer behind)
+    (subst (λ (n : ℕ). AreSpread root (ps ++ pointer ∷ behind) n) (sym (length-drop (leaf_end root (ps ++ pointer ∷ behind) - p.place) bytes)) spread.2) are.1 in
     let low = spread.1 in
     let high = rest.from in
     let first : p.place ≡ base = begin in
-    let sum : (end_of root (ps ++ pointer ∷ behind) - p.place) + (pointer.place - end_of root (ps ++ pointer ∷ behind)) ≡ pointer.place - base = omega (arith, low, high, first) in
-    let apart : drop (pointer.place - end_of root (ps ++ pointer ∷ behind)) (drop (end_of root (ps ++ pointer ∷ behind) - p.place) bytes) ≡ drop (pointer.place - base) bytes =
-    drop-drop (pointer.place - end_of root (ps ++ pointer ∷ behind)) (end_of root (ps ++ pointer ∷ behind) - p.place) bytes ∙ ap (λ (n : ℕ). drop n bytes) sum in
+    let sum : (leaf_end root (ps ++ pointer ∷ behind) - p.place) + (pointer.place - leaf_end root (ps ++ pointer ∷ behind)) ≡ pointer.place - base = omega (arith, low, high, first) in
+    let apart : drop (pointer.place - leaf_end root (ps ++ pointer ∷ behind)) (drop (leaf_end root (ps ++ pointer ∷ behind) - p.place) bytes) ≡ drop (pointer.place - base) bytes =
+    drop-drop (pointer.place - leaf_end root (ps ++ pointer ∷ behind)) (leaf_end root (ps ++ pointer ∷ behind) - p.place) bytes ∙ ap (λ (n : ℕ). drop n bytes) sum in
     record {
       front = leaf ∷ rest.front;
       leaf = rest.leaf;
@@ -77,7 +77,7 @@ among root base (p ∷ ps) pointer behind bytes (leaf ∷ leaves) begin spread a
       from = omega (arith, low, high, first);
       to = rest.to;
       end = rest.end;
-      is = subst (λ (b : List ℕ). IsLeaf pointer behind (take (end_of root behind - pointer.place) b) rest.leaf) apart rest.is;
+      is = subst (λ (b : List ℕ). IsLeaf pointer behind (take (leaf_end root behind - pointer.place) b) rest.leaf) apart rest.is;
       rest = rest.rest;
       back-are = rest.back-are;
     }
@@ -144,9 +144,9 @@ back_order front leaf back order =
     order_back AreNamesBefore (map names_of leaf) (map names_of back) rest
 
 pub leaf_decides : (names : Names) (root base : ℕ) (pointer : Pointer) (behind : List Pointer) (bytes : List ℕ) (leaves : List Leaf) (entries leaf : List IndexEntry) (found : Option IndexEntry) → (AreNamesBefore names (pointer_names pointer) → ⊥) → All (AreNamesBefore names) (next_names behind)
-    → IsAmong root base pointer behind bytes leaves → entries ≡ all_of leaves → AreInOrder AreNamesBefore (map names_of entries) → IsLeaf pointer behind (take (end_of root behind - pointer.place) (drop (pointer.place - base) bytes)) leaf → IsEntryFor names leaf found → IsEntryFor names entries found
+    → IsAmong root base pointer behind bytes leaves → entries ≡ all_of leaves → AreInOrder AreNamesBefore (map names_of entries) → IsLeaf pointer behind (take (leaf_end root behind - pointer.place) (drop (pointer.place - base) bytes)) leaf → IsEntryFor names leaf found → IsEntryFor names entries found
 leaf_decides names root base pointer behind bytes leaves entries leaf found from to a all order is has =
-    let one : leaf ≡ a.leaf = leaf_same pointer behind (take (end_of root behind - pointer.place) (drop (pointer.place - base) bytes)) leaf a.leaf is a.is in
+    let one : leaf ≡ a.leaf = leaf_same pointer behind (take (leaf_end root behind - pointer.place) (drop (pointer.place - base) bytes)) leaf a.leaf is a.is in
     let parts : entries ≡ all_of a.front ++ (a.leaf ++ all_of a.back) = all ∙ ap all_of a.split ∙ flat_map-append (λ (l : Leaf). l) a.front (a.leaf ∷ a.back) in
     let ordered : AreInOrder AreNamesBefore (map names_of (all_of a.front ++ (a.leaf ++ all_of a.back))) = subst (λ (es : List IndexEntry). AreInOrder AreNamesBefore (map names_of es)) parts order in
     subst (λ (es : List IndexEntry). IsEntryFor names es found) (sym parts)

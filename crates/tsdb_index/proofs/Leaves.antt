@@ -8,7 +8,7 @@ use Rattle.tsdb_index.specs.declared.index.IndexEntry.{IndexEntry}
 use Rattle.tsdb_index.specs.declared.writing.Leaves.{Leaves}
 use Rattle.tsdb_base.specs.Limits.{max_leaf_entries}
 use Rattle.tsdb_index.specs.Spelling.{leaf_field, pointer_field, pointers, AreLeaves}
-use Rattle.tsdb_index.specs.Steps.{AreFull, IsAppended, IsWrittenTo}
+use Rattle.tsdb_index.specs.Steps.{AreFull, IsLeafAppended, IsWrittenTo}
 
 -- one leaf more behind full ones
 full_push : (leaves : List (List IndexEntry)) (leaf : List IndexEntry) → AreFull leaves → length leaf ≡ max_leaf_entries → AreFull (leaves ++ leaf ∷ [])
@@ -59,7 +59,7 @@ nothing_written place entries written some bytes pointers-none count = record {
 
 -- one leaf more is written, which is full where entries follow it
 pub leaf_more : (place : ℕ) (entries rest leaf behind : List IndexEntry) (old new : Leaves) → IsWrittenTo place entries rest old → rest ≡ leaf ++ behind → length leaf ≤ max_leaf_entries
-    → (0 < length behind → length leaf ≡ max_leaf_entries) → IsAppended leaf place old new → IsWrittenTo place entries behind new
+    → (0 < length behind → length leaf ≡ max_leaf_entries) → IsLeafAppended leaf place old new → IsWrittenTo place entries behind new
 leaf_more place entries rest leaf behind old new so_far cut few whole added =
     let leaf-is : leaf ≡ added.first ∷ added.others = added.some in
     let some : 0 < length leaf = subst (λ (l : List IndexEntry). 0 < length l) (sym leaf-is) (omega arith) in
@@ -89,7 +89,7 @@ item_more {A} f items i item old middle new lt is so_far added =
 -- a leaf and the pointer at it are written
 pub leaf_written : {T E : Type 0} (result : Result T E) (leaf : List IndexEntry) (place : ℕ) (old new : Leaves) (first : IndexEntry) → 0 < length leaf → first ≡ get_or leaf 0 first
     → new.pointers.items ≡ old.pointers.items ++ pointer_field first (place + length old.bytes.items) → new.count ≡ old.count + 1
-    → OnOk result (new.bytes.items ≡ old.bytes.items ++ leaf_field leaf) → OnOk result (IsAppended leaf place old new)
+    → OnOk result (new.bytes.items ≡ old.bytes.items ++ leaf_field leaf) → OnOk result (IsLeafAppended leaf place old new)
 leaf_written (Err e) leaf place old new first some is pointer count written = written
 leaf_written (Ok r) [] place old new first some is pointer count written = absurd (omega arith)
 leaf_written (Ok r) (l ∷ ls) place old new first some is pointer count written = record {

@@ -8,7 +8,7 @@ use Rattle.tsdb_index.specs.declared.fault.IndexFault.{IndexFault}
 use Rattle.tsdb_index.specs.declared.index.IndexEntry.{IndexEntry}
 use Rattle.tsdb_index.specs.declared.pointer.Pointer.{Pointer}
 use Rattle.tsdb_index.specs.Faults.{ReadsWhole, as_index_fault}
-use Rattle.tsdb_index.specs.Parts.{AreLeavesAt, IsFirstBadLeaf, IsLeaf, end_of}
+use Rattle.tsdb_index.specs.Parts.{AreLeavesAt, IsFirstBadLeaf, IsLeaf, leaf_end}
 use Rattle.tsdb_index.specs.Steps.{AreSpread, ReadsLeaves}
 
 -- what is left makes the whole, with the entries so far; and what is bad in it is bad in the whole
@@ -33,27 +33,27 @@ rest_is (y ∷ ys) x some is =
     let others : take (length (y ∷ ys) - 1) ys ≡ ys = take_all (length (y ∷ ys) - 1) ys (omega arith) in
     ap (λ (l : List _). y ∷ l) (sym others) ∙ ap (λ z. z ∷ take (length (y ∷ ys) - 1) ys) (sym first)
 
-pub leaf_inside : (root : ℕ) (pointers : List Pointer) (bytes : List ℕ) (rest behind : List Pointer) (pointer : Pointer) (left : List ℕ) (entries : List IndexEntry) (end : ℕ) → rest ≡ pointer ∷ behind → end ≡ end_of root behind
+pub leaf_inside : (root : ℕ) (pointers : List Pointer) (bytes : List ℕ) (rest behind : List Pointer) (pointer : Pointer) (left : List ℕ) (entries : List IndexEntry) (end : ℕ) → rest ≡ pointer ∷ behind → end ≡ leaf_end root behind
     → AreLeft root pointers bytes rest left entries → end - pointer.place ≤ length left
 leaf_inside root pointers bytes rest behind pointer left entries end is at_end l =
     let s : AreSpread root (pointer ∷ behind) (length left) = subst (λ (ps : List Pointer). AreSpread root ps (length left)) is l.spread in
     let low = ends behind s in
     omega (arith, at_end, low)
   where
-    ends : (ps : List Pointer) → AreSpread root (pointer ∷ ps) (length left) → end_of root ps - pointer.place ≤ length left
+    ends : (ps : List Pointer) → AreSpread root (pointer ∷ ps) (length left) → leaf_end root ps - pointer.place ≤ length left
     ends [] s = let whole = s.0 in omega (arith, whole)
     ends (q ∷ qs) s = let whole = s.0 in let more = s.1 in let next = s.2.0 in omega (arith, whole, more, next)
 
-pub next_left : (root : ℕ) (pointers : List Pointer) (bytes : List ℕ) (rest behind : List Pointer) (pointer : Pointer) (left leaf others : List ℕ) (entries more new : List IndexEntry) (end : ℕ) → rest ≡ pointer ∷ behind → end ≡ end_of root behind
+pub next_left : (root : ℕ) (pointers : List Pointer) (bytes : List ℕ) (rest behind : List Pointer) (pointer : Pointer) (left leaf others : List ℕ) (entries more new : List IndexEntry) (end : ℕ) → rest ≡ pointer ∷ behind → end ≡ leaf_end root behind
     → leaf ≡ take (end - pointer.place) left → others ≡ drop (end - pointer.place) left → IsLeaf pointer behind leaf more → new ≡ entries ++ more → AreLeft root pointers bytes rest left entries → AreLeft root pointers bytes behind others new
 next_left root pointers bytes rest behind pointer left leaf others entries more new end is at_end leaf_is others_is good new_is l =
-    let size : end - pointer.place ≡ end_of root behind - pointer.place = ap (λ (n : ℕ). n - pointer.place) at_end in
-    let front : leaf ≡ take (end_of root behind - pointer.place) left = leaf_is ∙ ap (λ (n : ℕ). take n left) size in
-    let back : others ≡ drop (end_of root behind - pointer.place) left = others_is ∙ ap (λ (n : ℕ). drop n left) size in
-    let here : IsLeaf pointer behind (take (end_of root behind - pointer.place) left) more = subst (λ (b : List ℕ). IsLeaf pointer behind b more) front good in
+    let size : end - pointer.place ≡ leaf_end root behind - pointer.place = ap (λ (n : ℕ). n - pointer.place) at_end in
+    let front : leaf ≡ take (leaf_end root behind - pointer.place) left = leaf_is ∙ ap (λ (n : ℕ). take n left) size in
+    let back : others ≡ drop (leaf_end root behind - pointer.place) left = others_is ∙ ap (λ (n : ℕ). drop n left) size in
+    let here : IsLeaf pointer behind (take (leaf_end root behind - pointer.place) left) more = subst (λ (b : List ℕ). IsLeaf pointer behind b more) front good in
     let s : AreSpread root (pointer ∷ behind) (length left) = subst (λ (ps : List Pointer). AreSpread root ps (length left)) is l.spread in
     record {
-      spread = subst (λ (n : ℕ). AreSpread root behind n) (sym (ap length back ∙ length-drop (end_of root behind - pointer.place) left)) s.2;
+      spread = subst (λ (n : ℕ). AreSpread root behind n) (sym (ap length back ∙ length-drop (leaf_end root behind - pointer.place) left)) s.2;
       found = λ leaves are.
           let whole : AreLeavesAt root rest left (more ∷ leaves) = subst (λ (ps : List Pointer). AreLeavesAt root ps left (more ∷ leaves)) (sym is) (here, subst (λ (b : List ℕ). AreLeavesAt root behind b leaves) back are) in
           let f = l.found (more ∷ leaves) whole in
@@ -62,12 +62,12 @@ next_left root pointers bytes rest behind pointer left leaf others entries more 
           l.bad at (subst (λ (ps : List Pointer). IsFirstBadLeaf root ps left at) (sym is) (inr ((more, here), subst (λ (b : List ℕ). IsFirstBadLeaf root behind b at) back first_bad)));
     }
 
-pub bad_leaf : {B C : Type 0} (root : ℕ) (pointers : List Pointer) (bytes : List ℕ) (rest behind : List Pointer) (pointer : Pointer) (left leaf : List ℕ) (entries : List IndexEntry) (end : ℕ) → rest ≡ pointer ∷ behind → end ≡ end_of root behind
+pub bad_leaf : {B C : Type 0} (root : ℕ) (pointers : List Pointer) (bytes : List ℕ) (rest behind : List Pointer) (pointer : Pointer) (left leaf : List ℕ) (entries : List IndexEntry) (end : ℕ) → rest ≡ pointer ∷ behind → end ≡ leaf_end root behind
     → leaf ≡ take (end - pointer.place) left → (view : B → List IndexEntry) (view_all : C → List IndexEntry) (fault : FieldFault) (answer : IndexFault) → ReadsWhole (IsLeaf pointer behind leaf) view (Err fault) → answer ≡ as_index_fault pointer.place fault
     → AreLeft root pointers bytes rest left entries → ReadsLeaves root pointers bytes view_all (Err answer)
 bad_leaf root pointers bytes rest behind pointer left leaf entries end is at_end leaf_is view view_all (field.Bad at) answer none answer_is l =
-    let front : leaf ≡ take (end_of root behind - pointer.place) left = leaf_is ∙ ap (λ (n : ℕ). take (n - pointer.place) left) at_end in
-    let none_there : (es : List IndexEntry) → IsLeaf pointer behind (take (end_of root behind - pointer.place) left) es → ⊥ = λ es is_leaf. none es (subst (λ (b : List ℕ). IsLeaf pointer behind b es) (sym front) is_leaf) in
+    let front : leaf ≡ take (leaf_end root behind - pointer.place) left = leaf_is ∙ ap (λ (n : ℕ). take (n - pointer.place) left) at_end in
+    let none_there : (es : List IndexEntry) → IsLeaf pointer behind (take (leaf_end root behind - pointer.place) left) es → ⊥ = λ es is_leaf. none es (subst (λ (b : List ℕ). IsLeaf pointer behind b es) (sym front) is_leaf) in
     rw answer_is (l.bad pointer.place (subst (λ (ps : List Pointer). IsFirstBadLeaf root ps left pointer.place) (sym is) (inl (refl, none_there))))
 bad_leaf root pointers bytes rest behind pointer left leaf entries end is at_end leaf_is view view_all field.Memory answer none answer_is l = rw answer_is tt
 

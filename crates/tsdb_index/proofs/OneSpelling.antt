@@ -10,7 +10,7 @@ use Rattle.tsdb_base.specs.PlainLaws.{same_front}
 use Rattle.tsdb_base.proofs.PlainLists.{same_values}
 use Rattle.tsdb_index.specs.declared.index.IndexEntry.{IndexEntry}
 use Rattle.tsdb_index.specs.Entries.{IsEntry}
-use Rattle.tsdb_index.specs.Spelling.{AreLeaves, IsSpelling, RootBegins, entry_field, leaf_field, pointers, root_field}
+use Rattle.tsdb_index.specs.Spelling.{AreLeaves, IsIndexSpelling, RootBegins, entry_field, leaf_field, pointers, root_field}
 use Rattle.tsdb_index.proofs.Entries.{entry-prefix_free}
 use Rattle.tsdb_index.proofs.Whole.{all_of, every_left, every_right}
 
@@ -48,7 +48,7 @@ leaves_same (l ∷ ls) (m ∷ ms) small_l small_m is_l is_m same =
     let others = leaves_same ls ms small_l.1 small_m.1 (every_right IsEntry l (all_of ls) is_l) (every_right IsEntry m (all_of ms) is_m) first.1 in
     ap (λ leaf. leaf ++ all_of ls) first.0 ∙ ap (λ entries. m ++ entries) others
 
-pub one_index : (place root : ℕ) (bytes : List ℕ) (xs ys : List IndexEntry) → All IsEntry xs → All IsEntry ys → IsSpelling place root xs bytes → IsSpelling place root ys bytes → xs ≡ ys
+pub one_index : (place root : ℕ) (bytes : List ℕ) (xs ys : List IndexEntry) → All IsEntry xs → All IsEntry ys → IsIndexSpelling place root xs bytes → IsIndexSpelling place root ys bytes → xs ≡ ys
 one_index place root bytes xs ys good_x good_y in_x in_y =
     let ls = in_x.leaves in
     let ms = in_y.leaves in
@@ -103,7 +103,7 @@ one_leaves (l ∷ k ∷ ls) (m ∷ n ∷ ms) size_l size_m same =
     let parts = fronts_same l m (all_of (k ∷ ls)) (all_of (n ∷ ms)) (size_l.0 ∙ sym size_m.0) same in
     ap (λ leaf. leaf ∷ k ∷ ls) parts.0 ∙ ap (λ leaves. m ∷ leaves) (one_leaves (k ∷ ls) (n ∷ ms) size_l.1 size_m.1 parts.1)
 
-pub one_spelling : (place root_x root_y : ℕ) (entries : List IndexEntry) (x y : List ℕ) → IsSpelling place root_x entries x → IsSpelling place root_y entries y → (x ≡ y) × (root_x ≡ root_y)
+pub one_spelling : (place root_x root_y : ℕ) (entries : List IndexEntry) (x y : List ℕ) → IsIndexSpelling place root_x entries x → IsIndexSpelling place root_y entries y → (x ≡ y) × (root_x ≡ root_y)
 one_spelling place root_x root_y entries x y in_x in_y =
     let same = one_leaves in_x.leaves in_y.leaves in_x.stand.sizes in_y.stand.sizes (in_x.stand.all ∙ sym in_y.stand.all) in (
       in_x.bytes_are ∙ ap (λ leaves. flat_map leaf_field leaves ++ root_field place leaves) same ∙ sym in_y.bytes_are,
@@ -133,5 +133,5 @@ begins place root entries bytes ((e ∷ es) ∷ leaves) sizes all at is =
       bytes_are = ap (drop (root - place)) is ∙ drop_at flat (root_field place ((e ∷ es) ∷ leaves)) (root - place) size;
     }
 
-pub root_begins : (place root : ℕ) (entries : List IndexEntry) (bytes : List ℕ) → IsSpelling place root entries bytes → RootBegins place root entries bytes
+pub root_begins : (place root : ℕ) (entries : List IndexEntry) (bytes : List ℕ) → IsIndexSpelling place root entries bytes → RootBegins place root entries bytes
 root_begins place root entries bytes is = begins place root entries bytes is.leaves is.stand.sizes is.stand.all is.root_place is.bytes_are

@@ -14,8 +14,8 @@ use Rattle.tsdb_fields.specs.declared.fault.FieldFault.{FieldFault}
 use Rattle.tsdb_fields.specs.declared.fault.FieldFault.TheVariants as field
 use Rattle.tsdb_index.specs.declared.fault.IndexFault.{IndexFault}
 use Rattle.tsdb_index.specs.declared.fault.IndexFault.TheVariants as fault
-use Rattle.tsdb_index.specs.Faults.{IsFirstBad, IsNone, IsRead, ReadsWhole, as_index_fault}
-use Rattle.tsdb_index.specs.Parts.{AreLeavesAt, BeginAt, BeginWith, IsFirstBadLeaf, IsFirstBadIndexPart, IsPointer, IsPointerBefore, IsRoot, end_of, pointer_bytes, pointer_names}
+use Rattle.tsdb_index.specs.Faults.{IsIndexFault, IsNone, IsIndexRead, ReadsWhole, as_index_fault}
+use Rattle.tsdb_index.specs.Parts.{AreLeavesAt, BeginAt, BeginWith, IsFirstBadLeaf, IsFirstBadIndexPart, IsPointer, IsPointerBefore, IsRoot, leaf_end, pointer_bytes, pointer_names}
 use Rattle.tsdb_index.specs.Spelling.{AreLeaves, leaf_field, pointer_field, pointers, root_field}
 use Rattle.tsdb_index.specs.Steps.{AreSpread, ReadsLeaves}
 use Rattle.tsdb_index.proofs.Roots.{pointers_same, root_counted}
@@ -122,7 +122,7 @@ spread_at place root bytes (p ∷ ps) leaves is whole =
 
 -- the root and the leaves at its pointers are an index
 pub index_of : (place root : ℕ) (bytes : List ℕ) (ps : List Pointer) (leaves : List Leaf) → place + length (take (root - place) bytes) ≡ root → IsRoot place root (drop (root - place) bytes) ps
-    → AreLeavesAt root ps (take (root - place) bytes) leaves → IsRead place root bytes (all_of leaves)
+    → AreLeavesAt root ps (take (root - place) bytes) leaves → IsIndexRead place root bytes (all_of leaves)
 index_of place root bytes [] leaves whole is are = absurd is.begin
 index_of place root bytes (p ∷ ps) leaves whole is are =
     let w = leaves_make root p ps (take (root - place) bytes) leaves (spread_at place root (drop (root - place) bytes) (p ∷ ps) (take (root - place) bytes) is whole) are in
@@ -242,7 +242,7 @@ pub no_bad_leaf : (root : ℕ) (ps : List Pointer) (bytes : List ℕ) (leaves : 
 no_bad_leaf root [] bytes leaves at are is_bad = is_bad
 no_bad_leaf root (p ∷ ps) bytes [] at are is_bad = are
 no_bad_leaf root (p ∷ ps) bytes (leaf ∷ leaves) at are (inl here) = here.1 leaf are.0
-no_bad_leaf root (p ∷ ps) bytes (leaf ∷ leaves) at are (inr later) = no_bad_leaf root ps (drop (end_of root ps - p.place) bytes) leaves at are.1 later.1
+no_bad_leaf root (p ∷ ps) bytes (leaf ∷ leaves) at are (inr later) = no_bad_leaf root ps (drop (leaf_end root ps - p.place) bytes) leaves at are.1 later.1
 
 -- leaves are full but for the last
 leaves_few : (leaves : List Leaf) → AreLeaves leaves → 256 * length leaves < length (all_of leaves) + 256
@@ -262,7 +262,7 @@ pub record IndexParts (place root : ℕ) (bytes : List ℕ) (entries : List Inde
   pub leaves-are : AreLeavesAt root pointers_are (take (root - place) bytes) leaves
   pub all : all_of leaves ≡ entries
 
-pub index_parts : (place root : ℕ) (bytes : List ℕ) (entries : List IndexEntry) → place ≤ root → root ≤ place + length bytes → place + length bytes < 2 ^ 64 → IsRead place root bytes entries → IndexParts place root bytes entries
+pub index_parts : (place root : ℕ) (bytes : List ℕ) (entries : List IndexEntry) → place ≤ root → root ≤ place + length bytes → place + length bytes < 2 ^ 64 → IsIndexRead place root bytes entries → IndexParts place root bytes entries
 index_parts place root bytes entries from to room read =
     let leaves = read.spelling.leaves in
     let flat = flat_map leaf_field leaves in
@@ -306,14 +306,14 @@ no_index place root bytes at from to room part entries read =
 -- ---- the exits of reading
 
 pub root_bad : {B : Type 0} (place root : ℕ) (bytes root_bytes : List ℕ) → root_bytes ≡ drop (root - place) bytes → place ≤ root → root ≤ place + length bytes → place + length bytes < 2 ^ 64 → (view : B → List Pointer) (fault : FieldFault) (answer : IndexFault)
-    → ReadsWhole (IsRoot place root root_bytes) view (Err fault) → answer ≡ as_index_fault root fault → IsFirstBad place root bytes answer
+    → ReadsWhole (IsRoot place root root_bytes) view (Err fault) → answer ≡ as_index_fault root fault → IsIndexFault place root bytes answer
 root_bad place root bytes root_bytes is from to room view (field.Bad at) answer none answer_is =
     let none_there : (ps : List Pointer) → IsRoot place root (drop (root - place) bytes) ps → ⊥ = λ ps is_root. none ps (subst (λ (b : List ℕ). IsRoot place root b ps) (sym is) is_root) in
     rw answer_is (no_index place root bytes root from to room (inl (refl, none_there)), inl (refl, none_there))
 root_bad place root bytes root_bytes is from to room view field.Memory answer none answer_is = rw answer_is tt
 
 pub leaf_bad : {B : Type 0} (place root : ℕ) (bytes leaf_bytes root_bytes : List ℕ) (ps : List Pointer) → leaf_bytes ≡ take (root - place) bytes → root_bytes ≡ drop (root - place) bytes → place ≤ root → root ≤ place + length bytes → place + length bytes < 2 ^ 64
-    → IsRoot place root root_bytes ps → (view : B → List IndexEntry) (fault : IndexFault) → ReadsLeaves root ps leaf_bytes view (Err fault) → IsFirstBad place root bytes fault
+    → IsRoot place root root_bytes ps → (view : B → List IndexEntry) (fault : IndexFault) → ReadsLeaves root ps leaf_bytes view (Err fault) → IsIndexFault place root bytes fault
 leaf_bad place root bytes leaf_bytes root_bytes ps leaf_is root_is from to room is_root view (fault.Bad at) is_bad =
     let here : IsRoot place root (drop (root - place) bytes) ps = subst (λ (b : List ℕ). IsRoot place root b ps) root_is is_root in
     let there : IsFirstBadLeaf root ps (take (root - place) bytes) at = subst (λ (b : List ℕ). IsFirstBadLeaf root ps b at) leaf_is is_bad in
@@ -321,7 +321,7 @@ leaf_bad place root bytes leaf_bytes root_bytes ps leaf_is root_is from to room 
 leaf_bad place root bytes leaf_bytes root_bytes ps leaf_is root_is from to room is_root view fault.Memory is_bad = tt
 
 pub found_index : (place root : ℕ) (bytes leaf_bytes root_bytes : List ℕ) (ps : List Pointer) (leaves : List Leaf) (entries : List IndexEntry) → leaf_bytes ≡ take (root - place) bytes → root_bytes ≡ drop (root - place) bytes → place + length leaf_bytes ≡ root
-    → IsRoot place root root_bytes ps → AreLeavesAt root ps leaf_bytes leaves → entries ≡ all_of leaves → IsRead place root bytes entries
+    → IsRoot place root root_bytes ps → AreLeavesAt root ps leaf_bytes leaves → entries ≡ all_of leaves → IsIndexRead place root bytes entries
 found_index place root bytes leaf_bytes root_bytes ps leaves entries leaf_is root_is whole is_root are entries_are =
-    subst (λ (es : List IndexEntry). IsRead place root bytes es) (sym entries_are)
+    subst (λ (es : List IndexEntry). IsIndexRead place root bytes es) (sym entries_are)
     (index_of place root bytes ps leaves (subst (λ (b : List ℕ). place + length b ≡ root) leaf_is whole) (subst (λ (b : List ℕ). IsRoot place root b ps) root_is is_root) (subst (λ (b : List ℕ). AreLeavesAt root ps b leaves) leaf_is are))

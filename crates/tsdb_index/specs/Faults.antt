@@ -7,21 +7,21 @@ use Rattle.tsdb_index.specs.declared.fault.IndexFault.TheVariants.{Bad, Memory}
 use Rattle.tsdb_index.specs.declared.index.IndexEntry.{IndexEntry}
 use Rattle.tsdb_index.specs.Entries.{IsIndex}
 use Rattle.tsdb_index.specs.Parts.{IsFirstBadIndexPart}
-use Rattle.tsdb_index.specs.Spelling.{IsSpelling}
+use Rattle.tsdb_index.specs.Spelling.{IsIndexSpelling}
 
 -- these are the entries of the index that the bytes are
-pub record IsRead (place root : ℕ) (bytes : List ℕ) (entries : List IndexEntry) : Type 0 where
+pub record IsIndexRead (place root : ℕ) (bytes : List ℕ) (entries : List IndexEntry) : Type 0 where
   pub index : IsIndex entries
-  pub spelling : IsSpelling place root entries bytes
+  pub spelling : IsIndexSpelling place root entries bytes
 
 -- no index is written so
 abbrev pub IsNone : ℕ → ℕ → List ℕ → Type 0
-IsNone place root bytes = (entries : List IndexEntry) → IsRead place root bytes entries → ⊥
+IsNone place root bytes = (entries : List IndexEntry) → IsIndexRead place root bytes entries → ⊥
 
 -- no index is written so, and its first bad part begins at this place
-abbrev pub IsFirstBad : ℕ → ℕ → List ℕ → IndexFault → Type 0
-IsFirstBad place root bytes (Bad at) = IsNone place root bytes × IsFirstBadIndexPart place root bytes at
-IsFirstBad place root bytes Memory = Unit {0}
+abbrev pub IsIndexFault : ℕ → ℕ → List ℕ → IndexFault → Type 0
+IsIndexFault place root bytes (Bad at) = IsNone place root bytes × IsFirstBadIndexPart place root bytes at
+IsIndexFault place root bytes Memory = Unit {0}
 
 -- all of the bytes are these things, or they are none, unless memory runs out
 abbrev pub ReadsWhole : {A B : Type 0} → (A → Type 0) → (B → A) → Result B FieldFault → Type 0

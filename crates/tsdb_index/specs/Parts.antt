@@ -68,9 +68,9 @@ pub record IsLeaf (pointer : Pointer) (behind : List Pointer) (bytes : List ℕ)
   pub bytes_are : bytes ≡ leaf_field entries
 
 -- where a leaf ends: at the next leaf, or at the root
-abbrev pub end_of : ℕ → List Pointer → ℕ
-end_of root [] = root
-end_of root (next ∷ others) = next.place
+abbrev pub leaf_end : ℕ → List Pointer → ℕ
+leaf_end root [] = root
+leaf_end root (next ∷ others) = next.place
 
 -- these bytes, of which the first pointer points at the first and which end at the root, are these leaves
 abbrev pub AreLeavesAt : ℕ → List Pointer → List ℕ → List (List IndexEntry) → Type 0
@@ -78,8 +78,8 @@ AreLeavesAt root [] bytes [] = bytes ≡ []
 AreLeavesAt root [] bytes (leaf ∷ leaves) = ⊥
 AreLeavesAt root (pointer ∷ behind) bytes [] = ⊥
 AreLeavesAt root (pointer ∷ behind) bytes (leaf ∷ leaves) =
-    IsLeaf pointer behind (take (end_of root behind - pointer.place) bytes) leaf
-    × AreLeavesAt root behind (drop (end_of root behind - pointer.place) bytes) leaves
+    IsLeaf pointer behind (take (leaf_end root behind - pointer.place) bytes) leaf
+    × AreLeavesAt root behind (drop (leaf_end root behind - pointer.place) bytes) leaves
 
 -- the first pointer at which no leaf stands points at this place
 abbrev pub IsFirstBadLeaf : ℕ → List Pointer → List ℕ → ℕ → Type 0
@@ -87,9 +87,9 @@ IsFirstBadLeaf root [] bytes at = ⊥
 IsFirstBadLeaf root (pointer ∷ behind) bytes at =
     ((at ≡ pointer.place)
     × ((entries : List IndexEntry)
-    → IsLeaf pointer behind (take (end_of root behind - pointer.place) bytes) entries → ⊥))
-    ⊎ (((entries : List IndexEntry) × IsLeaf pointer behind (take (end_of root behind - pointer.place) bytes) entries)
-    × IsFirstBadLeaf root behind (drop (end_of root behind - pointer.place) bytes) at)
+    → IsLeaf pointer behind (take (leaf_end root behind - pointer.place) bytes) entries → ⊥))
+    ⊎ (((entries : List IndexEntry) × IsLeaf pointer behind (take (leaf_end root behind - pointer.place) bytes) entries)
+    × IsFirstBadLeaf root behind (drop (leaf_end root behind - pointer.place) bytes) at)
 
 -- no root stands at the root's place, which is this one; or one does, and this is the place of the first bad leaf
 abbrev pub IsFirstBadIndexPart : ℕ → ℕ → List ℕ → ℕ → Type 0

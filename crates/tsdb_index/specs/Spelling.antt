@@ -10,14 +10,14 @@ use Rattle.tsdb_index.specs.declared.index.PageEntry.{PageEntry}
 use Rattle.tsdb_base.specs.Limits.{max_leaf_entries}
 
 -- a page: its place and its statistics
-abbrev pub page_field : PageEntry → List ℕ
-page_field page = number64 page.place ++ stats_field page.stats
+abbrev pub page_entry_field : PageEntry → List ℕ
+page_entry_field page = number64 page.place ++ stats_field page.stats
 
 -- a chunk: its names, type, encoding, place and statistics, and its pages behind their number
 abbrev pub entry_field : IndexEntry → List ℕ
 entry_field entry = plain_text entry.device ++ plain_text entry.measurement
     ++ type_field entry.data_type ++ encoding_field entry.encoding ++ number64 entry.place ++ stats_field entry.stats
-    ++ number32 (length entry.pages) ++ flat_map page_field entry.pages
+    ++ number32 (length entry.pages) ++ flat_map page_entry_field entry.pages
 
 -- a leaf: 49, the number of its entries, and the entries
 abbrev pub leaf_field : List IndexEntry → List ℕ
@@ -50,7 +50,7 @@ pub record StandIn (entries : List IndexEntry) (leaves : List (List IndexEntry))
   pub all : flat_map (λ leaf. leaf) leaves ≡ entries
 
 -- these are the bytes of the entries' index, with the first leaf and the root at these places
-pub record IsSpelling (place root : ℕ) (entries : List IndexEntry) (bytes : List ℕ) : Type 0 where
+pub record IsIndexSpelling (place root : ℕ) (entries : List IndexEntry) (bytes : List ℕ) : Type 0 where
   pub leaves : List (List IndexEntry)
   pub stand : StandIn entries leaves
   pub root_place : root ≡ place + length (flat_map leaf_field leaves)

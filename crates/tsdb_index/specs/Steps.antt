@@ -7,12 +7,12 @@ use Rattle.tsdb_index.specs.declared.fault.IndexFault.{IndexFault}
 use Rattle.tsdb_index.specs.declared.fault.IndexFault.TheVariants as fault
 use Rattle.tsdb_index.specs.declared.pointer.Pointer.{Pointer}
 use Rattle.tsdb_fields.specs.Order.{AreNamesBefore}
-use Rattle.tsdb_index.specs.Parts.{AreLeavesAt, IsFirstBadLeaf, end_of, pointer_names}
+use Rattle.tsdb_index.specs.Parts.{AreLeavesAt, IsFirstBadLeaf, leaf_end, pointer_names}
 use Rattle.tsdb_base.specs.Limits.{max_leaf_entries}
 use Rattle.tsdb_index.specs.Spelling.{leaf_field, pointer_field, pointers, AreLeaves, StandIn}
 
 -- a leaf was appended, and the pointer at it
-pub record IsAppended (leaf : List IndexEntry) (place : ℕ) (old new : Leaves) : Type 0 where
+pub record IsLeafAppended (leaf : List IndexEntry) (place : ℕ) (old new : Leaves) : Type 0 where
   pub first : IndexEntry
   pub others : List IndexEntry
   pub some : leaf ≡ first ∷ others
@@ -44,7 +44,7 @@ pub record IsWrittenTo (place : ℕ) (entries rest : List IndexEntry) (written :
   pub number_is : written.count ≡ length leaves
 
 -- these bytes are a mark, the number of the items, and the items
-pub record IsCounted {A : Type 0} (mark : ℕ) (number : ℕ → List ℕ) (limit : ℕ) (item : A → List ℕ)
+pub record IsCountedList {A : Type 0} (mark : ℕ) (number : ℕ → List ℕ) (limit : ℕ) (item : A → List ℕ)
     (IsItem : A → Type 0) (bytes : List ℕ) (items : List A) : Type 0 where
   pub few : length items < limit
   pub good : All IsItem items
@@ -54,8 +54,8 @@ pub record IsCounted {A : Type 0} (mark : ℕ) (number : ℕ → List ℕ) (limi
 abbrev pub AreSpread : ℕ → List Pointer → ℕ → Type 0
 AreSpread root [] left = left ≡ 0
 AreSpread root (pointer ∷ behind) left =
-    (pointer.place + left ≡ root) × (pointer.place ≤ end_of root behind)
-    × AreSpread root behind (left - (end_of root behind - pointer.place))
+    (pointer.place + left ≡ root) × (pointer.place ≤ leaf_end root behind)
+    × AreSpread root behind (left - (leaf_end root behind - pointer.place))
 
 -- the entries of the leaves that these bytes are, or the place of the first bad leaf
 abbrev pub ReadsLeaves : {B : Type 0} → ℕ → List Pointer → List ℕ → (B → List IndexEntry) → Result B IndexFault → Type 0

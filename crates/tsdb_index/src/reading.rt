@@ -5,10 +5,10 @@ ghost use Rattle.tsdb_index.specs.declared.marks.TheConstants.{LEAF, ROOT};
 ghost use Rattle.tsdb_base.specs.Fields.{number16, number32};
 ghost use Rattle.tsdb_fields.specs.Reading.{LacksPart};
 ghost use Rattle.tsdb_index.specs.Entries.{IsEntry, IsPageOf};
-ghost use Rattle.tsdb_index.specs.Faults.{IsFirstBad, IsRead, ReadsWhole};
-ghost use Rattle.tsdb_index.specs.Parts.{IsLeaf, IsPointer, IsRoot, end_of as leaf_end, pointer_bytes};
-ghost use Rattle.tsdb_index.specs.Spelling.{page_field, entry_field};
-ghost use Rattle.tsdb_index.specs.Steps.{AreSpread, IsCounted, ReadsLeaves};
+ghost use Rattle.tsdb_index.specs.Faults.{IsIndexFault, IsIndexRead, ReadsWhole};
+ghost use Rattle.tsdb_index.specs.Parts.{IsLeaf, IsPointer, IsRoot, leaf_end, pointer_bytes};
+ghost use Rattle.tsdb_index.specs.Spelling.{page_entry_field, entry_field};
+ghost use Rattle.tsdb_index.specs.Steps.{AreSpread, IsCountedList, ReadsLeaves};
 
 use crate::fault::IndexFault;
 use crate::index::{Index, IndexEntry, PageEntry};
@@ -30,11 +30,11 @@ struct PageReader {
 impl FieldReader for PageReader {
     type Field = PageEntry;
 
-    ghost spelling = { page_field };
+    ghost spelling = { page_entry_field };
 
     ghost is_field = { λ reader. IsPageOf reader.data_type };
 
-    ghost is_bad = { λ reader. LacksPart page_field (IsPageOf reader.data_type) };
+    ghost is_bad = { λ reader. LacksPart page_entry_field (IsPageOf reader.data_type) };
 
     fn read<'a>(&self, alloc: Global, rest: Rest<'a>) -> Result<(PageEntry, Rest<'a>), FieldFault> {
         let (place, behind) = read_field(alloc, rest)?;
@@ -129,7 +129,7 @@ fn fields_behind(mark: u8, bytes: &[u8]) -> Option<Rest<'_>>
 
 /// The entries of the leaf that all of these bytes are, of any number. A fault has no place of its own.
 fn entries_in(alloc: Global, bytes: &[u8]) -> Result<Vec<IndexEntry>, FieldFault>
-    ensures { ReadsWhole (IsCounted LEAF number16 (2 ^ 16) entry_field IsEntry bytes.now)
+    ensures { ReadsWhole (IsCountedList LEAF number16 (2 ^ 16) entry_field IsEntry bytes.now)
         (λ entries. entries.items) result }
 {
     let bad = FieldFault::Bad { at: 0 };
@@ -146,7 +146,7 @@ fn entries_in(alloc: Global, bytes: &[u8]) -> Result<Vec<IndexEntry>, FieldFault
 
 /// The pointers of the root that all of these bytes are, of any number and order. A fault has no place of its own.
 pub fn pointers_in(alloc: Global, bytes: &[u8]) -> Result<Vec<Pointer>, FieldFault>
-    ensures { ReadsWhole (IsCounted ROOT number32 (2 ^ 32) pointer_bytes IsPointer bytes.now)
+    ensures { ReadsWhole (IsCountedList ROOT number32 (2 ^ 32) pointer_bytes IsPointer bytes.now)
         (λ pointers. pointers.items) result }
 {
     let bad = FieldFault::Bad { at: 0 };
@@ -230,8 +230,8 @@ pub fn read_index(alloc: Global, bytes: &[u8], place: u64, root: u64) -> Result<
     requires room { place + length bytes.now < 2 ^ 64 }
     requires from { place ≤ root }
     requires to { root ≤ place + length bytes.now }
-    ensures found { IfOk result (λ index. IsRead place root bytes.now index.entries) }
-    ensures bad { IfErr result (IsFirstBad place root bytes.now) }
+    ensures found { IfOk result (λ index. IsIndexRead place root bytes.now index.entries) }
+    ensures bad { IfErr result (IsIndexFault place root bytes.now) }
 {
     let (leaves, root_bytes) = bytes.split_at((root - place) as usize);
     let pointers = match read_root(alloc, root_bytes, place, root) {

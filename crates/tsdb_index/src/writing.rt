@@ -2,8 +2,8 @@
 ghost use Rattle.std.specs.Prelude.{◌≡◌, ℕ, ◌<◌, ◌≤◌, ◌++◌, length, IfOk, OnOk};
 ghost use Rattle.std.specs.List.{flat_map};
 ghost use Rattle.tsdb_base.specs.Limits.{max_leaf_entries};
-ghost use Rattle.tsdb_index.specs.Spelling.{page_field, entry_field, leaf_field, pointer_field, IsSpelling};
-ghost use Rattle.tsdb_index.specs.Steps.{IsAppended, AreWritten};
+ghost use Rattle.tsdb_index.specs.Spelling.{page_entry_field, entry_field, leaf_field, pointer_field, IsIndexSpelling};
+ghost use Rattle.tsdb_index.specs.Steps.{IsLeafAppended, AreWritten};
 
 use crate::index::{Index, IndexEntry, PageEntry};
 use crate::marks::{LEAF, ROOT};
@@ -13,14 +13,14 @@ use tsdb_base::{Memory, PlainValue};
 use tsdb_fields::{write_name, write_path, write_stats};
 
 fn write_page(page: &PageEntry, into: &mut Vec<u8>) -> Result<(), Memory>
-    ensures ok { OnOk result (into.new.items ≡ into.old.items ++ page_field page.now) }
+    ensures ok { OnOk result (into.new.items ≡ into.old.items ++ page_entry_field page.now) }
 {
     page.place.put(into)?;
     write_stats(&page.stats, into)
 }
 
 fn write_pages(pages: &[PageEntry], into: &mut Vec<u8>) -> Result<(), Memory>
-    ensures ok { OnOk result (into.new.items ≡ into.old.items ++ flat_map page_field pages.now) }
+    ensures ok { OnOk result (into.new.items ≡ into.old.items ++ flat_map page_entry_field pages.now) }
 {
     for page in pages {
         write_page(page, into)?;
@@ -82,7 +82,7 @@ struct Leaves {
 fn append_leaf(leaf: &[IndexEntry], place: u64, into: &mut Leaves) -> Result<(), Memory>
     requires some { 0 < length leaf.now }
     requires few { length leaf.now ≤ max_leaf_entries }
-    ensures ok { OnOk result (IsAppended leaf.now place into.old into.new) }
+    ensures ok { OnOk result (IsLeafAppended leaf.now place into.old into.new) }
 {
     let at = place.checked_add(into.bytes.len() as u64).ok_or(Memory)?;
     into.count = into.count.checked_add(1).ok_or(Memory)?;
@@ -117,7 +117,7 @@ pub fn write_leaves_and_root(
     place: u64,
 ) -> Result<(Vec<u8>, u64), Memory>
     requires { 0 < length index.now.entries }
-    ensures { IfOk result (λ r. IsSpelling place r.1 index.now.entries r.0.items) }
+    ensures { IfOk result (λ r. IsIndexSpelling place r.1 index.now.entries r.0.items) }
 {
     let Leaves {
         mut bytes,
@@ -135,7 +135,7 @@ pub fn write_leaves_and_root(
 /// would not fit its bytes.
 pub fn write_index(alloc: Global, index: &Index, place: u64) -> Result<Vec<u8>, Memory>
     requires { 0 < length index.now.entries }
-    ensures { IfOk result (λ bytes. (root : ℕ) × IsSpelling place root index.now.entries bytes.items) }
+    ensures { IfOk result (λ bytes. (root : ℕ) × IsIndexSpelling place root index.now.entries bytes.items) }
 {
     let (bytes, _root) = write_leaves_and_root(alloc, index, place)?;
     Ok(bytes)

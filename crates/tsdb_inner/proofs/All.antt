@@ -7,28 +7,28 @@ use Rattle.std.proofs.lemmas.Bool.{false≢true}
 use Rattle.std.proofs.lemmas.List.{take-append-drop}
 use Rattle.tsdb_base.specs.declared.point.Point.{Point}
 use Rattle.tsdb_base.specs.declared.value.Value.{Value}
-use Rattle.tsdb_flush.specs.BuiltParts.{HasPartPoint, IsSeries}
+use Rattle.tsdb_flush.specs.BuiltParts.{HasPartPoint, IsFilledSeries}
 use Rattle.tsdb_compactions.specs.Outputs.{HasNoWinner, HasWinners, TellsInputs, winner}
 use Rattle.tsdb_compactions.specs.declared.job.Job.{Job}
 use Rattle.tsdb_flush.proofs.PartsInMaking.{before_middle}
-use Rattle.tsdb_flush.specs.Making.{IsPart, MayAdd}
+use Rattle.tsdb_flush.specs.Making.{IsPartInMaking, MayAdd}
 use Rattle.tsdb_flush.specs.MakingSteps.{ComeBefore, filled_with}
-use Rattle.tsdb_flush.specs.declared.part.Part.{Part}
+use Rattle.tsdb_flush.specs.declared.part.PartBuilder.{PartBuilder}
 use Rattle.tsdb_path.proofs.Order.{not_itself}
 use Rattle.tsdb_path.specs.Order.{AreNamesBefore}
 use Rattle.tsdb_inner.proofs.Lists.{next_taken}
 use Rattle.tsdb_inner.specs.Winners.{AreSeries, CopiesSeries}
-use Rattle.tsdb_flush.specs.Parts.{Filled, if_any, names_of}
+use Rattle.tsdb_flush.specs.Parts.{Filled, if_any, schema_names}
 use Rattle.tsdb_base.proofs.Lists.{among_left, among_right, each_among, each_append, each_from_among, each_weaker, pairs_left}
 use Rattle.tsdb_base.specs.Lists.{Among, EachPair}
-use Rattle.tsdb_state.specs.Places.{Place}
+use Rattle.tsdb_state.specs.Places.{PointPlace}
 use Rattle.tsdb_model.specs.declared.command.Schema.{Schema}
 use Rattle.tsdb_flush.proofs.Counts.{among_either, pairs_append}
 use Rattle.tsdb_base.specs.Points.{IsRising}
 use Rattle.tsdb_outside.specs.Files.{NamedFile}
 use Rattle.tsdb_path.specs.Nodes.{device_of, measurement_of, node_count}
 use Rattle.tsdb_streams.specs.Survivors.{place_at}
-use Rattle.tsdb_state.specs.State.{Told}
+use Rattle.tsdb_state.specs.State.{ToldContents}
 
 -- ---- lists
 
@@ -38,7 +38,7 @@ among_at (y ∷ ys) zero x below at = inl (sym at)
 among_at (y ∷ ys) (suc i) x below at = inr (among_at ys i x (omega (arith, below)) at)
 
 abbrev Rise : Schema → Schema → Type 0
-Rise a b = AreNamesBefore (names_of a) (names_of b)
+Rise a b = AreNamesBefore (schema_names a) (schema_names b)
 
 -- the schemas so far come before the next
 come_before : (schemas : List Schema) (i : ℕ) (schema : Schema) → EachPair Rise schemas → i < length schemas
@@ -50,7 +50,7 @@ come_before schemas i schema rising below at = before_middle Rise (take i schema
 -- ---- a series at the end of a part
 
 series_end : (schema : Schema) (points : List Point) → 2 ≤ node_count schema.path → IsRising points
-    → Each IsSeries (if_any schema points)
+    → Each IsFilledSeries (if_any schema points)
 series_end schema [] nodes rising = tt
 series_end schema (point ∷ points) nodes rising = (record { nodes = nodes; some = omega arith; rising = rising }, tt)
 
@@ -71,18 +71,18 @@ end_pairs R schema (point ∷ points) = (tt, tt)
 
 module _ {F S R P : Type 0} (name : R → NamedFile) (job : Job F S R P) where
   -- the series of these schemas were added, each with the winners of the job
-  pub record HasCopied (schemas : List Schema) (making : Part) : Type 0 where
+  pub record HasCopied (schemas : List Schema) (making : PartBuilder) : Type 0 where
     pub done : List Filled
-    pub is : IsPart done making
+    pub is : IsPartInMaking done making
     pub series : AreSeries done
     pub among : Each (λ filled. Among filled.schema schemas) done
-    pub has : (told : Told) → TellsInputs name told job → (place : Place) (value : Value) → HasPartPoint done place value
+    pub has : (told : ToldContents) → TellsInputs name told job → (place : PointPlace) (value : Value) → HasPartPoint done place value
         → winner told job place ≡ Some value
-    pub all : (told : Told) → TellsInputs name told job → (place : Place) (value : Value) (schema : Schema)
+    pub all : (told : ToldContents) → TellsInputs name told job → (place : PointPlace) (value : Value) (schema : Schema)
         → Among schema schemas → schema.path ≡ place.path → winner told job place ≡ Some value
         → HasPartPoint done place value
 
-  pub copied_none : (making : Part) → IsPart [] making → HasCopied [] making
+  pub copied_none : (making : PartBuilder) → IsPartInMaking [] making → HasCopied [] making
   copied_none making is = record {
     done = [];
     is = is;
@@ -93,7 +93,7 @@ module _ {F S R P : Type 0} (name : R → NamedFile) (job : Job F S R P) where
   }
 
   -- the next series comes behind those so far
-  comes : (i : ℕ) (schema : Schema) (making : Part) → EachPair Rise job.schemas → i < length job.schemas
+  comes : (i : ℕ) (schema : Schema) (making : PartBuilder) → EachPair Rise job.schemas → i < length job.schemas
       → schema ≡ get_or job.schemas i schema → (was : HasCopied (take i job.schemas) making)
       → ComeBefore was.done schema
   comes i schema making rising below at was = each_weaker (λ filled. Among filled.schema (take i job.schemas))
@@ -101,7 +101,7 @@ module _ {F S R P : Type 0} (name : R → NamedFile) (job : Job F S R P) where
       (λ filled among. each_among (λ before. Rise before schema) (take i job.schemas) filled.schema
       (come_before job.schemas i schema rising below at) among) was.done was.among
 
-  pub may_add : (i : ℕ) (schema : Schema) (making : Part) → EachPair Rise job.schemas → i < length job.schemas
+  pub may_add : (i : ℕ) (schema : Schema) (making : PartBuilder) → EachPair Rise job.schemas → i < length job.schemas
       → schema ≡ get_or job.schemas i schema → HasCopied (take i job.schemas) making → MayAdd making schema
   may_add i schema making rising below at was =
       record { part = was.done; is = was.is; before = comes i schema making rising below at was }
@@ -111,7 +111,7 @@ module _ {F S R P : Type 0} (name : R → NamedFile) (job : Job F S R P) where
   schema_among i schema below at = among_at job.schemas i schema below at
 
   -- what a part has, it has with a series more
-  has_more : (done : List Filled) (schema : Schema) (points : List Point) (place : Place) (value : Value)
+  has_more : (done : List Filled) (schema : Schema) (points : List Point) (place : PointPlace) (value : Value)
       → HasPartPoint done place value → HasPartPoint (done ++ if_any schema points) place value
   has_more done schema points place value has = record {
     filled = has.filled;
@@ -123,7 +123,7 @@ module _ {F S R P : Type 0} (name : R → NamedFile) (job : Job F S R P) where
     has = has.has;
   }
 
-  module _ (i : ℕ) (schema : Schema) (old new : Part) (rising : EachPair Rise job.schemas)
+  module _ (i : ℕ) (schema : Schema) (old new : PartBuilder) (rising : EachPair Rise job.schemas)
       (nodes : 2 ≤ node_count schema.path) (below : i < length job.schemas) (at : schema ≡ get_or job.schemas i schema)
       (was : HasCopied (take i job.schemas) old) (copies : CopiesSeries name job schema old new) where
     abbrev last : List Filled
@@ -135,11 +135,11 @@ module _ {F S R P : Type 0} (name : R → NamedFile) (job : Job F S R P) where
     apart : (a b : Filled) → Among a was.done → Among b last → a.schema.path ≢ b.schema.path
     apart a b in_a in_b same =
         let is : b.schema ≡ schema = sym (ap (λ (f : Filled). f.schema) (of_end schema copies.points b in_b)) in
-        not_itself (names_of schema) (subst (λ (p : List ℕ). AreNamesBefore (device_of p, measurement_of p) (names_of schema))
+        not_itself (schema_names schema) (subst (λ (p : List ℕ). AreNamesBefore (device_of p, measurement_of p) (schema_names schema))
         (same ∙ ap (λ (s : Schema). s.path) is)
         (each_among (λ filled. Rise filled.schema schema) was.done a before in_a))
 
-    still_has : (told : Told) → TellsInputs name told job → (place : Place) (value : Value)
+    still_has : (told : ToldContents) → TellsInputs name told job → (place : PointPlace) (value : Value)
         → HasPartPoint (was.done ++ last) place value → winner told job place ≡ Some value
     still_has told tells place value has = ⊎_elim
         (λ first. was.has told tells place value (record {
@@ -157,11 +157,11 @@ module _ {F S R P : Type 0} (name : R → NamedFile) (job : Job F S R P) where
         let found = each_among (λ (point : Point). winner told job (place_at schema.path point.time) ≡ Some point.value)
         copies.points has.point (copies.winners told tells).are among in
         let path : schema.path ≡ place.path = ap (λ (f : Filled). f.schema.path) is ∙ has.path in
-        ap (λ (p : Place). winner told job p) (sym (λ j. record { path = path j; time = has.time j })) ∙ found
+        ap (λ (p : PointPlace). winner told job p) (sym (λ j. record { path = path j; time = has.time j })) ∙ found
         ∙ ap (λ v. Some v) has.has)
         (among_either was.done last has.filled has.in_part)
 
-    still_all : (told : Told) → TellsInputs name told job → (place : Place) (value : Value) (other : Schema)
+    still_all : (told : ToldContents) → TellsInputs name told job → (place : PointPlace) (value : Value) (other : Schema)
         → Among other (take (i + 1) job.schemas) → other.path ≡ place.path → winner told job place ≡ Some value
         → HasPartPoint (was.done ++ last) place value
     still_all told tells place value other among path is = ⊎_elim
@@ -189,7 +189,7 @@ module _ {F S R P : Type 0} (name : R → NamedFile) (job : Job F S R P) where
       done = was.done ++ last;
       is = copies.adds.ok was.done was.is before;
       series = record {
-        each = each_append IsSeries was.done last was.series.each (series_end schema copies.points nodes copies.rising);
+        each = each_append IsFilledSeries was.done last was.series.each (series_end schema copies.points nodes copies.rising);
         differ = pairs_append (λ (a b : Filled). a.schema.path ≢ b.schema.path) was.done last was.series.differ
             (end_pairs (λ (a b : Filled). a.schema.path ≢ b.schema.path) schema copies.points) apart;
       };
@@ -207,8 +207,8 @@ module _ {F S R P : Type 0} (name : R → NamedFile) (job : Job F S R P) where
     }
 
   -- all series of the job were added: each winner is of one of them
-  pub copied_all : (making : Part) → HasCopied job.schemas making
-      → (filled : List Filled) × IsPart filled making × AreSeries filled × HasWinners name job filled
+  pub copied_all : (making : PartBuilder) → HasCopied job.schemas making
+      → (filled : List Filled) × IsPartInMaking filled making × AreSeries filled × HasWinners name job filled
   copied_all making copied = (
     copied.done,
     copied.is,

@@ -8,13 +8,13 @@ use Rattle.tsdb_streams.specs.Files.{FilePages}
 use Rattle.tsdb_streams.specs.Kept.{is_kept}
 use Rattle.tsdb_streams.specs.Lanes.{source_left}
 use Rattle.tsdb_streams.specs.Streams.{AreTrueSources}
-use Rattle.tsdb_streams.specs.declared.source.Source.{Source}
-use Rattle.tsdb_flush.specs.Making.{IsOpen, IsPart, MayAdd, MayPut}
+use Rattle.tsdb_streams.specs.declared.source.StreamSource.{StreamSource}
+use Rattle.tsdb_flush.specs.Making.{IsSeriesOpen, IsPartInMaking, MayAdd, MayPut}
 use Rattle.tsdb_flush.specs.MakingSteps.{ComeBefore}
-use Rattle.tsdb_flush.specs.declared.part.Part.{Part}
+use Rattle.tsdb_flush.specs.declared.part.PartBuilder.{PartBuilder}
 use Rattle.tsdb_inner.proofs.Putting.{all_taken, drains_none, none_rise, takes_one}
-use Rattle.tsdb_inner.specs.Copies.{Adds, Copies, AreDamaged, IsLeft, all_times}
-use Rattle.tsdb_inner.specs.Steps.{HasBegun, HaveBrokenOrder, Puts}
+use Rattle.tsdb_inner.specs.Copies.{Adds, Copies, AreDamaged, AreToldPoints, all_times}
+use Rattle.tsdb_inner.specs.Steps.{HasBegun, HaveBrokenOrder, PutsSeries}
 use Rattle.tsdb_flush.specs.Parts.{Filled}
 use Rattle.tsdb_model.specs.declared.command.Schema.{Schema}
 use Rattle.tsdb_marks.specs.declared.marks.Mark.{Mark}
@@ -31,12 +31,12 @@ ok_then P Q step (Err e) is = tt
 
 -- what is left of a stream is the merge of the lists
 merged_left : (lists : List (List Point)) (left : Option (List Point)) (points : List Point) → IsToldMergeOf lists left
-    → IsLeft left points → IsMergeOf lists points
+    → AreToldPoints left points → IsMergeOf lists points
 merged_left lists None points merged all = absurd merged
 merged_left lists (Some list) points merged all = subst (IsMergeOf lists) (sym (all list refl)) merged
 
 left_more : (left next : Option (List Point)) (taken : Option Point) (first : Point) (rest : List Point)
-    → taken ≡ Some first → TakesTold left taken next → IsLeft next rest → IsLeft left (first ∷ rest)
+    → taken ≡ Some first → TakesTold left taken next → AreToldPoints next rest → AreToldPoints left (first ∷ rest)
 left_more left next taken first rest some takes behind all is =
     let new = takes_one left next all first is (subst (λ t. TakesTold left t next) some takes) in
     ap (λ l. first ∷ l) (behind new.0 new.1) ∙ sym new.2
@@ -60,12 +60,12 @@ begins_merge lists (Some all) next taken first some merged takes =
 -- ---- the series
 
 -- nothing was added
-adds_none : (schema : Schema) (part : Part) → Adds schema [] part part
-adds_none schema part = record { ok = λ before is comes. subst (λ l. IsPart l part) (sym (append-nil before)) is }
+adds_none : (schema : Schema) (part : PartBuilder) → Adds schema [] part part
+adds_none schema part = record { ok = λ before is comes. subst (λ l. IsPartInMaking l part) (sym (append-nil before)) is }
 
 -- the first point of a series that was begun may be put
-pub first_may_put : (schema : Schema) (old begun : Part) (first : Point) → MayAdd old schema
-    → ((part : List Filled) → IsPart part old → ComeBefore part schema → IsOpen part schema [] begun)
+pub first_may_put : (schema : Schema) (old begun : PartBuilder) (first : Point) → MayAdd old schema
+    → ((part : List Filled) → IsPartInMaking part old → ComeBefore part schema → IsSeriesOpen part schema [] begun)
     → type_of first.value ≡ schema.data_type → MayPut first begun
 first_may_put schema old begun first may begin typed = record {
   part = may.part;
@@ -75,10 +75,10 @@ first_may_put schema old begun first may begin typed = record {
   may = record { typed = typed; later = λ k d below. absurd (omega (arith, below)) };
 }
 
-module _ (schema : Schema) (old begun put : Part) (first : Point) (from : ℤ) (at : first.time ≡ from)
-    (begin : (part : List Filled) → IsPart part old → ComeBefore part schema → IsOpen part schema [] begun)
-    (give : (part : List Filled) (schema : Schema) (points : List Point) → IsOpen part schema points begun
-    → IsOpen part schema (points ++ first ∷ []) put) where
+module _ (schema : Schema) (old begun put : PartBuilder) (first : Point) (from : ℤ) (at : first.time ≡ from)
+    (begin : (part : List Filled) → IsPartInMaking part old → ComeBefore part schema → IsSeriesOpen part schema [] begun)
+    (give : (part : List Filled) (schema : Schema) (points : List Point) → IsSeriesOpen part schema points begun
+    → IsSeriesOpen part schema (points ++ first ∷ []) put) where
   pub has_begun : MayAdd old schema → HasBegun schema from put
   has_begun may = record {
     before = may.part;
@@ -87,12 +87,12 @@ module _ (schema : Schema) (old begun put : Part) (first : Point) (from : ℤ) (
     at = at;
   }
 
-  adds_all : (rest : List Point) (new : Part) → Puts schema from rest put new → Adds schema (first ∷ rest) old new
+  adds_all : (rest : List Point) (new : PartBuilder) → PutsSeries schema from rest put new → Adds schema (first ∷ rest) old new
   adds_all rest new puts = record {
     ok = λ before is comes. puts.ok before first at (give before schema [] (begin before is comes));
   }
 
-module _ {R : Type 0} (file : R → NamedFile) (schema : Schema) (marks : List Mark) (sources : List (Source R))
+module _ {R : Type 0} (file : R → NamedFile) (schema : Schema) (marks : List Mark) (sources : List (StreamSource R))
     (left : FilePages → Option (List Point))
     (merged : (pages : FilePages) → AreTrueSources file schema.path pages sources → (lists : List (List Point))
     → map (source_left file pages (is_kept schema.path all_times marks)) sources ≡ map Some lists → All IsRising lists
@@ -101,7 +101,7 @@ module _ {R : Type 0} (file : R → NamedFile) (schema : Schema) (marks : List M
       (takes : (pages : FilePages) → AreTrueSources file schema.path pages sources
       → TakesTold (left pages) taken (next pages)) where
     -- the stream had no point
-    pub copies_none : (part : Part) → taken ≡ None → Copies file schema marks sources part part
+    pub copies_none : (part : PartBuilder) → taken ≡ None → Copies file schema marks sources part part
     copies_none part none = record {
       points = [];
       adds = adds_none schema part;
@@ -111,12 +111,12 @@ module _ {R : Type 0} (file : R → NamedFile) (schema : Schema) (marks : List M
     }
 
     -- all points of the stream were added
-    pub copies_all : (old begun put new : Part) (first : Point) (from : ℤ) → first.time ≡ from → taken ≡ Some first
-        → ((part : List Filled) → IsPart part old → ComeBefore part schema → IsOpen part schema [] begun)
-        → ((part : List Filled) (schema : Schema) (points : List Point) → IsOpen part schema points begun
-        → IsOpen part schema (points ++ first ∷ []) put)
-        → (rest : List Point) → Puts schema from rest put new
-        → ((pages : FilePages) → AreTrueSources file schema.path pages sources → IsLeft (next pages) rest)
+    pub copies_all : (old begun put new : PartBuilder) (first : Point) (from : ℤ) → first.time ≡ from → taken ≡ Some first
+        → ((part : List Filled) → IsPartInMaking part old → ComeBefore part schema → IsSeriesOpen part schema [] begun)
+        → ((part : List Filled) (schema : Schema) (points : List Point) → IsSeriesOpen part schema points begun
+        → IsSeriesOpen part schema (points ++ first ∷ []) put)
+        → (rest : List Point) → PutsSeries schema from rest put new
+        → ((pages : FilePages) → AreTrueSources file schema.path pages sources → AreToldPoints (next pages) rest)
         → Copies file schema marks sources old new
     copies_all old begun put new first from at some begin give rest puts behind = record {
       points = first ∷ rest;

@@ -9,11 +9,11 @@ use Rattle.std.proofs.lemmas.List.Quantifiers.{all_pairs_push}
 use Rattle.std.proofs.Math.Seq.{get_or-append_seam}
 use Rattle.tsdb_base.specs.Values.{type_of}
 use Rattle.tsdb_base.specs.declared.point.Point.{Point}
-use Rattle.tsdb_flush.specs.Making.{IsOpen, IsPart, MayPut}
+use Rattle.tsdb_flush.specs.Making.{IsSeriesOpen, IsPartInMaking, MayPut}
 use Rattle.tsdb_flush.specs.MakingSteps.{AreFrom, filled_with}
-use Rattle.tsdb_flush.specs.declared.part.Part.{Part}
-use Rattle.tsdb_inner.specs.Copies.{AreOfType, IsLeft}
-use Rattle.tsdb_inner.specs.Steps.{HasBegun, HaveBrokenOrder, MayFollow, Puts}
+use Rattle.tsdb_flush.specs.declared.part.PartBuilder.{PartBuilder}
+use Rattle.tsdb_inner.specs.Copies.{AreOfType, AreToldPoints}
+use Rattle.tsdb_inner.specs.Steps.{HasBegun, HaveBrokenOrder, MayFollowPoint, PutsSeries}
 use Rattle.tsdb_flush.specs.Parts.{Filled}
 use Rattle.tsdb_base.proofs.Lists.{among_left, among_right, each_append, each_middle, each_weaker}
 use Rattle.tsdb_base.specs.Lists.{Among}
@@ -52,7 +52,7 @@ drains_more first now next points taken point some was takes = record {
 
 -- all points were taken
 pub all_taken : (first now next : Option (List Point)) (points : List Point) (taken : Option Point) → taken ≡ None
-    → Drains first now points → TakesTold now taken next → IsLeft first points
+    → Drains first now points → TakesTold now taken next → AreToldPoints first points
 all_taken first now next points taken none was takes all is =
     let old = was.rest all is in
     let end = takes_none now next old.0 old.1 (subst (λ t. TakesTold now t next) none takes) in
@@ -94,10 +94,10 @@ pair_at R xs y ys x pairs among =
 -- ---- the state of the loop
 
 -- the series was given these points behind its first, up to the one at the time
-pub record IsPutting (schema : Schema) (from to : ℤ) (count : ℕ) (old new : Part) (rest : List Point) : Type 0 where
+pub record IsPutting (schema : Schema) (from to : ℤ) (count : ℕ) (old new : PartBuilder) (rest : List Point) : Type 0 where
   pub counted : length rest + 1 ≡ count
-  pub is_open : (before : List Filled) (first : Point) → first.time ≡ from → IsOpen before schema (first ∷ []) old
-      → IsOpen before schema (first ∷ rest) new
+  pub is_open : (before : List Filled) (first : Point) → first.time ≡ from → IsSeriesOpen before schema (first ∷ []) old
+      → IsSeriesOpen before schema (first ∷ rest) new
   pub spans : (first : Point) → first.time ≡ from → AreFrom (first ∷ rest) from to
   pub rising : (first : Point) → first.time ≡ from → IsRising (first ∷ rest)
 
@@ -107,7 +107,7 @@ none_rise i j d before within = absurd (omega (arith, before, within))
 one_rises : (point : Point) → IsRising (point ∷ [])
 one_rises point i j d before within = absurd (omega (arith, before, within))
 
-pub putting_none : (schema : Schema) (from : ℤ) (part : Part) → IsPutting schema from from 1 part part []
+pub putting_none : (schema : Schema) (from : ℤ) (part : PartBuilder) → IsPutting schema from from 1 part part []
 putting_none schema from part = record {
   counted = refl;
   is_open = λ before first at is. is;
@@ -123,10 +123,10 @@ putting_none schema from part = record {
   rising = λ first at. one_rises first;
 }
 
-module _ (schema : Schema) (from to : ℤ) (count : ℕ) (old now : Part) (rest : List Point)
+module _ (schema : Schema) (from to : ℤ) (count : ℕ) (old now : PartBuilder) (rest : List Point)
     (is : IsPutting schema from to count old now rest) where
   pub may_put : (begun_at : ℤ) → begun_at ≡ from → HasBegun schema begun_at old → (point : Point)
-      → MayFollow to schema point → MayPut point now
+      → MayFollowPoint to schema point → MayPut point now
   may_put begun_at same begun point may = record {
     part = begun.before;
     schema = schema;
@@ -141,9 +141,9 @@ module _ (schema : Schema) (from to : ℤ) (count : ℕ) (old now : Part) (rest 
     };
   }
 
-  pub putting_more : (new : Part) (point : Point) (next : ℤ) → next ≡ point.time → MayFollow to schema point
-      → ((part : List Filled) (schema : Schema) (points : List Point) → IsOpen part schema points now
-      → IsOpen part schema (points ++ point ∷ []) new)
+  pub putting_more : (new : PartBuilder) (point : Point) (next : ℤ) → next ≡ point.time → MayFollowPoint to schema point
+      → ((part : List Filled) (schema : Schema) (points : List Point) → IsSeriesOpen part schema points now
+      → IsSeriesOpen part schema (points ++ point ∷ []) new)
       → IsPutting schema from next (count + 1) old new (rest ++ point ∷ [])
   putting_more new point next at may put = record {
     counted = let old_count = is.counted in let long = length-append rest (point ∷ []) in omega (arith, old_count, long);
@@ -176,7 +176,7 @@ module _ (schema : Schema) (from to : ℤ) (count : ℕ) (old now : Part) (rest 
 
   -- the series may be ended
   pub is_whole : (begun_at : ℤ) → begun_at ≡ from → HasBegun schema begun_at old → (part : List Filled)
-      × (points : List Point) × IsOpen part schema points now × (length points ≡ count) × AreFrom points from to
+      × (points : List Point) × IsSeriesOpen part schema points now × (length points ≡ count) × AreFrom points from to
   is_whole begun_at same begun =
       let counted = is.counted in (
         begun.before,
@@ -186,10 +186,10 @@ module _ (schema : Schema) (from to : ℤ) (count : ℕ) (old now : Part) (rest 
         is.spans begun.first (begun.at ∙ same),
       )
 
-  pub puts : (new : Part) (begun_at : ℤ) → begun_at ≡ from
-      → ((part : List Filled) (points : List Point) → IsOpen part schema points now → length points ≡ count
-      → AreFrom points from to → IsPart (part ++ filled_with schema points ∷ []) new)
-      → Puts schema begun_at rest old new
+  pub puts : (new : PartBuilder) (begun_at : ℤ) → begun_at ≡ from
+      → ((part : List Filled) (points : List Point) → IsSeriesOpen part schema points now → length points ≡ count
+      → AreFrom points from to → IsPartInMaking (part ++ filled_with schema points ∷ []) new)
+      → PutsSeries schema begun_at rest old new
   puts new begun_at same end =
       let counted = is.counted in record {
         ok = λ before first at was. end before (first ∷ rest) (is.is_open before first (at ∙ same) was)
@@ -198,7 +198,7 @@ module _ (schema : Schema) (from to : ℤ) (count : ℕ) (old now : Part) (rest 
       }
 
   -- a point that may not follow breaks the order of the list
-  pub broken : (begun_at : ℤ) → begun_at ≡ from → (point : Point) → (MayFollow to schema point → ⊥)
+  pub broken : (begun_at : ℤ) → begun_at ≡ from → (point : Point) → (MayFollowPoint to schema point → ⊥)
       → (first_left left next : Option (List Point)) (taken : Option Point) → taken ≡ Some point
       → Drains first_left left rest → TakesTold left taken next → HaveBrokenOrder schema begun_at first_left
   broken begun_at same point not first_left left next taken some drains takes all first told at rising typed =

@@ -8,22 +8,22 @@ use Rattle.tsdb_base.specs.declared.point.Point.{Point}
 use Rattle.tsdb_streams.proofs.OpenedFacts.{zip_all}
 use Rattle.tsdb_streams.proofs.Trees.{among_of, one_alone}
 use Rattle.tsdb_streams.specs.Files.{FilePages, HasReason}
-use Rattle.tsdb_streams.specs.Lanes.{IsSourceOf}
+use Rattle.tsdb_streams.specs.Lanes.{IsSourceOfStore}
 use Rattle.tsdb_streams.specs.Streams.{AreToldSources, AreTrueSources}
-use Rattle.tsdb_streams.specs.declared.source.Source.{Source}
-use Rattle.tsdb_streams.specs.declared.source.Source.TheVariants as lent
-use Rattle.tsdb_compactions.specs.Jobs.{IsFormed, input_files}
+use Rattle.tsdb_streams.specs.declared.source.StreamSource.{StreamSource}
+use Rattle.tsdb_streams.specs.declared.source.StreamSource.TheVariants as lent
+use Rattle.tsdb_compactions.specs.Jobs.{IsJobFormed, input_files}
 use Rattle.tsdb_compactions.specs.Outputs.{TellsInputs, TellsTruth, winner}
 use Rattle.tsdb_compactions.specs.declared.job.Input.{Input}
 use Rattle.tsdb_compactions.specs.declared.job.Job.{Job}
-use Rattle.tsdb_flush.specs.declared.part.Part.{Part}
+use Rattle.tsdb_flush.specs.declared.part.PartBuilder.{PartBuilder}
 use Rattle.tsdb_path.proofs.Order.{not_itself}
 use Rattle.tsdb_path.specs.Order.{AreNamesBefore}
 use Rattle.tsdb_inner.proofs.Sources.{all_survivors, owns, pages_of, told_sources, true_sources}
 use Rattle.tsdb_inner.specs.Copies.{Copies, AreDamaged, Survive}
-use Rattle.tsdb_inner.specs.Inputs.{IsInputOf, IsLentAs, TellsBytes}
-use Rattle.tsdb_inner.specs.Winners.{AreWinners, CopiesSeries}
-use Rattle.tsdb_flush.specs.Parts.{names_of}
+use Rattle.tsdb_inner.specs.Inputs.{IsInputOf, IsInputLent, TellsBytes}
+use Rattle.tsdb_inner.specs.Winners.{AreWinnersOfJob, CopiesSeries}
+use Rattle.tsdb_flush.specs.Parts.{schema_names}
 use Rattle.tsdb_base.proofs.Lists.{each_weaker}
 use Rattle.tsdb_base.specs.Lists.{Among, EachPair}
 use Rattle.tsdb_model.specs.declared.command.Schema.{Schema}
@@ -36,7 +36,7 @@ use Rattle.tsdb_outside.specs.declared.faults.StoreFault.TheVariants.{Failed, Me
 use Rattle.tsdb_path.specs.Nodes.{device_of, measurement_of, node_count}
 use Rattle.tsdb_streams.proofs.Sources.{merge_all, merge_values}
 use Rattle.tsdb_streams.specs.Survivors.{place_at}
-use Rattle.tsdb_state.specs.State.{Told}
+use Rattle.tsdb_state.specs.State.{ToldContents}
 use Rattle.tsdb_state.specs.Views.{file_layers}
 
 -- ---- causes
@@ -79,29 +79,29 @@ same_cause {S} {T} a b fault cause = record { later = cause.later; failed = λ i
 -- ---- schemas
 
 -- in the order of a tree one schema has a path
-one_schema : (schemas : List Schema) (a b : Schema) → EachPair (λ a b. AreNamesBefore (names_of a) (names_of b)) schemas → Among a schemas → Among b schemas
+one_schema : (schemas : List Schema) (a b : Schema) → EachPair (λ a b. AreNamesBefore (schema_names a) (schema_names b)) schemas → Among a schemas → Among b schemas
     → a.path ≡ b.path → a ≡ b
-one_schema schemas a b rising in_a in_b same = one_alone (λ a b. AreNamesBefore (names_of a) (names_of b)) schemas rising a b in_a in_b
-    (λ before. not_itself (names_of b) (subst (λ (p : List ℕ). AreNamesBefore (device_of p, measurement_of p) (names_of b)) same before))
-    (λ before. not_itself (names_of b) (subst (λ (p : List ℕ). AreNamesBefore (names_of b) (device_of p, measurement_of p)) same before))
+one_schema schemas a b rising in_a in_b same = one_alone (λ a b. AreNamesBefore (schema_names a) (schema_names b)) schemas rising a b in_a in_b
+    (λ before. not_itself (schema_names b) (subst (λ (p : List ℕ). AreNamesBefore (device_of p, measurement_of p) (schema_names b)) same before))
+    (λ before. not_itself (schema_names b) (subst (λ (p : List ℕ). AreNamesBefore (schema_names b) (device_of p, measurement_of p)) same before))
 
 module _ {F S R P : Type 0} (name : R → NamedFile) (job : Job F S R P) where
-  pub inputs_of_store : (store : Store) (sources : List (Source R)) → AllZip IsLentAs job.inputs sources
-      → Each (IsInputOf name store) job.inputs → All (IsSourceOf name store) sources
-  inputs_of_store store sources zip of = zip_all IsLentAs (IsInputOf name store) (IsSourceOf name store) job.inputs sources
+  pub inputs_of_store : (store : Store) (sources : List (StreamSource R)) → AllZip IsInputLent job.inputs sources
+      → Each (IsInputOf name store) job.inputs → All (IsSourceOfStore name store) sources
+  inputs_of_store store sources zip of = zip_all IsInputLent (IsInputOf name store) (IsSourceOfStore name store) job.inputs sources
       one zip (All-from_recursion (IsInputOf name store) job.inputs of)
     where
-      one : (input : Input F S R P) (source : Source R) → IsLentAs input source → IsInputOf name store input
-          → IsSourceOf name store source
+      one : (input : Input F S R P) (source : StreamSource R) → IsInputLent input source → IsInputOf name store input
+          → IsSourceOfStore name store source
       one input (lent.File right born) is of = subst (λ r. (name r).store ≡ store) (sym is.0) of
       one input (lent.Part points born) is of = absurd is
 
-  module _ (schema : Schema) (two : 2 ≤ node_count schema.path) (sources : List (Source R))
-      (zip : AllZip IsLentAs job.inputs sources) where
+  module _ (schema : Schema) (two : 2 ≤ node_count schema.path) (sources : List (StreamSource R))
+      (zip : AllZip IsInputLent job.inputs sources) where
     -- what a stream says of all pages holds of those that are told
     pub told_cause : {T U : Type 0} (a b : ℕ) (fault : StoreFault) → ((pages : FilePages)
         → AreTrueSources name schema.path pages sources → HasReason {T = T} (AreToldSources name pages sources) a b (Err fault))
-        → (told : Told) → TellsTruth name told job → HasStoreCause {T = U} a b (Err fault)
+        → (told : ToldContents) → TellsTruth name told job → HasStoreCause {T = U} a b (Err fault)
     told_cause a b fault reason told truth =
         let pages = pages_of name told schema.path two job.inputs truth.read in
         let owned = owns name told schema.path two job.inputs truth.read truth.apart in
@@ -110,13 +110,13 @@ module _ {F S R P : Type 0} (name : R → NamedFile) (job : Job F S R P) where
         (told_sources name told schema.path two pages job.inputs sources zip owned)
 
     -- the points of the sources that survive
-    record AreMerged (told : Told) : Type 0 where
+    record AreMerged (told : ToldContents) : Type 0 where
       pub pages : FilePages
       pub lists : List (List Point)
       pub survive : Survive name schema job.marks.marks sources pages lists
-      pub winners : (points : List Point) → IsMergeOf lists points → AreWinners told job schema.path points
+      pub winners : (points : List Point) → IsMergeOf lists points → AreWinnersOfJob told job schema.path points
 
-    merged : (told : Told) → TellsInputs name told job → AreMerged told
+    merged : (told : ToldContents) → TellsInputs name told job → AreMerged told
     merged told tells =
         let pages = pages_of name told schema.path two job.inputs tells.truth.read in
         let owned = owns name told schema.path two job.inputs tells.truth.read tells.truth.apart in
@@ -133,7 +133,7 @@ module _ {F S R P : Type 0} (name : R → NamedFile) (job : Job F S R P) where
           };
         }
 
-    pub copies_winners : (old new : Part) → Copies name schema job.marks.marks sources old new
+    pub copies_winners : (old new : PartBuilder) → Copies name schema job.marks.marks sources old new
         → CopiesSeries name job schema old new
     copies_winners old new copies = record {
       points = copies.points;
@@ -144,7 +144,7 @@ module _ {F S R P : Type 0} (name : R → NamedFile) (job : Job F S R P) where
     }
 
     -- the winners of inputs that tell their bytes are of their series' type
-    no_damage : IsFormed job → Among schema job.schemas → (told : Told) → TellsInputs name told job
+    no_damage : IsJobFormed job → Among schema job.schemas → (told : ToldContents) → TellsInputs name told job
         → AreDamaged name schema job.marks.marks sources → ⊥
     no_damage formed among told tells damage =
         let all = merged told tells in
@@ -157,9 +157,9 @@ module _ {F S R P : Type 0} (name : R → NamedFile) (job : Job F S R P) where
         (all.winners bad.0 bad.1).are)
 
     -- damage was counted, unless each input tells its bytes, and then there is none
-    pub damage_cause : {U : Type 0} (a b c : ℕ) → IsFormed job → Among schema job.schemas → a ≤ b → b ≤ c
+    pub damage_cause : {U : Type 0} (a b c : ℕ) → IsJobFormed job → Among schema job.schemas → a ≤ b → b ≤ c
         → (Each (TellsBytes name) job.inputs) ⊎ Rose b c → AreDamaged name schema job.marks.marks sources
-        → (told : Told) → TellsTruth name told job → HasStoreCause {T = U} a c (Err Failed)
+        → (told : ToldContents) → TellsTruth name told job → HasStoreCause {T = U} a c (Err Failed)
     damage_cause a b c formed among before later counted damage told truth = record {
       later = omega (arith, before, later);
       failed = λ is. ⊎_elim

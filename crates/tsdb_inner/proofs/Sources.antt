@@ -14,14 +14,14 @@ use Rattle.tsdb_streams.proofs.Trees.{among_of, contains_of}
 use Rattle.tsdb_streams.specs.Files.{FilePages, HasPages, IsTold, IsTruth}
 use Rattle.tsdb_streams.specs.Kept.{is_kept}
 use Rattle.tsdb_streams.specs.Lanes.{IsToldSource, IsTrueSource, source_left}
-use Rattle.tsdb_streams.specs.declared.source.Source.{Source}
-use Rattle.tsdb_streams.specs.declared.source.Source.TheVariants as lent
+use Rattle.tsdb_streams.specs.declared.source.StreamSource.{StreamSource}
+use Rattle.tsdb_streams.specs.declared.source.StreamSource.TheVariants as lent
 use Rattle.tsdb_compactions.specs.Jobs.{input_file}
-use Rattle.tsdb_compactions.specs.Outputs.{IsOneTold, IsRead}
+use Rattle.tsdb_compactions.specs.Outputs.{IsOneTold, IsInputRead}
 use Rattle.tsdb_compactions.specs.declared.job.Input.{Input}
 use Rattle.tsdb_inner.proofs.Told.{HasList, has_list}
 use Rattle.tsdb_inner.specs.Copies.{all_times}
-use Rattle.tsdb_inner.specs.Inputs.{IsLentAs, TellsBytes}
+use Rattle.tsdb_inner.specs.Inputs.{IsInputLent, TellsBytes}
 use Rattle.tsdb_base.proofs.Lists.{each_both}
 use Rattle.tsdb_base.specs.Lists.{Among, EachPair}
 use Rattle.tsdb_state.specs.Marks.{survives}
@@ -32,7 +32,7 @@ use Rattle.tsdb_outside.specs.Files.{NamedFile}
 use Rattle.tsdb_path.specs.Nodes.{device_of, measurement_of, node_count}
 use Rattle.tsdb_streams.specs.Pieces.{joined}
 use Rattle.tsdb_streams.specs.Survivors.{AreSurvivors, place_at}
-use Rattle.tsdb_state.specs.State.{Told}
+use Rattle.tsdb_state.specs.State.{ToldContents}
 use Rattle.tsdb_state.specs.Views.{file_layer, file_layers}
 
 -- ---- elements that a test keeps
@@ -88,19 +88,19 @@ either_is : {A : Type 0} (b : Bool) (x y z : A) → x ≡ z → y ≡ z → cond
 either_is true x y z first second = first
 either_is false x y z first second = second
 
-module _ {F S R P : Type 0} (name : R → NamedFile) (told : Told) (path : List ℕ) (two : 2 ≤ node_count path) where
+module _ {F S R P : Type 0} (name : R → NamedFile) (told : ToldContents) (path : List ℕ) (two : 2 ≤ node_count path) where
   abbrev pub Reads : Input F S R P → Type 0
-  Reads input = IsSome (name input.right).bytes → IsRead name told input
+  Reads input = IsSome (name input.right).bytes → IsInputRead name told input
 
   abbrev pub Lists : Input F S R P → Type 0
   Lists input = HasList path (told input.number.0) (name input.right)
 
-  abbrev pub list_of : (input : Input F S R P) → IsRead name told input → Lists input
+  abbrev pub list_of : (input : Input F S R P) → IsInputRead name told input → Lists input
   list_of input read = has_list path two told (name input.right) (input_file input) read
 
   -- ---- the pages of one input
 
-  abbrev pub own_of : (input : Input F S R P) (bytes : Option (List ℕ)) → (IsSome bytes → IsRead name told input)
+  abbrev pub own_of : (input : Input F S R P) (bytes : Option (List ℕ)) → (IsSome bytes → IsInputRead name told input)
       → Option (List (List Point))
   own_of input None read = None
   own_of input (Some bytes) read = Some (list_of input (read refl)).list
@@ -112,7 +112,7 @@ module _ {F S R P : Type 0} (name : R → NamedFile) (told : Told) (path : List 
       → IfSome (own input read) (HasPages (device_of path, measurement_of path) (name input.right))
   own_true input read = by (name input.right).bytes read
     where
-      by : (bytes : Option (List ℕ)) (read : IsSome bytes → IsRead name told input)
+      by : (bytes : Option (List ℕ)) (read : IsSome bytes → IsInputRead name told input)
           → IfSome (own_of input bytes read) (HasPages (device_of path, measurement_of path) (name input.right))
       by None read = tt
       by (Some bytes) read = (list_of input (read refl)).pages
@@ -125,7 +125,7 @@ module _ {F S R P : Type 0} (name : R → NamedFile) (told : Told) (path : List 
   own_list : (input : Input F S R P) (read : Reads input) → TellsBytes name input → OwnList input read
   own_list input read tells = record { has = (at (name input.right).bytes read tells).0; is = (at (name input.right).bytes read tells).1 }
     where
-      at : (bytes : Option (List ℕ)) (read : IsSome bytes → IsRead name told input) → IsSome bytes
+      at : (bytes : Option (List ℕ)) (read : IsSome bytes → IsInputRead name told input) → IsSome bytes
           → (has : Lists input) × (own_of input bytes read ≡ Some has.list)
       at None read tells = absurd (false≢true tells)
       at (Some bytes) read tells = (list_of input (read refl), refl)
@@ -144,7 +144,7 @@ module _ {F S R P : Type 0} (name : R → NamedFile) (told : Told) (path : List 
   abbrev pub Owns : FilePages → Input F S R P → Type 0
   Owns pages input = (read : Reads input) × (pages (name input.right).number ≡ own input read)
 
-  own_none : (input : Input F S R P) (bytes : Option (List ℕ)) (read : IsSome bytes → IsRead name told input)
+  own_none : (input : Input F S R P) (bytes : Option (List ℕ)) (read : IsSome bytes → IsInputRead name told input)
       → bytes ≡ None → own_of input bytes read ≡ None
   own_none input None read is = refl
   own_none input (Some bytes) read is = absurd cc
@@ -191,7 +191,7 @@ module _ {F S R P : Type 0} (name : R → NamedFile) (told : Told) (path : List 
   )
 
   module _ (pages : FilePages) where
-    true_source : (input : Input F S R P) (source : Source R) → IsLentAs input source → Owns pages input
+    true_source : (input : Input F S R P) (source : StreamSource R) → IsInputLent input source → Owns pages input
         → IsTrueSource name (device_of path, measurement_of path) pages source
     true_source input (lent.File right born) is owned =
         subst (λ r. IsTruth (device_of path, measurement_of path) pages (name r)) (sym is.0)
@@ -199,23 +199,23 @@ module _ {F S R P : Type 0} (name : R → NamedFile) (told : Told) (path : List 
         (own_true input owned.0))
     true_source input (lent.Part points born) is owned = absurd is
 
-    told_source : (input : Input F S R P) (source : Source R) → IsLentAs input source → Owns pages input
+    told_source : (input : Input F S R P) (source : StreamSource R) → IsInputLent input source → Owns pages input
         → IsToldSource name pages source
     told_source input (lent.File right born) is owned = subst (λ r. IsTold pages (name r)) (sym is.0)
         (λ bytes named. let its = own_list input owned.0 (tells_bytes input bytes named) in
         (its.has.list, owned.1 ∙ its.is))
     told_source input (lent.Part points born) is owned = absurd is
 
-    pub true_sources : (inputs : List (Input F S R P)) (sources : List (Source R)) → AllZip IsLentAs inputs sources
+    pub true_sources : (inputs : List (Input F S R P)) (sources : List (StreamSource R)) → AllZip IsInputLent inputs sources
         → Each (Owns pages) inputs → All (IsTrueSource name (device_of path, measurement_of path) pages) sources
     true_sources inputs sources zip owned =
-        zip_all IsLentAs (Owns pages) (IsTrueSource name (device_of path, measurement_of path) pages) inputs sources
+        zip_all IsInputLent (Owns pages) (IsTrueSource name (device_of path, measurement_of path) pages) inputs sources
         true_source zip (All-from_recursion (Owns pages) inputs owned)
 
-    pub told_sources : (inputs : List (Input F S R P)) (sources : List (Source R)) → AllZip IsLentAs inputs sources
+    pub told_sources : (inputs : List (Input F S R P)) (sources : List (StreamSource R)) → AllZip IsInputLent inputs sources
         → Each (Owns pages) inputs → All (IsToldSource name pages) sources
     told_sources inputs sources zip owned =
-        zip_all IsLentAs (Owns pages) (IsToldSource name pages) inputs sources told_source zip
+        zip_all IsInputLent (Owns pages) (IsToldSource name pages) inputs sources told_source zip
         (All-from_recursion (Owns pages) inputs owned)
 
     -- ---- the points that survive
@@ -241,13 +241,13 @@ module _ {F S R P : Type 0} (name : R → NamedFile) (told : Told) (path : List 
             );
       }
 
-      pub record Survivors (inputs : List (Input F S R P)) (sources : List (Source R)) : Type 0 where
+      pub record Survivors (inputs : List (Input F S R P)) (sources : List (StreamSource R)) : Type 0 where
         pub lists : List (List Point)
         pub left : map (source_left name pages (is_kept path all_times marks)) sources ≡ map (λ (l : List Point). Some l) lists
         pub rising : All IsRising lists
         pub are : AllZip (AreSurvivors marks path) (file_layers told (map input_file inputs)) lists
 
-      one_left : (input : Input F S R P) (source : Source R) → IsLentAs input source → (owned : Owns pages input)
+      one_left : (input : Input F S R P) (source : StreamSource R) → IsInputLent input source → (owned : Owns pages input)
           → (its : OwnList input owned.0)
           → source_left name pages (is_kept path all_times marks) source ≡ Some (filter (is_kept path all_times marks input.born.0) (joined its.has.list))
       one_left input (lent.File right born) is owned its =
@@ -256,7 +256,7 @@ module _ {F S R P : Type 0} (name : R → NamedFile) (told : Told) (path : List 
           ∙ ap (λ b. Some (filter (is_kept path all_times marks b) (joined its.has.list))) (ap (λ s. s.0) is.1)
       one_left input (lent.Part points born) is owned its = absurd is
 
-      pub all_survivors : (inputs : List (Input F S R P)) (sources : List (Source R)) → AllZip IsLentAs inputs sources
+      pub all_survivors : (inputs : List (Input F S R P)) (sources : List (StreamSource R)) → AllZip IsInputLent inputs sources
           → Each (Owns pages) inputs → Each (TellsBytes name) inputs → Survivors inputs sources
       all_survivors [] [] zip owned tells = record { lists = []; left = refl; rising = All-nil IsRising; are = tt }
       all_survivors [] (source ∷ sources) zip owned tells = absurd zip

@@ -19,7 +19,7 @@ use Rattle.tsdb_model.specs.World.{is_in}
 use Rattle.tsdb_base.specs.Points.{IsRising}
 use Rattle.tsdb_outside.specs.Files.{NamedFile}
 use Rattle.tsdb_pages.specs.Pages.{IsInRange}
-use Rattle.tsdb_pages.specs.Trees.{HasParts, IsChunk, IsGroup, IsMade, IsTree, chunks_of, points_of}
+use Rattle.tsdb_pages.specs.Trees.{HasParts, IsChunk, IsGroup, IsMade, IsTree, chunks_of, page_points}
 use Rattle.tsdb_pages.specs.declared.tree.Chunk.{Chunk}
 use Rattle.tsdb_pages.specs.declared.tree.Group.{Group}
 use Rattle.tsdb_pages.specs.declared.tree.Page.{Page}
@@ -27,10 +27,10 @@ use Rattle.tsdb_pages.specs.declared.tree.Tree.{Tree}
 use Rattle.tsdb_path.proofs.Bytes.{IsNode-dotless}
 use Rattle.tsdb_path.proofs.Parts.{child_of-device_of, device_of-child, measurement_of-child}
 use Rattle.tsdb_path.specs.Nodes.{child_of, device_of, measurement_of, node_count}
-use Rattle.tsdb_state.specs.Stores.{HasTreePoint, IsContentOf, IsWhole}
+use Rattle.tsdb_state.specs.Stores.{HasTreePoint, IsTreeContent, IsWhole}
 use Rattle.tsdb_streams.specs.Pieces.{joined}
 use Rattle.tsdb_streams.specs.Survivors.{place_at}
-use Rattle.tsdb_state.specs.State.{File, Told}
+use Rattle.tsdb_state.specs.State.{File, ToldContents}
 
 -- ---- lists
 
@@ -40,7 +40,7 @@ among_flat f [] x y there here = absurd there
 among_flat f (z ∷ xs) x y (inl is) here = among_left (f z) (flat_map f xs) y (subst (λ w. Among y (f w)) (sym is) here)
 among_flat f (z ∷ xs) x y (inr there) here = among_right (f z) (flat_map f xs) y (among_flat f xs x y there here)
 
-joined_points : (pages : List Page) → joined (map (λ (page : Page). page.points) pages) ≡ points_of pages
+joined_points : (pages : List Page) → joined (map (λ (page : Page). page.points) pages) ≡ page_points pages
 joined_points [] = refl
 joined_points (page ∷ pages) = ap (λ l. page.points ++ l) (joined_points pages)
 
@@ -72,7 +72,7 @@ module _ (path : List ℕ) (two : 2 ≤ node_count path) (tree : Tree) (is : IsT
         each_among IsChunk found.group.chunks found.chunk (recursion_from_All IsChunk found.group.chunks group.chunks)
         found.in_group
 
-    to_tree : (time : ℤ) (value : Value) → Among (record { time = time; value = value }) (points_of found.chunk.pages)
+    to_tree : (time : ℤ) (value : Value) → Among (record { time = time; value = value }) (page_points found.chunk.pages)
         → HasTreePoint tree (place_at path time) value
     to_tree time value among = record {
       group = found.group;
@@ -105,7 +105,7 @@ module _ (path : List ℕ) (two : 2 ≤ node_count path) (tree : Tree) (is : IsT
 
   from_tree : (found : At tree.groups (device_of path, measurement_of path)) (time : ℤ) (value : Value)
       → HasTreePoint tree (place_at path time) value
-      → Among (record { time = time; value = value }) (points_of found.chunk.pages)
+      → Among (record { time = time; value = value }) (page_points found.chunk.pages)
   unfolding at_point
   from_tree found time value has =
       let same : has.chunk ≡ found.chunk =
@@ -113,10 +113,10 @@ module _ (path : List ℕ) (two : 2 ≤ node_count path) (tree : Tree) (is : IsT
       let point : has.point ≡ record { time = time; value = value } =
       ap (λ (t : ℤ). record { time = t; value = has.point.value }) has.time
       ∙ ap (λ (v : Value). record { time = time; value = v }) has.has in
-      subst (λ (chunk : Chunk). Among (record { time = time; value = value }) (points_of chunk.pages)) same
-      (subst (λ (p : Point). Among p (points_of has.chunk.pages)) point has.in_chunk)
+      subst (λ (chunk : Chunk). Among (record { time = time; value = value }) (page_points chunk.pages)) same
+      (subst (λ (p : Point). Among p (page_points has.chunk.pages)) point has.in_chunk)
 
-  pub tree_list : (content : Content) → IsContentOf tree content → (name : NamedFile)
+  pub tree_list : (content : Content) → IsTreeContent tree content → (name : NamedFile)
       → ((list : List (List Point)) → ArePagesIn tree (device_of path, measurement_of path) list
       → HasPages (device_of path, measurement_of path) name list) → HasList path content name
   tree_list content of name pages = by (listed_pages tree (device_of path, measurement_of path) is)
@@ -127,13 +127,13 @@ module _ (path : List ℕ) (two : 2 ≤ node_count path) (tree : Tree) (is : IsT
           with_chunk : (found : At tree.groups (device_of path, measurement_of path))
               × (listed.list ≡ pages_of found.chunk) → HasList path content name
           with_chunk found =
-              let points : joined listed.list ≡ points_of found.0.chunk.pages =
+              let points : joined listed.list ≡ page_points found.0.chunk.pages =
               ap joined found.1 ∙ joined_points found.0.chunk.pages in record {
                 list = listed.list;
                 pages = pages listed.list listed.are;
                 rising = subst IsRising (sym points) (whole found.0).rising;
-                within = λ point among. in_all_times point.time (each_among IsInRange (points_of found.0.chunk.pages) point
-                    (recursion_from_All IsInRange (points_of found.0.chunk.pages) (parts found.0).points)
+                within = λ point among. in_all_times point.time (each_among IsInRange (page_points found.0.chunk.pages) point
+                    (recursion_from_All IsInRange (page_points found.0.chunk.pages) (parts found.0).points)
                     (subst (Among point) points among)).0;
                 are = λ time value. (
                   λ among. (of (place_at path time) value).1 (to_tree found.0 time value
@@ -158,7 +158,7 @@ module _ (path : List ℕ) (two : 2 ≤ node_count path) (tree : Tree) (is : IsT
               }
 
 -- a whole file has the points that are told of it
-pub has_list : (path : List ℕ) → 2 ≤ node_count path → (told : Told) (name : NamedFile) (file : File)
+pub has_list : (path : List ℕ) → 2 ≤ node_count path → (told : ToldContents) (name : NamedFile) (file : File)
     → IsWhole (λ number. name.bytes) told file → HasList path (told file.number) name
 has_list path two told name file whole =
     tree_list path two whole.tree whole.is_tree whole.is_made (told file.number) whole.content name

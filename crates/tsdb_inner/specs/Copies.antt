@@ -8,10 +8,10 @@ use Rattle.tsdb_streams.specs.Files.{FilePages}
 use Rattle.tsdb_streams.specs.Kept.{is_kept}
 use Rattle.tsdb_streams.specs.Lanes.{source_left}
 use Rattle.tsdb_streams.specs.Streams.{AreTrueSources}
-use Rattle.tsdb_streams.specs.declared.source.Source.{Source}
-use Rattle.tsdb_flush.specs.Making.{IsPart}
+use Rattle.tsdb_streams.specs.declared.source.StreamSource.{StreamSource}
+use Rattle.tsdb_flush.specs.Making.{IsPartInMaking}
 use Rattle.tsdb_flush.specs.MakingSteps.{ComeBefore}
-use Rattle.tsdb_flush.specs.declared.part.Part.{Part}
+use Rattle.tsdb_flush.specs.declared.part.PartBuilder.{PartBuilder}
 use Rattle.tsdb_flush.specs.Parts.{Filled, if_any}
 use Rattle.tsdb_model.specs.declared.command.Schema.{Schema}
 use Rattle.tsdb_marks.specs.declared.marks.Mark.{Mark}
@@ -28,14 +28,16 @@ abbrev pub AreOfType : Schema → List Point → Type 0
 AreOfType schema points = Each (λ point. type_of point.value ≡ schema.data_type) points
 
 -- the series was added with these points, if it has any
-pub record Adds (schema : Schema) (points : List Point) (old new : Part) : Type 0 where
-  pub ok : (part : List Filled) → IsPart part old → ComeBefore part schema → IsPart (part ++ if_any schema points) new
+pub record Adds (schema : Schema) (points : List Point) (old new : PartBuilder) : Type 0 where
+  pub ok : (part : List Filled) → IsPartInMaking part old → ComeBefore part schema
+      → IsPartInMaking (part ++ if_any schema points) new
 
 -- where a list is told, these are its points
-abbrev pub IsLeft : Option (List Point) → List Point → Type 0
-IsLeft left points = (all : List Point) → left ≡ Some all → points ≡ all
+abbrev pub AreToldPoints : Option (List Point) → List Point → Type 0
+AreToldPoints left points = (all : List Point) → left ≡ Some all → points ≡ all
 
-module _ {R : Type 0} (file : R → NamedFile) (schema : Schema) (marks : List Mark) (sources : List (Source R)) where
+module _ {R : Type 0} (file : R → NamedFile) (schema : Schema) (marks : List Mark)
+    (sources : List (StreamSource R)) where
   -- where it is told what the sources have, these are the points of the series that marks leave of each
   abbrev pub Survive : FilePages → List (List Point) → Type 0
   Survive pages lists = AreTrueSources file schema.path pages sources
@@ -43,7 +45,7 @@ module _ {R : Type 0} (file : R → NamedFile) (schema : Schema) (marks : List M
       × All IsRising lists
 
   -- the series was added with points in order of time; where all is told, at each time with that of the last source
-  pub record Copies (old new : Part) : Type 0 where
+  pub record Copies (old new : PartBuilder) : Type 0 where
     pub points : List Point
     pub adds : Adds schema points old new
     pub rising : IsRising points

@@ -2,15 +2,15 @@
 use Rattle.std.specs.Prelude.{◌≡◌, IsSome}
 use Rattle.tsdb_streams.specs.Indexed.{IsIndexed, IsWholeFile, source_of}
 use Rattle.tsdb_streams.specs.declared.source.IndexedFile.{IndexedFile}
-use Rattle.tsdb_streams.specs.declared.source.Source.{Source}
-use Rattle.tsdb_streams.specs.declared.source.Source.TheVariants.{File, Part}
+use Rattle.tsdb_streams.specs.declared.source.StreamSource.{StreamSource}
+use Rattle.tsdb_streams.specs.declared.source.StreamSource.TheVariants.{File, Part}
 use Rattle.tsdb_compactions.specs.declared.job.Input.{Input}
 use Rattle.tsdb_outside.specs.Files.{NamedFile, Store}
 
 -- the input, lent
-abbrev pub IsLentAs : {F S R P : Type 0} → Input F S R P → Source R → Type 0
-IsLentAs input (File right born) = (right.now ≡ input.right) × (born ≡ input.born)
-IsLentAs input (Part points born) = ⊥
+abbrev pub IsInputLent : {F S R P : Type 0} → Input F S R P → StreamSource R → Type 0
+IsInputLent input (File right born) = (right.now ≡ input.right) × (born ≡ input.born)
+IsInputLent input (Part points born) = ⊥
 
 module _ {F S R P : Type 0} (file : R → NamedFile) where
   -- the input is a file of the store
@@ -22,9 +22,9 @@ module _ {F S R P : Type 0} (file : R → NamedFile) where
   TellsBytes input = IsSome (file input.right).bytes
 
   -- where the right to read the input tells bytes, they are those of a tree
-  abbrev pub IsWhole : Input F S R P → Type 0
-  IsWhole input = IsWholeFile (file input.right)
+  abbrev pub IsWholeInput : Input F S R P → Type 0
+  IsWholeInput input = IsWholeFile (file input.right)
 
   -- the input, lent with the index that was read of it
   abbrev pub IsOpenedAs : Input F S R P → IndexedFile R → Type 0
-  IsOpenedAs input indexed = IsLentAs input (source_of indexed) × IsIndexed file indexed
+  IsOpenedAs input indexed = IsInputLent input (source_of indexed) × IsIndexed file indexed

@@ -3,18 +3,18 @@ ghost use Rattle.std.specs.Prelude.{◌≡◌, ◌↔◌, ◌≤◌, All, IfOk, 
 ghost use Rattle.tsdb_base.specs.declared.point.Point.{Point as PointOf};
 ghost use Rattle.tsdb_streams.specs.Files.{FilePages, HasReason};
 ghost use Rattle.tsdb_streams.specs.Indexed.{IsIndexed, source_of};
-ghost use Rattle.tsdb_streams.specs.Lanes.{IsSourceOf};
+ghost use Rattle.tsdb_streams.specs.Lanes.{IsSourceOfStore};
 ghost use Rattle.tsdb_streams.specs.Streams.{AreToldSources, AreTrueSources, IsStreamOfStore, IsToldStream};
 ghost use Rattle.tsdb_streams.specs.Streams.{IsTrueStream, stream_left};
 ghost use Rattle.tsdb_flush.specs.Making.{MayAdd};
-ghost use Rattle.tsdb_inner.specs.Copies.{Copies, AreDamaged, IsLeft};
-ghost use Rattle.tsdb_inner.specs.Steps.{HasBegun, HaveBrokenOrder, MayFollow, Puts};
+ghost use Rattle.tsdb_inner.specs.Copies.{Copies, AreDamaged, AreToldPoints};
+ghost use Rattle.tsdb_inner.specs.Steps.{HasBegun, HaveBrokenOrder, MayFollowPoint, PutsSeries};
 ghost use Rattle.tsdb_model.specs.Commands.{IsSchema};
 ghost use Rattle.tsdb_path.specs.Nodes.{node_count};
 
 use std::alloc::Global;
 use tsdb_base::{Point, Range, Time};
-use tsdb_flush::Part;
+use tsdb_flush::PartBuilder;
 use tsdb_marks::Marks;
 use tsdb_model::Schema;
 use tsdb_outside::{Port, StoreFault};
@@ -28,7 +28,7 @@ const ALL_TIMES: Range = Range {
 
 /// Whether the point is of the series' type and later than the time.
 fn may_follow(to: Time, schema: &Schema, point: &Point) -> bool
-    ensures { IsTrue result ↔ MayFollow to schema.now point.now }
+    ensures { IsTrue result ↔ MayFollowPoint to schema.now point.now }
 {
     to < point.time && point.value.data_type() == schema.data_type
 }
@@ -39,7 +39,7 @@ fn put_rest<P: Port>(
     stream: &mut Stream<'_, P::Right>,
     schema: &Schema,
     from: Time,
-    part: &mut Part,
+    part: &mut PartBuilder,
     port: &mut P,
 ) -> Result<bool, StoreFault>
     requires nodes { 2 ≤ node_count schema.now.path }
@@ -47,9 +47,9 @@ fn put_rest<P: Port>(
     requires works { stream.old.fault ≡ None }
     requires begun { HasBegun schema.now from part.old }
     ensures put { IfOk result (λ whole. whole ≡ true → (rest : List PointOf)
-        × Puts schema.now from rest part.old part.new
+        × PutsSeries schema.now from rest part.old part.new
         × ((pages : FilePages) → IsTrueStream P.Right.file pages stream.old
-        → IsLeft (stream_left P.Right.file pages stream.old) rest)) }
+        → AreToldPoints (stream_left P.Right.file pages stream.old) rest)) }
     ensures damaged { IfOk result (λ whole. whole ≡ false → (pages : FilePages)
         → IsTrueStream P.Right.file pages stream.old
         → HaveBrokenOrder schema.now from (stream_left P.Right.file pages stream.old)) }
@@ -80,12 +80,12 @@ pub(crate) fn copy_series<'a, P: Port>(
     schema: &'a Schema,
     marks: &'a Marks,
     files: &[IndexedFile<'a, P::Right>],
-    part: &mut Part,
+    part: &mut PartBuilder,
     port: &mut P,
 ) -> Result<bool, StoreFault>
     requires schema { IsSchema schema.now }
     requires indexed { All (IsIndexed P.Right.file) files.now }
-    requires of_store { All (IsSourceOf P.Right.file (P.store port.old)) (map source_of files.now) }
+    requires of_store { All (IsSourceOfStore P.Right.file (P.store port.old)) (map source_of files.now) }
     requires follows { MayAdd part.old schema.now }
     ensures copied { IfOk result (λ whole. whole ≡ true
         → Copies P.Right.file schema.now marks.now.marks (map source_of files.now) part.old part.new) }

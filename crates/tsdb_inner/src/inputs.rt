@@ -3,7 +3,7 @@ ghost use Rattle.std.specs.List.{AllByRecursion as Each, AllZip};
 ghost use Rattle.std.specs.Prelude.{◌≡◌, ◌≤◌, ◌⊎◌, IfOk};
 ghost use Rattle.tsdb_base.specs.Causes.{Rose};
 ghost use Rattle.tsdb_streams.specs.Files.{HasReason};
-ghost use Rattle.tsdb_inner.specs.Inputs.{IsInputOf, IsOpenedAs, IsWhole, TellsBytes};
+ghost use Rattle.tsdb_inner.specs.Inputs.{IsInputOf, IsOpenedAs, IsWholeInput, TellsBytes};
 
 use std::alloc::Global;
 use tsdb_compactions::Input;
@@ -18,7 +18,8 @@ fn open_input<'a, F: Files>(
 ) -> Result<IndexedFile<'a, F::Right>, StoreFault>
     requires of_store { IsInputOf F.Right.file (F.Port.store port.old) input.now }
     ensures opened { IfOk result (IsOpenedAs F.Right.file input.now) }
-    ensures reason { HasReason (IsWhole F.Right.file input.now) (F.Port.faults port.old) (F.Port.faults port.new) result }
+    ensures reason { HasReason (IsWholeInput F.Right.file input.now) (F.Port.faults port.old)
+        (F.Port.faults port.new) result }
     ensures later { F.Port.faults port.old ≤ F.Port.faults port.new }
     ensures same_store { F.Port.store port.new ≡ F.Port.store port.old }
 {
@@ -33,7 +34,7 @@ pub(crate) fn open_inputs<'a, F: Files>(
 ) -> Result<Vec<IndexedFile<'a, F::Right>>, StoreFault>
     requires of_store { Each (IsInputOf F.Right.file (F.Port.store port.old)) inputs.now }
     ensures opened { IfOk result (λ files. AllZip (IsOpenedAs F.Right.file) inputs.now files.items) }
-    ensures reason { HasReason (Each (IsWhole F.Right.file) inputs.now)
+    ensures reason { HasReason (Each (IsWholeInput F.Right.file) inputs.now)
         (F.Port.faults port.old) (F.Port.faults port.new) result }
     ensures later { F.Port.faults port.old ≤ F.Port.faults port.new }
     ensures same_store { F.Port.store port.new ≡ F.Port.store port.old }

@@ -15,12 +15,12 @@ use Rattle.tsdb_path.specs.Nodes.{IsPath}
 use Rattle.tsdb_log.specs.declared.record.CellRecord.{CellRecord}
 use Rattle.tsdb_log.specs.declared.record.LogRecord.{LogRecord}
 use Rattle.tsdb_log.specs.declared.record.LogRecord.TheVariants.{Create, Insert, Delete, Freeze, Flushed, Replaced, Snapshot}
-use Rattle.tsdb_log.specs.Spelling.{joined_fields, cell_fields, fields, file_fields, files_fields, space_field, spelling, AreFiles, IsCell, IsFile, IsRecord}
+use Rattle.tsdb_log.specs.Spelling.{joined_fields, cell_fields, fields, file_fields, files_fields, space_field, spelling, AreFiles, IsCell, IsFileField, IsRecord}
 use Rattle.tsdb_log.specs.Rows.{both, field, place_row, space_row, output_row, AreBoth, ArePlace, AreSpace, AreOutput, IsAny, IsNumber64, IsRowForm}
 use Rattle.tsdb_log.specs.RowLaws.{row_of_field, row_of_both}
 use Rattle.tsdb_log.specs.PartLaws.{path_free, space_free, rows_of_values, cell_rows, file_rows}
 use Rattle.tsdb_log.specs.SnapshotLaws.{SnapshotRow, snapshot_row, IsSnapshotRow, snapshot_rows, made_snapshot, row_of_snapshot, is_row_of_snapshot, is_made_snapshot}
-use Rattle.tsdb_log.specs.ViewLaws.{IsWrittenAs, row_as, behind_kind, IsOfKind, kind_of, kind_first, kind_same, row_of_kind}
+use Rattle.tsdb_log.specs.ViewLaws.{IsWrittenAs, row_as, behind_kind, IsOfKind, record_kind, kind_first, kind_same, row_of_kind}
 
 -- ---- create
 
@@ -162,11 +162,11 @@ abbrev pub files_row : ℕ × List FileNumber → List (List ℕ)
 files_row = both (field number32) (flat_map file_fields)
 
 abbrev pub IsFilesRow : ℕ × List FileNumber → Type 0
-IsFilesRow = AreBoth (λ n. n < 2 ^ 32) (AreValues IsFile)
+IsFilesRow = AreBoth (λ n. n < 2 ^ 32) (AreValues IsFileField)
 
 pub files_row_rows : IsRowForm files_row IsFilesRow
-files_row_rows = row_of_both (field number32) (flat_map file_fields) (λ n. n < 2 ^ 32) (AreValues IsFile) (row_of_field number32 (λ n. n < 2 ^ 32) number32-prefix_free)
-    (λ n few. rows_of_values file_fields IsFile file_rows n)
+files_row_rows = row_of_both (field number32) (flat_map file_fields) (λ n. n < 2 ^ 32) (AreValues IsFileField) (row_of_field number32 (λ n. n < 2 ^ 32) number32-prefix_free)
+    (λ n few. rows_of_values file_fields IsFileField file_rows n)
 
 -- files behind their number, as a record has them
 pub files_as : IsWrittenAs files_row IsFilesRow files_fields AreFiles
@@ -243,7 +243,7 @@ snapshot_as = record {
 
 -- ---- all records
 
-freeze_alone : (item : LogRecord) → kind_of item ≡ 4 → item ≡ Freeze
+freeze_alone : (item : LogRecord) → record_kind item ≡ 4 → item ≡ Freeze
 freeze_alone (Create path data_type encoding) e = absurd (omega arith)
 freeze_alone (Insert time cells) e = absurd (omega arith)
 freeze_alone (Delete path range) e = absurd (omega arith)
@@ -271,7 +271,7 @@ nothing_rows = record {
   full = λ a behind j is r. let none = none_first r.first r.more r.begins in let place = r.place in omega arith;
 }
 
-rows_of_kind : (item : LogRecord) → IsRowForm fields (IsOfKind (kind_of item))
+rows_of_kind : (item : LogRecord) → IsRowForm fields (IsOfKind (record_kind item))
 rows_of_kind (Create path data_type encoding) = row_of_kind 1 create_row IsCreate create_as create_rows
 rows_of_kind (Insert time cells) = row_of_kind 2 insert_row IsInsert insert_as insert_rows
 rows_of_kind (Delete path range) = row_of_kind 3 delete_row IsDelete delete_as delete_rows
@@ -293,7 +293,7 @@ record_rows = record {
       let kind = kind_first whole in
       let own = kind_first a in
       let heads = sym kind.1 ∙ begins in
-      let byte : kind_of whole ∷ [] ≡ f = cc in
+      let byte : record_kind whole ∷ [] ≡ f = cc in
       let bytes = sym (ap (λ (l : List (List ℕ)). joined_fields l ++ behind) own.1) ∙ splits ∙ ap (λ (l : List ℕ). (l ++ joined_fields fs) ++ rest) (sym byte) in
-      let same : kind_of whole ≡ kind_of a = cc in
+      let same : record_kind whole ≡ record_kind a = cc in
       (rows_of_kind a).full a behind j (is, refl) (record { whole = whole; is = (is_whole, same); first = f ∷ fs; more = more; rest = rest; begins = begins; splits = splits; place = place })

@@ -20,7 +20,7 @@ use Rattle.tsdb_path.specs.Nodes.{IsPath}
 use Rattle.tsdb_fields.specs.declared.fault.FieldFault.{FieldFault}
 use Rattle.tsdb_fields.specs.declared.fault.FieldFault.TheVariants as field
 use Rattle.tsdb_log.specs.declared.fault.LogFault.TheVariants as log
-use Rattle.tsdb_log.specs.Places.{Reaches, IsBad, IsFurthest}
+use Rattle.tsdb_log.specs.Places.{ReachesField, IsBadRecord, IsFurthest}
 use Rattle.std.proofs.lemmas.List.{append-nil}
 use Rattle.tsdb_fields.specs.declared.rest.Rest.{Rest}
 use Rattle.tsdb_fields.specs.Reading.{TakesBytes, Reads}
@@ -29,10 +29,10 @@ use Rattle.tsdb_log.specs.declared.record.CellRecord.{CellRecord}
 use Rattle.tsdb_log.specs.declared.record.LogRecord.{LogRecord}
 use Rattle.tsdb_log.specs.declared.record.LogRecord.TheVariants.{Delete, Freeze, Insert, Replaced}
 use Rattle.tsdb_log.specs.Rows.{field, output_row, AreOutput, IsAny, IsNumber64}
-use Rattle.tsdb_log.specs.Spelling.{joined_fields, cell_fields, fields, file_fields, files_fields, spelling, AreFiles, IsCell, IsFile, IsRecord}
-use Rattle.tsdb_log.specs.Steps.{BeginsWithRecord, IsMissing, Fails, log_fault}
+use Rattle.tsdb_log.specs.Spelling.{joined_fields, cell_fields, fields, file_fields, files_fields, spelling, AreFiles, IsCell, IsFileField, IsRecord}
+use Rattle.tsdb_log.specs.Steps.{BeginsWithRecord, IsMissingField, FailsToRead, log_fault}
 use Rattle.tsdb_log.specs.RowLaws.{bytes_append}
-use Rattle.tsdb_log.specs.ViewLaws.{kind_of, kind_first, kind_range}
+use Rattle.tsdb_log.specs.ViewLaws.{record_kind, kind_first, kind_range}
 use Rattle.tsdb_log.specs.ListLaws.{copies, values_of_list}
 use Rattle.tsdb_log.proofs.Faults.{field_fails, first_fails, second_fails, behind_field, fails_as, kind_fails, record_fails, one, takes_record}
 use Rattle.tsdb_base.specs.Values.{type_of, IsValue, IsValueOf}
@@ -51,27 +51,27 @@ some_cells n =
     let list = copies IsCell cell is n in
     (list.0, values_of_list IsCell n list.0 list.1)
 
-some_files : (n : ℕ) → (files : List FileNumber) × AreValues IsFile n files
+some_files : (n : ℕ) → (files : List FileNumber) × AreValues IsFileField n files
 some_files n =
     let file : FileNumber = record { 0 = 0 } in
-    let is : IsFile file = omega arith in
-    let list = copies IsFile file is n in
-    (list.0, values_of_list IsFile n list.0 list.1)
+    let is : IsFileField file = omega arith in
+    let list = copies IsFileField file is n in
+    (list.0, values_of_list IsFileField n list.0 list.1)
 
 no_files : (files : List FileNumber) × AreFiles files
-no_files = ([], (omega arith, All-nil IsFile))
+no_files = ([], (omega arith, All-nil IsFileField))
 
 -- ---- a value behind its type
 
 pub typed_type : (rest : Rest) (fault : FieldFault) → Reads type_field IsAny rest (λ (v : DataType). v) (Err fault)
-    → Fails typed_fields IsValue rest.at rest.bytes.now fault
+    → FailsToRead typed_fields IsValue rest.at rest.bytes.now fault
 typed_type rest fault reads =
     fails_as value_row IsValueRow typed_fields IsValue rest.at rest.bytes.now fault typed_as
     (first_fails (field type_field) (field value_field) IsAny IsValueOf rest.at rest.bytes.now fault (λ t any. some_value t)
     (field_fails type_field IsAny rest (λ (v : DataType). v) fault Boolean tt reads))
 
 pub typed_value : (t : DataType) (rest behind : Rest) (fault : FieldFault) → TakesBytes rest (type_field t) behind
-    → Reads value_field (IsValueOf t) behind (λ (v : Value). v) (Err fault) → Fails typed_fields IsValue rest.at rest.bytes.now fault
+    → Reads value_field (IsValueOf t) behind (λ (v : Value). v) (Err fault) → FailsToRead typed_fields IsValue rest.at rest.bytes.now fault
 typed_value t rest behind fault takes reads =
     fails_as value_row IsValueRow typed_fields IsValue rest.at rest.bytes.now fault typed_as
     (behind_field type_field (field value_field) IsAny IsValueOf type_field-prefix_free t rest behind fault tt takes
@@ -88,14 +88,14 @@ takes_typed t v rest middle behind takes takes_value is = (
 
 -- ---- create
 
-pub create_path : (rest : Rest) (fault : FieldFault) → rest.at ≡ 1 → Reads plain_text IsPath rest (λ (v : List ℕ). v) (Err fault) → Fails fields IsRecord 0 (1 ∷ rest.bytes.now) fault
+pub create_path : (rest : Rest) (fault : FieldFault) → rest.at ≡ 1 → Reads plain_text IsPath rest (λ (v : List ℕ). v) (Err fault) → FailsToRead fields IsRecord 0 (1 ∷ rest.bytes.now) fault
 create_path rest fault first reads =
     kind_fails 1 create_row IsCreate rest fault first create_as
     (first_fails (field plain_text) type_row IsPath (λ _. IsTypeRow) rest.at rest.bytes.now fault (λ path is. ((Boolean, Plain), (tt, tt)))
     (field_fails plain_text IsPath rest (λ (v : List ℕ). v) fault root.0 root.1 reads))
 
 pub create_type : (path : List ℕ) (rest behind : Rest) (fault : FieldFault) → rest.at ≡ 1 → IsPath path → TakesBytes rest (plain_text path) behind
-    → Reads type_field IsAny behind (λ (v : DataType). v) (Err fault) → Fails fields IsRecord 0 (1 ∷ rest.bytes.now) fault
+    → Reads type_field IsAny behind (λ (v : DataType). v) (Err fault) → FailsToRead fields IsRecord 0 (1 ∷ rest.bytes.now) fault
 create_type path rest behind fault first is takes reads =
     kind_fails 1 create_row IsCreate rest fault first create_as
     (behind_field plain_text type_row IsPath (λ _. IsTypeRow) path_free path rest behind fault is takes
@@ -103,7 +103,7 @@ create_type path rest behind fault first is takes reads =
     (field_fails type_field IsAny behind (λ (v : DataType). v) fault Boolean tt reads)))
 
 pub create_encoding : (path : List ℕ) (t : DataType) (rest middle behind : Rest) (fault : FieldFault) → rest.at ≡ 1 → IsPath path → TakesBytes rest (plain_text path) middle → TakesBytes middle (type_field t) behind
-    → Reads encoding_field IsAny behind (λ (v : Encoding). v) (Err fault) → Fails fields IsRecord 0 (1 ∷ rest.bytes.now) fault
+    → Reads encoding_field IsAny behind (λ (v : Encoding). v) (Err fault) → FailsToRead fields IsRecord 0 (1 ∷ rest.bytes.now) fault
 create_encoding path t rest middle behind fault first is takes_path takes reads =
     kind_fails 1 create_row IsCreate rest fault first create_as
     (behind_field plain_text type_row IsPath (λ _. IsTypeRow) path_free path rest middle fault is takes_path
@@ -112,14 +112,14 @@ create_encoding path t rest middle behind fault first is takes_path takes reads 
 
 -- ---- insert
 
-pub insert_time : (rest : Rest) (fault : FieldFault) → rest.at ≡ 1 → Reads plain_i64 (FitsSigned w64) rest (λ (v : ℤ). v) (Err fault) → Fails fields IsRecord 0 (2 ∷ rest.bytes.now) fault
+pub insert_time : (rest : Rest) (fault : FieldFault) → rest.at ≡ 1 → Reads plain_i64 (FitsSigned w64) rest (λ (v : ℤ). v) (Err fault) → FailsToRead fields IsRecord 0 (2 ∷ rest.bytes.now) fault
 insert_time rest fault first reads =
     kind_fails 2 insert_row IsInsert rest fault first insert_as
     (first_fails (field plain_i64) cells_row (FitsSigned w64) (λ _. IsCellsRow) rest.at rest.bytes.now fault (λ t is. ((0, (some_cells 0).0), (omega arith, (some_cells 0).1)))
     (field_fails plain_i64 (FitsSigned w64) rest (λ (v : ℤ). v) fault some_time.0 some_time.1 reads))
 
 pub insert_count : (time : ℤ) (rest behind : Rest) (fault : FieldFault) → rest.at ≡ 1 → FitsSigned w64 time → TakesBytes rest (plain_i64 time) behind
-    → Reads number16 (λ (n : ℕ). n < 2 ^ 16) behind (λ (v : ℕ). v) (Err fault) → Fails fields IsRecord 0 (2 ∷ rest.bytes.now) fault
+    → Reads number16 (λ (n : ℕ). n < 2 ^ 16) behind (λ (v : ℕ). v) (Err fault) → FailsToRead fields IsRecord 0 (2 ∷ rest.bytes.now) fault
 insert_count time rest behind fault first is takes reads =
     kind_fails 2 insert_row IsInsert rest fault first insert_as
     (behind_field plain_i64 cells_row (FitsSigned w64) (λ _. IsCellsRow) plain_i64-prefix_free time rest behind fault is takes
@@ -127,7 +127,7 @@ insert_count time rest behind fault first is takes reads =
     (field_fails number16 (λ n. n < 2 ^ 16) behind (λ (v : ℕ). v) fault 0 (omega arith) reads)))
 
 pub insert_cells : (time : ℤ) (n : ℕ) (rest middle behind : Rest) (fault : FieldFault) → rest.at ≡ 1 → FitsSigned w64 time → TakesBytes rest (plain_i64 time) middle → n < 2 ^ 16 → TakesBytes middle (number16 n) behind
-    → Fails (flat_map cell_fields) (AreValues IsCell n) behind.at behind.bytes.now fault → Fails fields IsRecord 0 (2 ∷ rest.bytes.now) fault
+    → FailsToRead (flat_map cell_fields) (AreValues IsCell n) behind.at behind.bytes.now fault → FailsToRead fields IsRecord 0 (2 ∷ rest.bytes.now) fault
 insert_cells time n rest middle behind fault first is takes_time few takes fails =
     kind_fails 2 insert_row IsInsert rest fault first insert_as
     (behind_field plain_i64 cells_row (FitsSigned w64) (λ _. IsCellsRow) plain_i64-prefix_free time rest middle fault is takes_time
@@ -135,14 +135,14 @@ insert_cells time n rest middle behind fault first is takes_time few takes fails
 
 -- ---- delete
 
-pub delete_path : (rest : Rest) (fault : FieldFault) → rest.at ≡ 1 → Reads plain_text IsPath rest (λ (v : List ℕ). v) (Err fault) → Fails fields IsRecord 0 (3 ∷ rest.bytes.now) fault
+pub delete_path : (rest : Rest) (fault : FieldFault) → rest.at ≡ 1 → Reads plain_text IsPath rest (λ (v : List ℕ). v) (Err fault) → FailsToRead fields IsRecord 0 (3 ∷ rest.bytes.now) fault
 delete_path rest fault first reads =
     kind_fails 3 delete_row IsDelete rest fault first delete_as
     (first_fails (field plain_text) times IsPath (λ _. AreTimes) rest.at rest.bytes.now fault (λ path is. ((some_time.0, some_time.0), (some_time.1, some_time.1)))
     (field_fails plain_text IsPath rest (λ (v : List ℕ). v) fault root.0 root.1 reads))
 
 pub delete_from : (path : List ℕ) (rest behind : Rest) (fault : FieldFault) → rest.at ≡ 1 → IsPath path → TakesBytes rest (plain_text path) behind
-    → Reads plain_i64 (FitsSigned w64) behind (λ (v : ℤ). v) (Err fault) → Fails fields IsRecord 0 (3 ∷ rest.bytes.now) fault
+    → Reads plain_i64 (FitsSigned w64) behind (λ (v : ℤ). v) (Err fault) → FailsToRead fields IsRecord 0 (3 ∷ rest.bytes.now) fault
 delete_from path rest behind fault first is takes reads =
     kind_fails 3 delete_row IsDelete rest fault first delete_as
     (behind_field plain_text times IsPath (λ _. AreTimes) path_free path rest behind fault is takes
@@ -150,7 +150,7 @@ delete_from path rest behind fault first is takes reads =
     (field_fails plain_i64 (FitsSigned w64) behind (λ (v : ℤ). v) fault some_time.0 some_time.1 reads)))
 
 pub delete_to : (path : List ℕ) (from : ℤ) (rest middle behind : Rest) (fault : FieldFault) → rest.at ≡ 1 → IsPath path → TakesBytes rest (plain_text path) middle → FitsSigned w64 from → TakesBytes middle (plain_i64 from) behind
-    → Reads plain_i64 (FitsSigned w64) behind (λ (v : ℤ). v) (Err fault) → Fails fields IsRecord 0 (3 ∷ rest.bytes.now) fault
+    → Reads plain_i64 (FitsSigned w64) behind (λ (v : ℤ). v) (Err fault) → FailsToRead fields IsRecord 0 (3 ∷ rest.bytes.now) fault
 delete_to path from rest middle behind fault first is takes_path fits takes reads =
     kind_fails 3 delete_row IsDelete rest fault first delete_as
     (behind_field plain_text times IsPath (λ _. AreTimes) path_free path rest middle fault is takes_path
@@ -159,14 +159,14 @@ delete_to path from rest middle behind fault first is takes_path fits takes read
 
 -- ---- flushed
 
-pub flushed_sequence : (rest : Rest) (fault : FieldFault) → rest.at ≡ 1 → Reads number64 IsNumber64 rest (λ (v : ℕ). v) (Err fault) → Fails fields IsRecord 0 (5 ∷ rest.bytes.now) fault
+pub flushed_sequence : (rest : Rest) (fault : FieldFault) → rest.at ≡ 1 → Reads number64 IsNumber64 rest (λ (v : ℕ). v) (Err fault) → FailsToRead fields IsRecord 0 (5 ∷ rest.bytes.now) fault
 flushed_sequence rest fault first reads =
     kind_fails 5 flushed_row IsFlushed rest fault first flushed_as
     (first_fails (field number64) (field number64) IsNumber64 (λ _. IsNumber64) rest.at rest.bytes.now fault (λ n is. some_number)
     (field_fails number64 IsNumber64 rest (λ (v : ℕ). v) fault some_number.0 some_number.1 reads))
 
 pub flushed_unsequence : (sequence : ℕ) (rest behind : Rest) (fault : FieldFault) → rest.at ≡ 1 → IsNumber64 sequence → TakesBytes rest (number64 sequence) behind
-    → Reads number64 IsNumber64 behind (λ (v : ℕ). v) (Err fault) → Fails fields IsRecord 0 (5 ∷ rest.bytes.now) fault
+    → Reads number64 IsNumber64 behind (λ (v : ℕ). v) (Err fault) → FailsToRead fields IsRecord 0 (5 ∷ rest.bytes.now) fault
 flushed_unsequence sequence rest behind fault first is takes reads =
     kind_fails 5 flushed_row IsFlushed rest fault first flushed_as
     (behind_field number64 (field number64) IsNumber64 (λ _. IsNumber64) number64-prefix_free sequence rest behind fault is takes
@@ -174,25 +174,25 @@ flushed_unsequence sequence rest behind fault first is takes reads =
 
 -- ---- reads_replaced
 
-pub files_count : (rest : Rest) (fault : FieldFault) → Reads number32 (λ (n : ℕ). n < 2 ^ 32) rest (λ (v : ℕ). v) (Err fault) → Fails files_fields AreFiles rest.at rest.bytes.now fault
+pub files_count : (rest : Rest) (fault : FieldFault) → Reads number32 (λ (n : ℕ). n < 2 ^ 32) rest (λ (v : ℕ). v) (Err fault) → FailsToRead files_fields AreFiles rest.at rest.bytes.now fault
 files_count rest fault reads =
     fails_as files_row IsFilesRow files_fields AreFiles rest.at rest.bytes.now fault files_as
-    (first_fails (field number32) (flat_map file_fields) (λ n. n < 2 ^ 32) (AreValues IsFile) rest.at rest.bytes.now fault (λ n few. some_files n)
+    (first_fails (field number32) (flat_map file_fields) (λ n. n < 2 ^ 32) (AreValues IsFileField) rest.at rest.bytes.now fault (λ n few. some_files n)
     (field_fails number32 (λ n. n < 2 ^ 32) rest (λ (v : ℕ). v) fault 0 (omega arith) reads))
 
 pub files_numbers : (n : ℕ) (rest behind : Rest) (fault : FieldFault) → n < 2 ^ 32 → TakesBytes rest (number32 n) behind
-    → Fails (flat_map file_fields) (AreValues IsFile n) behind.at behind.bytes.now fault → Fails files_fields AreFiles rest.at rest.bytes.now fault
+    → FailsToRead (flat_map file_fields) (AreValues IsFileField n) behind.at behind.bytes.now fault → FailsToRead files_fields AreFiles rest.at rest.bytes.now fault
 files_numbers n rest behind fault few takes fails =
     fails_as files_row IsFilesRow files_fields AreFiles rest.at rest.bytes.now fault files_as
-    (behind_field number32 (flat_map file_fields) (λ n. n < 2 ^ 32) (AreValues IsFile) number32-prefix_free n rest behind fault few takes fails)
+    (behind_field number32 (flat_map file_fields) (λ n. n < 2 ^ 32) (AreValues IsFileField) number32-prefix_free n rest behind fault few takes fails)
 
-pub replaced_output : (bytes : List ℕ) (fault : FieldFault) → Fails output_row AreOutput 1 bytes fault → Fails fields IsRecord 0 (6 ∷ bytes) fault
+pub replaced_output : (bytes : List ℕ) (fault : FieldFault) → FailsToRead output_row AreOutput 1 bytes fault → FailsToRead fields IsRecord 0 (6 ∷ bytes) fault
 replaced_output bytes fault fails =
     record_fails 6 replaced_row IsReplaced bytes fault replaced_as
     (first_fails output_row inputs AreOutput (λ _. AreInputs) 1 bytes fault (λ o is. ((no_files.0, no_files.0), (no_files.1, no_files.1))) fails)
 
 pub replaced_sequence : (output : ℕ × (Space × (ℕ × ℕ))) (rest behind : Rest) (fault : FieldFault) → rest.at ≡ 1 → AreOutput output → TakesBytes rest (joined_fields (output_row output)) behind
-    → Fails files_fields AreFiles behind.at behind.bytes.now fault → Fails fields IsRecord 0 (6 ∷ rest.bytes.now) fault
+    → FailsToRead files_fields AreFiles behind.at behind.bytes.now fault → FailsToRead fields IsRecord 0 (6 ∷ rest.bytes.now) fault
 replaced_sequence output rest behind fault first is takes fails =
     kind_fails 6 replaced_row IsReplaced rest fault first replaced_as
     (second_fails output_row inputs AreOutput (λ _. AreInputs) output_rows output rest behind fault is takes
@@ -200,7 +200,7 @@ replaced_sequence output rest behind fault first is takes fails =
 
 pub replaced_unsequence : (output : ℕ × (Space × (ℕ × ℕ))) (sequence : List FileNumber) (rest middle behind : Rest) (fault : FieldFault) → rest.at ≡ 1 → AreOutput output
     → TakesBytes rest (joined_fields (output_row output)) middle → AreFiles sequence → TakesBytes middle (joined_fields (files_fields sequence)) behind
-    → Fails files_fields AreFiles behind.at behind.bytes.now fault → Fails fields IsRecord 0 (6 ∷ rest.bytes.now) fault
+    → FailsToRead files_fields AreFiles behind.at behind.bytes.now fault → FailsToRead fields IsRecord 0 (6 ∷ rest.bytes.now) fault
 replaced_unsequence output sequence rest middle behind fault first is takes_output are takes fails =
     kind_fails 6 replaced_row IsReplaced rest fault first replaced_as
     (second_fails output_row inputs AreOutput (λ _. AreInputs) output_rows output rest middle fault is takes_output
@@ -239,10 +239,10 @@ reads_replaced born space place output sequence unsequence rest first middle beh
 
 -- ---- no record's first byte stands there
 
-pub no_kind : (bytes : List ℕ) → ((n : ℕ) (more : List ℕ) → bytes ≡ n ∷ more → 1 ≤ n → n ≤ 7 → ⊥) → IsMissing fields IsRecord 0 bytes 0
+pub no_kind : (bytes : List ℕ) → ((n : ℕ) (more : List ℕ) → bytes ≡ n ∷ more → 1 ≤ n → n ≤ 7 → ⊥) → IsMissingField fields IsRecord 0 bytes 0
 no_kind bytes none = record {
   none = λ item behind is e. let kind = kind_first item in
-      none (kind_of item) _ (e ∙ ap (λ (l : List (List ℕ)). joined_fields l ++ behind) kind.1) (kind_range item).0 (kind_range item).1;
+      none (record_kind item) _ (e ∙ ap (λ (l : List (List ℕ)). joined_fields l ++ behind) kind.1) (kind_range item).0 (kind_range item).1;
   count = 0;
   place = refl;
   furthest = record {
@@ -255,12 +255,12 @@ no_kind bytes none = record {
   near j item (f ∷ fs) more rest begins splits place =
       let kind = kind_first item in
       let both-are = sym kind.1 ∙ begins in
-      let byte : kind_of item ∷ [] ≡ f = cc in
-      absurd (none (kind_of item) (joined_fields fs ++ rest) (splits ∙ ap (λ (l : List ℕ). (l ++ joined_fields fs) ++ rest) (sym byte)) (kind_range item).0 (kind_range item).1)
+      let byte : record_kind item ∷ [] ≡ f = cc in
+      absurd (none (record_kind item) (joined_fields fs ++ rest) (splits ∙ ap (λ (l : List ℕ). (l ++ joined_fields fs) ++ rest) (sym byte)) (kind_range item).0 (kind_range item).1)
 
 -- ---- whole payloads
 
-pub bad_field : (bytes : List ℕ) (fault : FieldFault) (at : ℕ) → Fails fields IsRecord 0 bytes fault → log_fault fault ≡ log.Bad at → IsBad bytes at
+pub bad_field : (bytes : List ℕ) (fault : FieldFault) (at : ℕ) → FailsToRead fields IsRecord 0 bytes fault → log_fault fault ≡ log.Bad at → IsBadRecord bytes at
 bad_field bytes (field.Bad k) at fails e =
     let same : k ≡ at = cc in
     let place = fails.place in
@@ -271,7 +271,7 @@ bad_field bytes (field.Bad k) at fails e =
     }
 bad_field bytes field.Memory at fails e = absurd cc
 
-pub memory_alone : (bytes : List ℕ) (fault : FieldFault) (item : LogRecord) → Fails fields IsRecord 0 bytes fault → IsRecord item → bytes ≡ spelling item → log_fault fault ≡ log.Memory
+pub memory_alone : (bytes : List ℕ) (fault : FieldFault) (item : LogRecord) → FailsToRead fields IsRecord 0 bytes fault → IsRecord item → bytes ≡ spelling item → log_fault fault ≡ log.Memory
 memory_alone bytes (field.Bad k) item fails is e = absurd (fails.none item [] is (e ∙ sym (append-nil (spelling item))))
 memory_alone bytes field.Memory item fails is e = refl
 
@@ -280,7 +280,7 @@ more_behind : (bytes : List ℕ) (item : LogRecord) (rest : Rest) (other : LogRe
 more_behind bytes item rest other begins is e =
     record_rows.free item other rest.bytes.now [] begins.is is (sym begins.splits ∙ e ∙ sym (append-nil (spelling other)))
 
-pub bytes_behind : (bytes : List ℕ) (item : LogRecord) (rest : Rest) → BeginsWithRecord bytes item rest → 0 < length rest.bytes.now → IsBad bytes rest.at
+pub bytes_behind : (bytes : List ℕ) (item : LogRecord) (rest : Rest) → BeginsWithRecord bytes item rest → 0 < length rest.bytes.now → IsBadRecord bytes rest.at
 bytes_behind bytes item rest begins some = record {
   none = λ other is e.
       let same = more_behind bytes item rest other begins is e in
@@ -298,7 +298,7 @@ bytes_behind bytes item rest begins some = record {
       place = begins.place;
     };
     none_beyond = λ j r.
-        let there = subst (λ (l : List ℕ). Reaches fields IsRecord l j) begins.splits r in
+        let there = subst (λ (l : List ℕ). ReachesField fields IsRecord l j) begins.splits r in
         let le = record_rows.full item rest.bytes.now j begins.is there in
         let place = begins.place in
         omega arith;

@@ -16,7 +16,7 @@ use Rattle.tsdb_log.specs.PartLaws.{counted_as, counted_row, IsCountedRow}
 use Rattle.tsdb_log.specs.Rows.{field, IsNumber64}
 use Rattle.tsdb_log.specs.Snapshots.{counted_fields, AreCounted}
 use Rattle.tsdb_log.specs.Spelling.{joined_fields}
-use Rattle.tsdb_log.specs.Steps.{Fails, ReadsFields}
+use Rattle.tsdb_log.specs.Steps.{FailsToRead, ReadsFields}
 use Rattle.tsdb_log.specs.RowLaws.{bytes_append, bytes_length}
 use Rattle.tsdb_log.specs.ListLaws.{copies, values_of_list}
 use Rattle.tsdb_log.proofs.Wholes.{row_more}
@@ -40,7 +40,7 @@ takes_pair first second old middle new taken more =
 
 -- the number of parts does not stand there
 pub counted_count : {A : Type 0} (row : A → List (List ℕ)) (Is : A → Type 0) (some : A) → Is some → (old : Rest) (fault : FieldFault)
-    → Reads number64 IsNumber64 old (λ (v : ℕ). v) (Err fault) → Fails (counted_fields row) (AreCounted Is) old.at old.bytes.now fault
+    → Reads number64 IsNumber64 old (λ (v : ℕ). v) (Err fault) → FailsToRead (counted_fields row) (AreCounted Is) old.at old.bytes.now fault
 counted_count row Is some is old fault reads =
     fails_as (counted_row row) (IsCountedRow Is) (counted_fields row) (AreCounted Is) old.at old.bytes.now fault (counted_as row Is)
     (first_fails (field number64) (flat_map row) IsNumber64 (AreValues Is) old.at old.bytes.now fault
@@ -49,8 +49,8 @@ counted_count row Is some is old fault reads =
 
 -- a part is missing behind their number
 pub counted_parts : {A : Type 0} (row : A → List (List ℕ)) (Is : A → Type 0) (n : ℕ) (old middle : Rest) (fault : FieldFault) → IsNumber64 n
-    → TakesBytes old (number64 n) middle → Fails (flat_map row) (AreValues Is n) middle.at middle.bytes.now fault
-    → Fails (counted_fields row) (AreCounted Is) old.at old.bytes.now fault
+    → TakesBytes old (number64 n) middle → FailsToRead (flat_map row) (AreValues Is n) middle.at middle.bytes.now fault
+    → FailsToRead (counted_fields row) (AreCounted Is) old.at old.bytes.now fault
 counted_parts row Is n old middle fault few takes fails =
     fails_as (counted_row row) (IsCountedRow Is) (counted_fields row) (AreCounted Is) old.at old.bytes.now fault (counted_as row Is)
     (behind_field number64 (flat_map row) IsNumber64 (AreValues Is) number64-prefix_free n old middle fault few takes fails)

@@ -22,7 +22,7 @@ use Rattle.tsdb_path.specs.Nodes.{IsPath}
 use Rattle.tsdb_log.specs.declared.record.CellRecord.{CellRecord}
 use Rattle.tsdb_log.specs.declared.record.LogRecord.{LogRecord}
 use Rattle.tsdb_log.specs.declared.record.LogRecord.TheVariants.{Create, Insert, Delete, Freeze, Flushed, Replaced, Snapshot}
-use Rattle.tsdb_log.specs.Spelling.{joined_fields, cell_fields, file_fields, files_fields, output_fields, space_field, spelling, AreFiles, FitsFrame, IsCell, IsFile, IsRecord}
+use Rattle.tsdb_log.specs.Spelling.{joined_fields, cell_fields, file_fields, files_fields, output_fields, space_field, spelling, AreFiles, FitsFrame, IsCell, IsFileField, IsRecord}
 use Rattle.tsdb_log.specs.RowLaws.{bytes_length}
 use Rattle.tsdb_log.proofs.Wholes.{replaced_spelling}
 
@@ -77,12 +77,12 @@ cells_length : (cells : List CellRecord) → length cells ≤ 1000 → All IsCel
 cells_length cells few all =
     omega (arith, rows_length cell_fields IsCell 65546 cell_length cells (recursion_from_All IsCell cells all), mul-le 65546 (length cells) 65546 1000 (omega arith) few)
 
-file_length : (file : FileNumber) → IsFile file → length (joined_fields (file_fields file)) ≤ 8
+file_length : (file : FileNumber) → IsFileField file → length (joined_fields (file_fields file)) ≤ 8
 file_length file is = omega arith
 
 files_length : (files : List FileNumber) → length files ≤ 100000000 → AreFiles files → length (joined_fields (files_fields files)) ≤ 800000004
 files_length files few are =
-    omega (arith, rows_length file_fields IsFile 8 file_length files (recursion_from_All IsFile files are.1), mul-le 8 (length files) 8 100000000 (omega arith) few)
+    omega (arith, rows_length file_fields IsFileField 8 file_length files (recursion_from_All IsFileField files are.1), mul-le 8 (length files) 8 100000000 (omega arith) few)
 
 path_length : (path : List ℕ) → IsPath path → length (plain_text path) ≤ 257
 path_length path is = let short = is.1.short in omega arith

@@ -12,11 +12,11 @@ use Rattle.tsdb_log.specs.declared.snapshot.PairRecord.{PairRecord}
 use Rattle.tsdb_log.specs.declared.snapshot.TableRecord.{TableRecord}
 use Rattle.tsdb_log.specs.PartLaws.{none_counted}
 use Rattle.tsdb_log.specs.SnapshotLaws.{Numbers, Lists, front_row, IsFrontRow, front_rows, back_row, IsBackRow, frozen_rows, frozen_row, IsFrozenRow, frozen_as, byte_field, IsByte, byte_free, some_frozen_pair, two_tables, AreTwoTables, snapshot_row, IsSnapshotRow, made_snapshot, is_made_snapshot}
-use Rattle.tsdb_log.specs.Snapshots.{frozen_fields, pair_fields, snapshot_fields, AreFrozen, IsPair, IsTable}
+use Rattle.tsdb_log.specs.Snapshots.{frozen_fields, pair_fields, snapshot_fields, AreFrozen, IsPairRecord, IsTable}
 use Rattle.tsdb_log.specs.Spelling.{joined_fields, fields, IsRecord}
 use Rattle.tsdb_log.specs.Rows.{field}
 use Rattle.tsdb_log.specs.ListLaws.{copies, values_of_list}
-use Rattle.tsdb_log.specs.Steps.{BeginsWithRecord, Fails}
+use Rattle.tsdb_log.specs.Steps.{BeginsWithRecord, FailsToRead}
 use Rattle.tsdb_log.proofs.Bodies.{snapshot_as}
 use Rattle.tsdb_log.proofs.Faults.{behind_field, fails_as, field_fails, first_fails, second_fails, kind_fails, record_fails, takes_record}
 use Rattle.tsdb_log.proofs.Parts.{takes_pair}
@@ -25,23 +25,23 @@ no_tables : (p : List TableRecord × List TableRecord) × AreTwoTables p
 no_tables = (((none_counted IsTable).0, (none_counted IsTable).0), ((none_counted IsTable).1, (none_counted IsTable).1))
 
 no_pairs : (pairs : List PairRecord) × AreFrozen pairs
-no_pairs = ([], (omega arith, All-nil IsPair))
+no_pairs = ([], (omega arith, All-nil IsPairRecord))
 
 pub frozen_count : (old : Rest) (fault : FieldFault) → Reads byte_field IsByte old (λ (v : ℕ). v) (Err fault)
-    → Fails frozen_fields AreFrozen old.at old.bytes.now fault
+    → FailsToRead frozen_fields AreFrozen old.at old.bytes.now fault
 frozen_count old fault reads =
     fails_as frozen_row IsFrozenRow frozen_fields AreFrozen old.at old.bytes.now fault frozen_as
-    (first_fails (field byte_field) (flat_map pair_fields) IsByte (AreValues IsPair) old.at old.bytes.now fault
-    (λ n few. let list = copies IsPair some_frozen_pair.0 some_frozen_pair.1 n in (list.0, values_of_list IsPair n list.0 list.1))
+    (first_fails (field byte_field) (flat_map pair_fields) IsByte (AreValues IsPairRecord) old.at old.bytes.now fault
+    (λ n few. let list = copies IsPairRecord some_frozen_pair.0 some_frozen_pair.1 n in (list.0, values_of_list IsPairRecord n list.0 list.1))
     (field_fails byte_field IsByte old (λ (v : ℕ). v) fault 0 (omega arith) reads))
 
 pub frozen_pairs : (n : ℕ) (old middle : Rest) (fault : FieldFault) → IsByte n → TakesBytes old (byte_field n) middle
-    → Fails (flat_map pair_fields) (AreValues IsPair n) middle.at middle.bytes.now fault → Fails frozen_fields AreFrozen old.at old.bytes.now fault
+    → FailsToRead (flat_map pair_fields) (AreValues IsPairRecord n) middle.at middle.bytes.now fault → FailsToRead frozen_fields AreFrozen old.at old.bytes.now fault
 frozen_pairs n old middle fault few takes fails =
     fails_as frozen_row IsFrozenRow frozen_fields AreFrozen old.at old.bytes.now fault frozen_as
-    (behind_field byte_field (flat_map pair_fields) IsByte (AreValues IsPair) byte_free n old middle fault few takes fails)
+    (behind_field byte_field (flat_map pair_fields) IsByte (AreValues IsPairRecord) byte_free n old middle fault few takes fails)
 
-pub takes_frozen : (n : ℕ) (pairs : List PairRecord) (old middle new : Rest) → IsByte n → TakesBytes old (byte_field n) middle → AreValues IsPair n pairs
+pub takes_frozen : (n : ℕ) (pairs : List PairRecord) (old middle new : Rest) → IsByte n → TakesBytes old (byte_field n) middle → AreValues IsPairRecord n pairs
     → TakesBytes middle (joined_fields (flat_map pair_fields pairs)) new → TakesBytes old (joined_fields (frozen_fields pairs)) new × AreFrozen pairs
 takes_frozen n pairs old middle new few takes are more =
     let count = are.0 in (
@@ -50,15 +50,15 @@ takes_frozen n pairs old middle new few takes are more =
       (omega arith, are.1),
     )
 
-pub snapshot_front : (bytes : List ℕ) (fault : FieldFault) → Fails front_row IsFrontRow 1 bytes fault → Fails fields IsRecord 0 (7 ∷ bytes) fault
+pub snapshot_front : (bytes : List ℕ) (fault : FieldFault) → FailsToRead front_row IsFrontRow 1 bytes fault → FailsToRead fields IsRecord 0 (7 ∷ bytes) fault
 snapshot_front bytes fault fails =
     record_fails 7 snapshot_row IsSnapshotRow bytes fault snapshot_as
     (first_fails front_row back_row IsFrontRow (λ _. IsBackRow) 1 bytes fault
     (λ f is. ((no_pairs.0, no_tables.0), (no_pairs.1, no_tables.1))) fails)
 
 pub snapshot_frozen : (front : Numbers × Lists) (rest behind : Rest) (fault : FieldFault) → rest.at ≡ 1 → IsFrontRow front
-    → TakesBytes rest (joined_fields (front_row front)) behind → Fails frozen_fields AreFrozen behind.at behind.bytes.now fault
-    → Fails fields IsRecord 0 (7 ∷ rest.bytes.now) fault
+    → TakesBytes rest (joined_fields (front_row front)) behind → FailsToRead frozen_fields AreFrozen behind.at behind.bytes.now fault
+    → FailsToRead fields IsRecord 0 (7 ∷ rest.bytes.now) fault
 snapshot_frozen front rest behind fault first is takes fails =
     kind_fails 7 snapshot_row IsSnapshotRow rest fault first snapshot_as
     (second_fails front_row back_row IsFrontRow (λ _. IsBackRow) front_rows front rest behind fault is takes
@@ -66,7 +66,7 @@ snapshot_frozen front rest behind fault first is takes fails =
 
 pub snapshot_tables : (front : Numbers × Lists) (frozen : List PairRecord) (rest middle behind : Rest) (fault : FieldFault) → rest.at ≡ 1
     → IsFrontRow front → TakesBytes rest (joined_fields (front_row front)) middle → AreFrozen frozen → TakesBytes middle (joined_fields (frozen_fields frozen)) behind
-    → Fails two_tables AreTwoTables behind.at behind.bytes.now fault → Fails fields IsRecord 0 (7 ∷ rest.bytes.now) fault
+    → FailsToRead two_tables AreTwoTables behind.at behind.bytes.now fault → FailsToRead fields IsRecord 0 (7 ∷ rest.bytes.now) fault
 snapshot_tables front frozen rest middle behind fault first is takes are takes_frozen fails =
     kind_fails 7 snapshot_row IsSnapshotRow rest fault first snapshot_as
     (second_fails front_row back_row IsFrontRow (λ _. IsBackRow) front_rows front rest middle fault is takes

@@ -39,8 +39,8 @@ pub record IsFormedPair (snapshot : Snapshot) (pair : PairRecord) : Type 0 where
   pub unsequence : IsFormedPart snapshot.schemas pair.unsequence
 
 -- how many points tables have
-abbrev pub points_in : List TableRecord → ℕ
-points_in tables = sum_by (λ table. length table.points) tables
+abbrev pub table_point_count : List TableRecord → ℕ
+table_point_count tables = sum_by (λ table. length table.points) tables
 
 -- all points are of one device and at one time
 pub record AreOneRow (schemas : List SchemaRecord) (tables : List TableRecord) : Type 0 where
@@ -68,14 +68,14 @@ pub record HasOrderedMarks (snapshot : Snapshot) : Type 0 where
   pub reached : All (λ mark. mark.version.0 ≤ snapshot.stamp.0) snapshot.marks
 
 -- the files of both lists
-abbrev pub files_of : Snapshot → List FileRecord
-files_of snapshot = snapshot.sequence ++ snapshot.unsequence
+abbrev pub snapshot_files : Snapshot → List FileRecord
+snapshot_files snapshot = snapshot.sequence ++ snapshot.unsequence
 
 -- files have different numbers, below that of the next one, and borns of at most the stamp
 pub record HasFormedFiles (snapshot : Snapshot) : Type 0 where
-  pub differ : AllPairs (λ file other. file.number.0 ≢ other.number.0) (files_of snapshot)
-  pub numbers : All (λ file. (1 ≤ file.number.0) × (file.number.0 < snapshot.next_file)) (files_of snapshot)
-  pub reached : All (λ file. file.born.0 ≤ snapshot.stamp.0) (files_of snapshot)
+  pub differ : AllPairs (λ file other. file.number.0 ≢ other.number.0) (snapshot_files snapshot)
+  pub numbers : All (λ file. (1 ≤ file.number.0) × (file.number.0 < snapshot.next_file)) (snapshot_files snapshot)
+  pub reached : All (λ file. file.born.0 ≤ snapshot.stamp.0) (snapshot_files snapshot)
 
 -- at most two frozen pairs, the oldest first
 pub record HasFormedFrozen (snapshot : Snapshot) : Type 0 where
@@ -87,7 +87,7 @@ pub record HasFormedFrozen (snapshot : Snapshot) : Type 0 where
 pub record HasFormedWorking (snapshot : Snapshot) : Type 0 where
   pub sequence : IsFormedPart snapshot.schemas snapshot.working_sequence
   pub unsequence : IsFormedPart snapshot.schemas snapshot.working_unsequence
-  pub limit : (points_in (snapshot.working_sequence ++ snapshot.working_unsequence) ≤ max_pair_points)
+  pub limit : (table_point_count (snapshot.working_sequence ++ snapshot.working_unsequence) ≤ max_pair_points)
       ⊎ AreOneRow snapshot.schemas (snapshot.working_sequence ++ snapshot.working_unsequence)
 
 -- a slot can begin with the snapshot

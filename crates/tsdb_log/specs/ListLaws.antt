@@ -3,9 +3,9 @@ use Rattle.std.proofs.Common.{◌≡◌, ℕ, zero, suc, ◌+◌, ◌<◌, ◌�
 use Rattle.std.specs.List.{flat_map, AllByRecursion}
 use Rattle.std.proofs.lemmas.List.Elements.{recursion_from_All, All-from_recursion}
 use Rattle.tsdb_base.specs.Plain.{AreValues}
-use Rattle.tsdb_log.specs.Places.{Reaches}
+use Rattle.tsdb_log.specs.Places.{ReachesField}
 use Rattle.tsdb_log.specs.Spelling.{joined_fields}
-use Rattle.tsdb_log.specs.Steps.{IsMissing}
+use Rattle.tsdb_log.specs.Steps.{IsMissingField}
 use Rattle.tsdb_log.specs.Rows.{both, AreBoth, IsRowForm}
 use Rattle.tsdb_log.specs.RowLaws.{regroup, bytes_length, row_of_both, no_first, no_second}
 
@@ -52,7 +52,8 @@ part fields Is n [] is = absurd is
 part fields Is n (x ∷ xs) is = record { first = x; others = xs; is = is; same = refl }
 
 reaches_of_both : {A : Type 0} (fields : A → List (List ℕ)) (Is : A → Type 0) (n : ℕ) (bytes : List ℕ) (j : ℕ)
-    → Reaches (flat_map fields) (AreList Is (suc n)) bytes j → Reaches (both fields (flat_map fields)) (AreBoth Is (Others Is n)) bytes j
+    → ReachesField (flat_map fields) (AreList Is (suc n)) bytes j → ReachesField (both fields (flat_map fields))
+    (AreBoth Is (Others Is n)) bytes j
 reaches_of_both {A} fields Is n bytes j r =
     let p = part fields Is n r.whole r.is in
     record {
@@ -67,7 +68,8 @@ reaches_of_both {A} fields Is n bytes j r =
     }
 
 reaches_of_list : {A : Type 0} (fields : A → List (List ℕ)) (Is : A → Type 0) (n : ℕ) (bytes : List ℕ) (j : ℕ)
-    → Reaches (both fields (flat_map fields)) (AreBoth Is (Others Is n)) bytes j → Reaches (flat_map fields) (AreList Is (suc n)) bytes j
+    → ReachesField (both fields (flat_map fields)) (AreBoth Is (Others Is n)) bytes j → ReachesField (flat_map fields)
+    (AreList Is (suc n)) bytes j
 reaches_of_list fields Is n bytes j r = record {
   whole = r.whole.0 ∷ r.whole.1;
   is = r.is;
@@ -91,7 +93,8 @@ longer {A} fields Is row n shorter = record {
       (p.same ∙ whole ∙ sym q.same, same.1);
   full = λ xs behind j is r.
       let p = part fields Is n xs is in
-      let there = subst (λ (l : List A). Reaches (flat_map fields) (AreList Is (suc n)) (joined_fields (flat_map fields l) ++ behind) j) p.same r in
+      let there = subst (λ (l : List A). ReachesField (flat_map fields) (AreList Is (suc n))
+      (joined_fields (flat_map fields l) ++ behind) j) p.same r in
       let le = rows.full (p.first, p.others) behind j p.is (reaches_of_both fields Is n (joined_fields (flat_map fields (p.first ∷ p.others)) ++ behind) j there) in
       let size = ap (λ (l : List A). length (joined_fields (flat_map fields l))) p.same in
       omega arith;
@@ -114,7 +117,8 @@ row_of_list {A} fields Is row zero = record {
   nothing [] (f ∷ fs) more is e = absurd cc
   nothing (x ∷ xs) first more is e = absurd is
 
-  none_far : (j : ℕ) (xs : List A) (behind : List ℕ) → AreList Is zero xs → Reaches (flat_map fields) (AreList Is zero) (joined_fields (flat_map fields xs) ++ behind) j → j ≤ length (joined_fields (flat_map fields xs))
+  none_far : (j : ℕ) (xs : List A) (behind : List ℕ) → AreList Is zero xs → ReachesField (flat_map fields)
+      (AreList Is zero) (joined_fields (flat_map fields xs) ++ behind) j → j ≤ length (joined_fields (flat_map fields xs))
   none_far j xs behind is r =
       let none = nothing r.whole r.first r.more r.is r.begins in
       let size = ap (λ (l : List (List ℕ)). length (joined_fields l)) none in
@@ -124,7 +128,8 @@ row_of_list fields Is row (suc n) = longer fields Is row n (row_of_list fields I
 
 -- what hinders a first row and the others hinders the list
 no_list : {A : Type 0} (fields : A → List (List ℕ)) (Is : A → Type 0) (n start : ℕ) (bytes : List ℕ) (at : ℕ)
-    → IsMissing (both fields (flat_map fields)) (AreBoth Is (Others Is n)) start bytes at → IsMissing (flat_map fields) (AreList Is (suc n)) start bytes at
+    → IsMissingField (both fields (flat_map fields)) (AreBoth Is (Others Is n)) start bytes at
+    → IsMissingField (flat_map fields) (AreList Is (suc n)) start bytes at
 no_list {A} fields Is n start bytes at m = record {
   none = λ xs behind is e.
       let p = part fields Is n xs is in
@@ -144,12 +149,12 @@ copies Is a is (suc n) = let rest = copies Is a is n in (a ∷ rest.0, (is, rest
 -- behind some rows the next one is missing
 pub no_more_rows : {A : Type 0} (fields : A → List (List ℕ)) (Is : A → Type 0) (row : IsRowForm fields Is) (so_far : List A) (n start middle : ℕ) (bytes behind : List ℕ) (at : ℕ)
     → AllByRecursion Is so_far → length so_far < n → bytes ≡ joined_fields (flat_map fields so_far) ++ behind → middle ≡ start + length (joined_fields (flat_map fields so_far))
-    → IsMissing fields Is middle behind at → IsMissing (flat_map fields) (AreList Is n) start bytes at
+    → IsMissingField fields Is middle behind at → IsMissingField (flat_map fields) (AreList Is n) start bytes at
 no_more_rows fields Is row so_far zero start middle bytes behind at all lt found there m = absurd (omega arith)
 no_more_rows {A} fields Is row [] (suc n) start middle bytes behind at all lt found there m =
     let same : middle ≡ start = omega arith in
-    let here = subst (λ (l : List ℕ). IsMissing fields Is middle l at) (sym found) m in
-    let moved = subst (λ (k : ℕ). IsMissing fields Is k bytes at) same here in
+    let here = subst (λ (l : List ℕ). IsMissingField fields Is middle l at) (sym found) m in
+    let moved = subst (λ (k : ℕ). IsMissingField fields Is k bytes at) same here in
     no_list fields Is n start bytes at (no_first fields (flat_map fields) Is (Others Is n) start bytes at (λ a is. copies Is a is n) moved)
 no_more_rows {A} fields Is row (c ∷ cs) (suc n) start middle bytes behind at all lt found there m =
     let shorter : length cs < n = omega arith in

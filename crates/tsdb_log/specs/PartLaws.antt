@@ -24,7 +24,7 @@ use Rattle.tsdb_fields.proofs.Laws.{value_field-prefix_free}
 use Rattle.tsdb_log.specs.declared.record.CellRecord.{CellRecord}
 use Rattle.tsdb_log.specs.Rows.{both, field, AreBoth, IsAny, IsNumber64, IsRowForm}
 use Rattle.tsdb_log.specs.Snapshots.{counted_fields, typed_fields, AreCounted}
-use Rattle.tsdb_log.specs.Spelling.{cell_fields, file_fields, space_field, IsCell, IsFile}
+use Rattle.tsdb_log.specs.Spelling.{cell_fields, file_fields, space_field, IsCell, IsFileField}
 use Rattle.tsdb_log.specs.RowLaws.{row_of_field, row_of_both}
 use Rattle.tsdb_log.specs.ListLaws.{AreList, row_of_list}
 use Rattle.tsdb_log.specs.ViewLaws.{IsWrittenAs, row_as, values_as}
@@ -192,11 +192,11 @@ some_cell = (record { series = record { 0 = some_number.0 }; value = some_typed.
 
 -- ---- the number of a file
 
-pub file_as : IsWrittenAs (field number64) IsNumber64 file_fields IsFile
+pub file_as : IsWrittenAs (field number64) IsNumber64 file_fields IsFileField
 file_as = record { make = λ n. record { 0 = n }; view = λ file is. (file.0, is, refl); back = λ n is. (is, refl) }
 
-pub file_rows : IsRowForm file_fields IsFile
-file_rows = row_as (field number64) IsNumber64 file_fields IsFile file_as number_rows
+pub file_rows : IsRowForm file_fields IsFileField
+file_rows = row_as (field number64) IsNumber64 file_fields IsFileField file_as number_rows
 
-pub some_file : (f : FileNumber) × IsFile f
+pub some_file : (f : FileNumber) × IsFileField f
 some_file = (record { 0 = some_number.0 }, some_number.1)

@@ -6,7 +6,8 @@ use Rattle.tsdb_log.specs.declared.record.LogRecord.{LogRecord}
 use Rattle.tsdb_log.specs.Spelling.{joined_fields, fields, spelling, IsRecord}
 
 -- the bytes up to this place are the first fields of something that is written in such fields
-pub record Reaches {A : Type 0} (fields : A → List (List ℕ)) (Is : A → Type 0) (bytes : List ℕ) (at : ℕ) : Type 0 where
+pub record ReachesField {A : Type 0} (fields : A → List (List ℕ)) (Is : A → Type 0) (bytes : List ℕ)
+    (at : ℕ) : Type 0 where
   pub whole : A
   pub is : Is whole
   pub first : List (List ℕ)
@@ -19,16 +20,16 @@ pub record Reaches {A : Type 0} (fields : A → List (List ℕ)) (Is : A → Typ
 -- this is the furthest such place: there stands the first field that is none, or the first byte after the last field
 pub record IsFurthest {A : Type 0} (fields : A → List (List ℕ)) (Is : A → Type 0) (bytes : List ℕ)
     (at : ℕ) : Type 0 where
-  pub reached : Reaches fields Is bytes at
-  pub none_beyond : (place : ℕ) → Reaches fields Is bytes place → place ≤ at
+  pub reached : ReachesField fields Is bytes at
+  pub none_beyond : (place : ℕ) → ReachesField fields Is bytes place → place ≤ at
 
 -- no record has these bytes
-abbrev pub SpellNone : List ℕ → Type 0
-SpellNone bytes = (item : LogRecord) → IsRecord item → bytes ≡ spelling item → ⊥
+abbrev pub SpellNoRecord : List ℕ → Type 0
+SpellNoRecord bytes = (item : LogRecord) → IsRecord item → bytes ≡ spelling item → ⊥
 
 -- no record has these bytes, and up to this place they are fields of a record
-pub record IsBad (bytes : List ℕ) (at : ℕ) : Type 0 where
-  pub none : SpellNone bytes
+pub record IsBadRecord (bytes : List ℕ) (at : ℕ) : Type 0 where
+  pub none : SpellNoRecord bytes
   pub place : IsFurthest fields IsRecord bytes at
 
 -- the record was read, or memory ran out

@@ -3,10 +3,10 @@ use Rattle.std.proofs.Common.{◌≡◌, ℕ, ◌+◌, ◌≤◌, ◌⊎◌, Lis
 use Rattle.std.proofs.lemmas.Grind.{flat_map-append}
 use Rattle.std.proofs.lemmas.List.{append-nil, length-append}
 use Rattle.tsdb_base.proofs.PlainLists.{IsPrefixFree}
-use Rattle.tsdb_log.specs.Places.{Reaches}
+use Rattle.tsdb_log.specs.Places.{ReachesField}
 use Rattle.tsdb_log.specs.Spelling.{joined_fields}
 use Rattle.tsdb_log.specs.Rows.{both, field, AreBoth, IsRowForm}
-use Rattle.tsdb_log.specs.Steps.{IsMissing}
+use Rattle.tsdb_log.specs.Steps.{IsMissingField}
 
 pub bytes_append : (xs ys : List (List ℕ)) → joined_fields (xs ++ ys) ≡ joined_fields xs ++ joined_fields ys
 bytes_append xs ys = flat_map-append (λ (f : List ℕ). f) xs ys
@@ -56,18 +56,20 @@ row_of_field {A} spelling IsA free = record {
 
 -- behind a first row the places are those of the second
 within : {A B : Type 0} (first : A → List (List ℕ)) (second : B → List (List ℕ)) (IsFirst : A → Type 0) (IsSecond : A → B → Type 0) (row : IsRowForm first IsFirst)
-    (a : A) (behind : List ℕ) (k : ℕ) → IsFirst a → ((j : ℕ) → Reaches second (IsSecond a) behind j → j ≤ k)
-    → (j : ℕ) → Reaches (both first second) (AreBoth IsFirst IsSecond) (joined_fields (first a) ++ behind) j → j ≤ length (joined_fields (first a)) + k
+    (a : A) (behind : List ℕ) (k : ℕ) → IsFirst a → ((j : ℕ) → ReachesField second (IsSecond a) behind j → j ≤ k)
+    → (j : ℕ) → ReachesField (both first second) (AreBoth IsFirst IsSecond) (joined_fields (first a) ++ behind) j
+    → j ≤ length (joined_fields (first a)) + k
 within {A} {B} first second IsFirst IsSecond row a behind k is beyond j r =
     elim (seam (first r.whole.0) (second r.whole.1) r.first r.more r.begins) [
       | inl p ↦
-          let there : Reaches first IsFirst (joined_fields (first a) ++ behind) j = record { whole = r.whole.0; is = r.is.0; first = r.first; more = p.0; rest = r.rest; begins = p.1; splits = r.splits; place = r.place } in
+          let there : ReachesField first IsFirst (joined_fields (first a) ++ behind) j =
+          record { whole = r.whole.0; is = r.is.0; first = r.first; more = p.0; rest = r.rest; begins = p.1; splits = r.splits; place = r.place } in
           let le = row.full a behind j is there in
           omega arith
       | inr p ↦
           let bytes = r.splits ∙ ap (λ (l : List (List ℕ)). joined_fields l ++ r.rest) p.1 ∙ regroup (first r.whole.0) p.0 r.rest in
           let same = row.free a r.whole.0 behind (joined_fields p.0 ++ r.rest) is r.is.0 bytes in
-          let there : Reaches second (IsSecond a) behind (length (joined_fields p.0)) = record {
+          let there : ReachesField second (IsSecond a) behind (length (joined_fields p.0)) = record {
             whole = r.whole.1;
             is = subst (λ (x : A). IsSecond x r.whole.1) (sym same.0) r.is.1;
             first = p.0;
@@ -98,7 +100,8 @@ row_of_both {A} {B} first second IsFirst IsSecond row rows = record {
       (same, tails.1);
   full = λ p behind j is r.
       let bytes = regroup (first p.0) (second p.1) behind in
-      let there : Reaches (both first second) (AreBoth IsFirst IsSecond) (joined_fields (first p.0) ++ (joined_fields (second p.1) ++ behind)) j = record {
+      let there : ReachesField (both first second) (AreBoth IsFirst IsSecond)
+      (joined_fields (first p.0) ++ (joined_fields (second p.1) ++ behind)) j = record {
         whole = r.whole;
         is = r.is;
         first = r.first;
@@ -116,7 +119,8 @@ row_of_both {A} {B} first second IsFirst IsSecond row rows = record {
 
 -- the first of two rows is missing
 pub no_first : {A B : Type 0} (first : A → List (List ℕ)) (second : B → List (List ℕ)) (IsFirst : A → Type 0) (IsSecond : A → B → Type 0) (start : ℕ) (bytes : List ℕ) (at : ℕ)
-    → ((a : A) → IsFirst a → (b : B) × IsSecond a b) → IsMissing first IsFirst start bytes at → IsMissing (both first second) (AreBoth IsFirst IsSecond) start bytes at
+    → ((a : A) → IsFirst a → (b : B) × IsSecond a b) → IsMissingField first IsFirst start bytes at
+    → IsMissingField (both first second) (AreBoth IsFirst IsSecond) start bytes at
 no_first {A} {B} first second IsFirst IsSecond start bytes at some m = record {
   none = λ p behind is e. m.none p.0 (joined_fields (second p.1) ++ behind) is.0 (e ∙ regroup (first p.0) (second p.1) behind);
   count = m.count;
@@ -146,7 +150,8 @@ no_first {A} {B} first second IsFirst IsSecond start bytes at some m = record {
 -- the first of two rows stands there, and the second is missing
 pub no_second : {A B : Type 0} (first : A → List (List ℕ)) (second : B → List (List ℕ)) (IsFirst : A → Type 0) (IsSecond : A → B → Type 0) (row : IsRowForm first IsFirst)
     (a : A) (start middle : ℕ) (bytes behind : List ℕ) (at : ℕ) → IsFirst a → bytes ≡ joined_fields (first a) ++ behind → middle ≡ start + length (joined_fields (first a))
-    → IsMissing second (IsSecond a) middle behind at → IsMissing (both first second) (AreBoth IsFirst IsSecond) start bytes at
+    → IsMissingField second (IsSecond a) middle behind at → IsMissingField (both first second)
+    (AreBoth IsFirst IsSecond) start bytes at
 no_second {A} {B} first second IsFirst IsSecond row a start middle bytes behind at is found there m = record {
   none = λ p rest is_p e.
       let same = row.free a p.0 behind (joined_fields (second p.1) ++ rest) is is_p.0 (sym found ∙ e ∙ regroup (first p.0) (second p.1) rest) in

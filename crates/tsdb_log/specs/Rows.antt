@@ -2,14 +2,14 @@
 use Rattle.std.specs.Prelude.{◌≡◌, ℕ, ◌<◌, ◌≤◌, ◌^◌, List, [], ◌∷◌, ◌++◌, length}
 use Rattle.tsdb_base.specs.declared.ids.Space.{Space}
 use Rattle.tsdb_base.specs.Fields.{number64}
-use Rattle.tsdb_log.specs.Places.{Reaches}
+use Rattle.tsdb_log.specs.Places.{ReachesField}
 use Rattle.tsdb_log.specs.Spelling.{joined_fields, space_field}
 
 -- no row begins another, and a row that stands there is as far as rows of its kind go
 pub record IsRowForm {A : Type 0} (fields : A → List (List ℕ)) (Is : A → Type 0) : Type 0 where
   pub free : (a b : A) (x y : List ℕ) → Is a → Is b → joined_fields (fields a) ++ x ≡ joined_fields (fields b) ++ y
       → (a ≡ b) × (x ≡ y)
-  pub full : (a : A) (behind : List ℕ) (j : ℕ) → Is a → Reaches fields Is (joined_fields (fields a) ++ behind) j
+  pub full : (a : A) (behind : List ℕ) (j : ℕ) → Is a → ReachesField fields Is (joined_fields (fields a) ++ behind) j
       → j ≤ length (joined_fields (fields a))
 
 -- one row of fields, and then another that may depend on it

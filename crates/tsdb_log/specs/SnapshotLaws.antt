@@ -21,7 +21,10 @@ use Rattle.tsdb_log.specs.declared.snapshot.TableRecord.{TableRecord}
 use Rattle.tsdb_log.specs.declared.snapshot.WatermarkRecord.{WatermarkRecord}
 use Rattle.tsdb_log.specs.Rows.{both, field, AreBoth, IsAny, IsNumber64, IsRowForm}
 use Rattle.tsdb_log.specs.PartLaws.{number_rows, time_rows, path_rows, type_rows, encoding_rows, typed_rows, pair_rows, counted_rows, rows_of_values, some_number, some_time, some_path, some_type, some_encoding, some_typed, none_counted}
-use Rattle.tsdb_log.specs.Snapshots.{counted_fields, typed_fields, schema_fields, watermark_fields, mark_fields, listed_fields, point_fields, table_fields, pair_fields, frozen_fields, AreCounted, AreFrozen, IsSchema, IsWatermark, IsMark, IsListed, IsPoint, IsTable, IsPair, IsSnapshot}
+use Rattle.tsdb_log.specs.Snapshots.{counted_fields, typed_fields, schema_fields, watermark_fields, mark_fields}
+use Rattle.tsdb_log.specs.Snapshots.{listed_fields, point_fields, table_fields, pair_fields, frozen_fields, AreCounted}
+use Rattle.tsdb_log.specs.Snapshots.{AreFrozen, IsSchemaRecord, IsWatermark, IsMark, IsFileRecord, IsPoint, IsTable}
+use Rattle.tsdb_log.specs.Snapshots.{IsPairRecord, IsSnapshot}
 use Rattle.tsdb_log.specs.RowLaws.{row_of_field, row_of_both}
 use Rattle.tsdb_log.specs.ViewLaws.{IsWrittenAs, row_as}
 
@@ -33,19 +36,19 @@ schema_row = both (field plain_text) (both (field type_field) (field encoding_fi
 abbrev pub IsSchemaRow : List ℕ × (DataType × Encoding) → Type 0
 IsSchemaRow = AreBoth IsPath (λ _. AreBoth IsAny (λ _. IsAny))
 
-pub schema_as : IsWrittenAs schema_row IsSchemaRow schema_fields IsSchema
+pub schema_as : IsWrittenAs schema_row IsSchemaRow schema_fields IsSchemaRecord
 schema_as = record {
   make = λ p. record { path = p.0; data_type = p.1.0; encoding = p.1.1 };
   view = λ s is. ((s.path, (s.data_type, s.encoding)), (is, (tt, tt)), refl);
   back = λ p is. (is.0, refl);
 }
 
-pub schema_rows : IsRowForm schema_fields IsSchema
-schema_rows = row_as schema_row IsSchemaRow schema_fields IsSchema schema_as
+pub schema_rows : IsRowForm schema_fields IsSchemaRecord
+schema_rows = row_as schema_row IsSchemaRow schema_fields IsSchemaRecord schema_as
     (pair_rows (field plain_text) (both (field type_field) (field encoding_field)) IsPath (AreBoth IsAny (λ _. IsAny)) path_rows
     (pair_rows (field type_field) (field encoding_field) IsAny IsAny type_rows encoding_rows))
 
-pub some_schema : (s : SchemaRecord) × IsSchema s
+pub some_schema : (s : SchemaRecord) × IsSchemaRecord s
 some_schema = (record { path = some_path.0; data_type = some_type.0; encoding = some_encoding.0 }, some_path.1)
 
 -- ---- a watermark
@@ -106,18 +109,18 @@ listed_row = both (field number64) (field number64)
 abbrev pub IsListedRow : ℕ × ℕ → Type 0
 IsListedRow = AreBoth IsNumber64 (λ _. IsNumber64)
 
-pub listed_as : IsWrittenAs listed_row IsListedRow listed_fields IsListed
+pub listed_as : IsWrittenAs listed_row IsListedRow listed_fields IsFileRecord
 listed_as = record {
   make = λ p. record { number = record { 0 = p.0 }; born = record { 0 = p.1 } };
   view = λ f is. ((f.number.0, f.born.0), (is.number, is.born), refl);
   back = λ p is. (record { number = is.0; born = is.1 }, refl);
 }
 
-pub listed_rows : IsRowForm listed_fields IsListed
-listed_rows = row_as listed_row IsListedRow listed_fields IsListed listed_as
+pub listed_rows : IsRowForm listed_fields IsFileRecord
+listed_rows = row_as listed_row IsListedRow listed_fields IsFileRecord listed_as
     (pair_rows (field number64) (field number64) IsNumber64 IsNumber64 number_rows number_rows)
 
-pub some_listed : (f : FileRecord) × IsListed f
+pub some_listed : (f : FileRecord) × IsFileRecord f
 some_listed = (record { number = record { 0 = some_number.0 }; born = record { 0 = some_number.0 } }, record { number = some_number.1; born = some_number.1 })
 
 -- ---- a point
@@ -196,18 +199,18 @@ pair_row = both (field number64) two_tables
 abbrev pub IsPairRow : ℕ × (List TableRecord × List TableRecord) → Type 0
 IsPairRow = AreBoth IsNumber64 (λ _. AreTwoTables)
 
-pub pair_as : IsWrittenAs pair_row IsPairRow pair_fields IsPair
+pub pair_as : IsWrittenAs pair_row IsPairRow pair_fields IsPairRecord
 pair_as = record {
   make = λ p. record { born = record { 0 = p.0 }; sequence = p.1.0; unsequence = p.1.1 };
   view = λ q is. ((q.born.0, (q.sequence, q.unsequence)), (is.born, (is.sequence, is.unsequence)), refl);
   back = λ p is. (record { born = is.0; sequence = is.1.0; unsequence = is.1.1 }, refl);
 }
 
-pub frozen_pair_rows : IsRowForm pair_fields IsPair
-frozen_pair_rows = row_as pair_row IsPairRow pair_fields IsPair pair_as
+pub frozen_pair_rows : IsRowForm pair_fields IsPairRecord
+frozen_pair_rows = row_as pair_row IsPairRow pair_fields IsPairRecord pair_as
     (pair_rows (field number64) two_tables IsNumber64 AreTwoTables number_rows two_tables_rows)
 
-pub some_frozen_pair : (q : PairRecord) × IsPair q
+pub some_frozen_pair : (q : PairRecord) × IsPairRecord q
 some_frozen_pair = (
   record { born = record { 0 = some_number.0 }; sequence = (none_counted IsTable).0; unsequence = (none_counted IsTable).0 },
   record { born = some_number.1; sequence = (none_counted IsTable).1; unsequence = (none_counted IsTable).1 },
@@ -228,7 +231,7 @@ abbrev pub frozen_row : ℕ × List PairRecord → List (List ℕ)
 frozen_row = both (field byte_field) (flat_map pair_fields)
 
 abbrev pub IsFrozenRow : ℕ × List PairRecord → Type 0
-IsFrozenRow = AreBoth IsByte (AreValues IsPair)
+IsFrozenRow = AreBoth IsByte (AreValues IsPairRecord)
 
 pub frozen_as : IsWrittenAs frozen_row IsFrozenRow frozen_fields AreFrozen
 frozen_as = record {
@@ -242,8 +245,9 @@ frozen_as = record {
 
 pub frozen_rows : IsRowForm frozen_fields AreFrozen
 frozen_rows = row_as frozen_row IsFrozenRow frozen_fields AreFrozen frozen_as
-    (row_of_both (field byte_field) (flat_map pair_fields) IsByte (AreValues IsPair) (row_of_field byte_field IsByte byte_free)
-    (λ n few. rows_of_values pair_fields IsPair frozen_pair_rows n))
+    (row_of_both (field byte_field) (flat_map pair_fields) IsByte (AreValues IsPairRecord)
+    (row_of_field byte_field IsByte byte_free)
+    (λ n few. rows_of_values pair_fields IsPairRecord frozen_pair_rows n))
 
 -- ---- the whole
 
@@ -260,42 +264,43 @@ pub numbers_rows : IsRowForm numbers_row AreNumbers
 numbers_rows = pair_rows (field number64) (both (field number64) (field number64)) IsNumber64 (AreBoth IsNumber64 (λ _. IsNumber64)) number_rows
     (pair_rows (field number64) (field number64) IsNumber64 IsNumber64 number_rows number_rows)
 
-abbrev pub Files : Type 0
-Files = List FileRecord × List FileRecord
+abbrev pub SnapshotFiles : Type 0
+SnapshotFiles = List FileRecord × List FileRecord
 
-abbrev pub files_row : Files → List (List ℕ)
-files_row = both (counted_fields listed_fields) (counted_fields listed_fields)
+abbrev pub file_lists_row : SnapshotFiles → List (List ℕ)
+file_lists_row = both (counted_fields listed_fields) (counted_fields listed_fields)
 
-abbrev pub AreListed : Files → Type 0
-AreListed = AreBoth (AreCounted IsListed) (λ _. AreCounted IsListed)
+abbrev pub AreFileRecords : SnapshotFiles → Type 0
+AreFileRecords = AreBoth (AreCounted IsFileRecord) (λ _. AreCounted IsFileRecord)
 
 abbrev pub Lists : Type 0
-Lists = List SchemaRecord × (List WatermarkRecord × (List MarkRecord × Files))
+Lists = List SchemaRecord × (List WatermarkRecord × (List MarkRecord × SnapshotFiles))
 
-abbrev pub marks_row : List MarkRecord × Files → List (List ℕ)
-marks_row = both (counted_fields mark_fields) files_row
+abbrev pub marks_row : List MarkRecord × SnapshotFiles → List (List ℕ)
+marks_row = both (counted_fields mark_fields) file_lists_row
 
-abbrev pub AreMarks : List MarkRecord × Files → Type 0
-AreMarks = AreBoth (AreCounted IsMark) (λ _. AreListed)
+abbrev pub AreMarks : List MarkRecord × SnapshotFiles → Type 0
+AreMarks = AreBoth (AreCounted IsMark) (λ _. AreFileRecords)
 
-abbrev pub watermarks_row : List WatermarkRecord × (List MarkRecord × Files) → List (List ℕ)
+abbrev pub watermarks_row : List WatermarkRecord × (List MarkRecord × SnapshotFiles) → List (List ℕ)
 watermarks_row = both (counted_fields watermark_fields) marks_row
 
-abbrev pub AreWatermarks : List WatermarkRecord × (List MarkRecord × Files) → Type 0
+abbrev pub AreWatermarks : List WatermarkRecord × (List MarkRecord × SnapshotFiles) → Type 0
 AreWatermarks = AreBoth (AreCounted IsWatermark) (λ _. AreMarks)
 
 abbrev pub lists_row : Lists → List (List ℕ)
 lists_row = both (counted_fields schema_fields) watermarks_row
 
 abbrev pub AreLists : Lists → Type 0
-AreLists = AreBoth (AreCounted IsSchema) (λ _. AreWatermarks)
+AreLists = AreBoth (AreCounted IsSchemaRecord) (λ _. AreWatermarks)
 
 pub lists_rows : IsRowForm lists_row AreLists
-lists_rows = pair_rows (counted_fields schema_fields) watermarks_row (AreCounted IsSchema) AreWatermarks (counted_rows schema_fields IsSchema schema_rows)
+lists_rows = pair_rows (counted_fields schema_fields) watermarks_row (AreCounted IsSchemaRecord) AreWatermarks (counted_rows schema_fields IsSchemaRecord schema_rows)
     (pair_rows (counted_fields watermark_fields) marks_row (AreCounted IsWatermark) AreMarks (counted_rows watermark_fields IsWatermark watermark_rows)
-    (pair_rows (counted_fields mark_fields) files_row (AreCounted IsMark) AreListed (counted_rows mark_fields IsMark mark_rows)
-    (pair_rows (counted_fields listed_fields) (counted_fields listed_fields) (AreCounted IsListed) (AreCounted IsListed)
-    (counted_rows listed_fields IsListed listed_rows) (counted_rows listed_fields IsListed listed_rows))))
+    (pair_rows (counted_fields mark_fields) file_lists_row (AreCounted IsMark) AreFileRecords (counted_rows mark_fields IsMark mark_rows)
+    (pair_rows (counted_fields listed_fields) (counted_fields listed_fields) (AreCounted IsFileRecord)
+    (AreCounted IsFileRecord)
+    (counted_rows listed_fields IsFileRecord listed_rows) (counted_rows listed_fields IsFileRecord listed_rows))))
 
 abbrev pub front_row : Numbers × Lists → List (List ℕ)
 front_row = both numbers_row lists_row

@@ -76,8 +76,8 @@ snapshot_fields snapshot = front_fields snapshot
     ++ (counted_fields table_fields snapshot.working_sequence ++ counted_fields table_fields snapshot.working_unsequence))
 
 -- parts that their bytes can hold
-abbrev pub IsSchema : SchemaRecord → Type 0
-IsSchema schema = IsPath schema.path
+abbrev pub IsSchemaRecord : SchemaRecord → Type 0
+IsSchemaRecord schema = IsPath schema.path
 
 pub record IsWatermark (mark : WatermarkRecord) : Type 0 where
   pub device : IsPath mark.device
@@ -89,7 +89,7 @@ pub record IsMark (mark : MarkRecord) : Type 0 where
   pub to : FitsSigned w64 mark.to
   pub version : mark.version.0 < 2 ^ 64
 
-pub record IsListed (file : FileRecord) : Type 0 where
+pub record IsFileRecord (file : FileRecord) : Type 0 where
   pub number : file.number.0 < 2 ^ 64
   pub born : file.born.0 < 2 ^ 64
 
@@ -101,7 +101,7 @@ pub record IsTable (table : TableRecord) : Type 0 where
   pub series : table.series.0 < 2 ^ 64
   pub points : AreCounted IsPoint table.points
 
-pub record IsPair (pair : PairRecord) : Type 0 where
+pub record IsPairRecord (pair : PairRecord) : Type 0 where
   pub born : pair.born.0 < 2 ^ 64
   pub sequence : AreCounted IsTable pair.sequence
   pub unsequence : AreCounted IsTable pair.unsequence
@@ -112,18 +112,18 @@ most_pairs = 255
 
 -- so many frozen pairs that one byte can hold their number
 abbrev pub AreFrozen : List PairRecord → Type 0
-AreFrozen pairs = (length pairs ≤ most_pairs) × All IsPair pairs
+AreFrozen pairs = (length pairs ≤ most_pairs) × All IsPairRecord pairs
 
 -- what stands before the frozen pairs, where its bytes can hold it
 pub record IsFront (snapshot : Snapshot) : Type 0 where
   pub generation : snapshot.generation < 2 ^ 64
   pub stamp : snapshot.stamp.0 < 2 ^ 64
   pub next_file : snapshot.next_file < 2 ^ 64
-  pub schemas : AreCounted IsSchema snapshot.schemas
+  pub schemas : AreCounted IsSchemaRecord snapshot.schemas
   pub watermarks : AreCounted IsWatermark snapshot.watermarks
   pub marks : AreCounted IsMark snapshot.marks
-  pub sequence : AreCounted IsListed snapshot.sequence
-  pub unsequence : AreCounted IsListed snapshot.unsequence
+  pub sequence : AreCounted IsFileRecord snapshot.sequence
+  pub unsequence : AreCounted IsFileRecord snapshot.unsequence
 
 -- a snapshot that its bytes can hold
 pub record IsSnapshot (snapshot : Snapshot) : Type 0 where

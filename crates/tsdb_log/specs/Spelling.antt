@@ -66,8 +66,8 @@ pub record IsCell (cell : CellRecord) : Type 0 where
   pub value : IsValue cell.value
 
 -- the number of a file in eight bytes
-abbrev pub IsFile : FileNumber → Type 0
-IsFile file = file.0 < 2 ^ 64
+abbrev pub IsFileField : FileNumber → Type 0
+IsFileField file = file.0 < 2 ^ 64
 
 -- the most cells of a row, whose number stands in two bytes
 abbrev pub most_cells : ℕ
@@ -79,7 +79,7 @@ most_files = 4294967295
 
 -- so many files that four bytes can hold their number
 abbrev pub AreFiles : List FileNumber → Type 0
-AreFiles files = (length files ≤ most_files) × All IsFile files
+AreFiles files = (length files ≤ most_files) × All IsFileField files
 
 -- a record that its bytes can hold
 abbrev pub IsRecord : LogRecord → Type 0
@@ -87,9 +87,9 @@ IsRecord (Create path data_type encoding) = IsPath path
 IsRecord (Insert time cells) = FitsSigned w64 time × (length cells ≤ most_cells) × All IsCell cells
 IsRecord (Delete path range) = IsPath path × FitsSigned w64 range.from × FitsSigned w64 range.to
 IsRecord Freeze = Unit {0}
-IsRecord (Flushed sequence unsequence) = IsFile sequence × IsFile unsequence
+IsRecord (Flushed sequence unsequence) = IsFileField sequence × IsFileField unsequence
 IsRecord (Replaced born space place output sequence unsequence) =
-    (born.0 < 2 ^ 64) × (place < 2 ^ 64) × IsFile output
+    (born.0 < 2 ^ 64) × (place < 2 ^ 64) × IsFileField output
     × AreFiles sequence × AreFiles unsequence
 IsRecord (Snapshot snapshot) = IsSnapshot snapshot
 

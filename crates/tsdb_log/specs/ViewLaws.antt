@@ -6,9 +6,9 @@ use Rattle.tsdb_base.specs.Plain.{AreValues}
 use Rattle.tsdb_log.specs.Rows.{IsRowForm}
 use Rattle.tsdb_log.specs.declared.record.LogRecord.{LogRecord}
 use Rattle.tsdb_log.specs.declared.record.LogRecord.TheVariants.{Create, Insert, Delete, Freeze, Flushed, Replaced, Snapshot}
-use Rattle.tsdb_log.specs.Places.{Reaches}
+use Rattle.tsdb_log.specs.Places.{ReachesField}
 use Rattle.tsdb_log.specs.Spelling.{joined_fields, fields, spelling, IsRecord}
-use Rattle.tsdb_log.specs.Steps.{IsMissing}
+use Rattle.tsdb_log.specs.Steps.{IsMissingField}
 use Rattle.tsdb_log.specs.ListLaws.{AreList, list_of_values, values_of_list}
 
 -- one is made of the other, and same_fields as it is
@@ -25,7 +25,7 @@ same_fields {A} {R} row IsA whole IsR as_row r is =
     ap (λ (x : R). whole x) v.2 ∙ (as_row.back v.0 v.1).1
 
 reaches_as : {A R : Type 0} (row : A → List (List ℕ)) (IsA : A → Type 0) (whole : R → List (List ℕ)) (IsR : R → Type 0) (bytes : List ℕ) (j : ℕ)
-    → IsWrittenAs row IsA whole IsR → Reaches whole IsR bytes j → Reaches row IsA bytes j
+    → IsWrittenAs row IsA whole IsR → ReachesField whole IsR bytes j → ReachesField row IsA bytes j
 reaches_as row IsA whole IsR bytes j as_row r =
     let v = as_row.view r.whole r.is in
     record {
@@ -40,7 +40,7 @@ reaches_as row IsA whole IsR bytes j as_row r =
     }
 
 pub missing_as : {A R : Type 0} (row : A → List (List ℕ)) (IsA : A → Type 0) (whole : R → List (List ℕ)) (IsR : R → Type 0) (start : ℕ) (bytes : List ℕ) (at : ℕ)
-    → IsWrittenAs row IsA whole IsR → IsMissing row IsA start bytes at → IsMissing whole IsR start bytes at
+    → IsWrittenAs row IsA whole IsR → IsMissingField row IsA start bytes at → IsMissingField whole IsR start bytes at
 missing_as row IsA whole IsR start bytes at as_row m = record {
   none = λ r behind is e.
       let v = as_row.view r is in
@@ -69,27 +69,28 @@ row_as {A} {R} row IsA whole IsR as_row rows = record {
   full = λ r behind j is p.
       let v = as_row.view r is in
       let fields-are = same_fields row IsA whole IsR as_row r is in
-      let there = subst (λ (l : List (List ℕ)). Reaches row IsA (joined_fields l ++ behind) j) fields-are (reaches_as row IsA whole IsR (joined_fields (whole r) ++ behind) j as_row p) in
+      let there = subst (λ (l : List (List ℕ)). ReachesField row IsA (joined_fields l
+      ++ behind) j) fields-are (reaches_as row IsA whole IsR (joined_fields (whole r) ++ behind) j as_row p) in
       let le = rows.full v.0 behind j v.1 there in
       let size = ap (λ (l : List (List ℕ)). length (joined_fields l)) fields-are in
       omega arith;
 }
 
 -- the first byte of a record
-abbrev pub kind_of : LogRecord → ℕ
-kind_of (Create path data_type encoding) = 1
-kind_of (Insert time cells) = 2
-kind_of (Delete path range) = 3
-kind_of Freeze = 4
-kind_of (Flushed sequence unsequence) = 5
-kind_of (Replaced born space place output sequence unsequence) = 6
-kind_of (Snapshot snapshot) = 7
+abbrev pub record_kind : LogRecord → ℕ
+record_kind (Create path data_type encoding) = 1
+record_kind (Insert time cells) = 2
+record_kind (Delete path range) = 3
+record_kind Freeze = 4
+record_kind (Flushed sequence unsequence) = 5
+record_kind (Replaced born space place output sequence unsequence) = 6
+record_kind (Snapshot snapshot) = 7
 
 abbrev pub IsOfKind : ℕ → LogRecord → Type 0
-IsOfKind kind item = IsRecord item × (kind_of item ≡ kind)
+IsOfKind kind item = IsRecord item × (record_kind item ≡ kind)
 
 -- a record's fields are its first byte and more
-pub kind_first : (item : LogRecord) → (more : List (List ℕ)) × (fields item ≡ (kind_of item ∷ []) ∷ more)
+pub kind_first : (item : LogRecord) → (more : List (List ℕ)) × (fields item ≡ (record_kind item ∷ []) ∷ more)
 kind_first (Create path data_type encoding) = (_, refl)
 kind_first (Insert time cells) = (_, refl)
 kind_first (Delete path range) = (_, refl)
@@ -98,7 +99,7 @@ kind_first (Flushed sequence unsequence) = (_, refl)
 kind_first (Replaced born space place output sequence unsequence) = (_, refl)
 kind_first (Snapshot snapshot) = (_, refl)
 
-pub kind_range : (item : LogRecord) → (1 ≤ kind_of item) × (kind_of item ≤ 7)
+pub kind_range : (item : LogRecord) → (1 ≤ record_kind item) × (record_kind item ≤ 7)
 kind_range (Create path data_type encoding) = (omega arith, omega arith)
 kind_range (Insert time cells) = (omega arith, omega arith)
 kind_range (Delete path range) = (omega arith, omega arith)
@@ -113,12 +114,13 @@ behind_kind kind row a = (kind ∷ []) ∷ row a
 
 -- what hinders a row behind a first byte hinders all records
 pub no_record : {A : Type 0} (kind : ℕ) (row : A → List (List ℕ)) (IsA : A → Type 0) (bytes : List ℕ) (at : ℕ)
-    → IsWrittenAs (behind_kind kind row) IsA fields (IsOfKind kind) → IsMissing row IsA 1 bytes at → IsMissing fields IsRecord 0 (kind ∷ bytes) at
+    → IsWrittenAs (behind_kind kind row) IsA fields (IsOfKind kind) → IsMissingField row IsA 1 bytes at
+    → IsMissingField fields IsRecord 0 (kind ∷ bytes) at
 no_record {A} kind row IsA bytes at as_row m = record {
   none = λ item behind is e.
       let first = kind_first item in
       let bytes-begin = e ∙ ap (λ (l : List (List ℕ)). joined_fields l ++ behind) first.1 in
-      let same : kind_of item ≡ kind = cc in
+      let same : record_kind item ≡ kind = cc in
       let v = as_row.view item (is, same) in
       let bytes_are = e ∙ ap (λ (l : List (List ℕ)). joined_fields l ++ behind) (same_fields (behind_kind kind row) IsA fields (IsOfKind kind) as_row item (is, same)) in
       let rest : bytes ≡ joined_fields (row v.0) ++ behind = cc in
@@ -147,14 +149,15 @@ no_record {A} kind row IsA bytes at as_row m = record {
   far j item (f ∷ fs) more rest is begins splits place =
       let head = kind_first item in
       let both = sym head.1 ∙ begins in
-      let byte : kind_of item ∷ [] ≡ f = cc in
+      let byte : record_kind item ∷ [] ≡ f = cc in
       let bytes-begin = splits ∙ ap (λ (l : List ℕ). (l ++ joined_fields fs) ++ rest) (sym byte) in
-      let same : kind_of item ≡ kind = cc in
+      let same : record_kind item ≡ kind = cc in
       let v = as_row.view item (is, same) in
       let rows = sym (same_fields (behind_kind kind row) IsA fields (IsOfKind kind) as_row item (is, same)) ∙ begins in
       let behind : row v.0 ≡ fs ++ more = cc in
       let left : bytes ≡ joined_fields fs ++ rest = cc in
-      let there : Reaches row IsA bytes (length (joined_fields fs)) = record { whole = v.0; is = v.1; first = fs; more = more; rest = rest; begins = behind; splits = left; place = refl } in
+      let there : ReachesField row IsA bytes (length (joined_fields fs)) =
+      record { whole = v.0; is = v.1; first = fs; more = more; rest = rest; begins = behind; splits = left; place = refl } in
       let le = m.furthest.none_beyond (length (joined_fields fs)) there in
       let size : 1 ≡ length f = ap length byte in
       let total : length (f ++ joined_fields fs) ≡ length f + length (joined_fields fs) = length-append f (joined_fields fs) in
@@ -182,7 +185,7 @@ row_of_kind {A} kind row IsA as_row rows = row_as (behind_kind kind row) IsA fie
       omega arith
 
 -- records whose bytes begin alike are of one kind
-pub kind_same : (a b : LogRecord) (x y : List ℕ) → spelling a ++ x ≡ spelling b ++ y → kind_of a ≡ kind_of b
+pub kind_same : (a b : LogRecord) (x y : List ℕ) → spelling a ++ x ≡ spelling b ++ y → record_kind a ≡ record_kind b
 kind_same a b x y e =
     let first = kind_first a in
     let other = kind_first b in

@@ -16,8 +16,8 @@ ghost use Rattle.tsdb_log.specs.PartLaws.{some_encoding, some_space, some_typed,
 ghost use Rattle.tsdb_log.specs.PartLaws.{cell_rows, file_rows, some_cell, some_file};
 ghost use Rattle.tsdb_log.specs.Rows.{both, field, AreBoth, IsAny, IsNumber64, IsRowForm};
 ghost use Rattle.tsdb_log.specs.Snapshots.{counted_fields, typed_fields, AreCounted};
-ghost use Rattle.tsdb_log.specs.Spelling.{joined_fields, cell_fields, file_fields, space_field, IsCell, IsFile};
-ghost use Rattle.tsdb_log.specs.Steps.{IsMissing, ReadsFields};
+ghost use Rattle.tsdb_log.specs.Spelling.{joined_fields, cell_fields, file_fields, space_field, IsCell, IsFileField};
+ghost use Rattle.tsdb_log.specs.Steps.{IsMissingField, ReadsFields};
 
 use crate::record::CellRecord;
 use std::alloc::Global;
@@ -303,7 +303,7 @@ impl<T: Part> FieldReader for PartReader<T> {
 
     ghost is_field = { λ _. T.is_part };
 
-    ghost is_bad = { λ _. IsMissing T.fields T.is_part };
+    ghost is_bad = { λ _. IsMissingField T.fields T.is_part };
 
     fn read<'a>(&self, alloc: Global, rest: Rest<'a>) -> Result<(T, Rest<'a>), FieldFault> {
         T::read(alloc, rest)
@@ -385,7 +385,7 @@ impl Part for CellRecord {
 impl Part for FileNumber {
     ghost fields = { file_fields };
 
-    ghost is_part = { IsFile };
+    ghost is_part = { IsFileField };
 
     ghost rows = { file_rows };
 

@@ -1,12 +1,14 @@
 //! Reading a record. Depends on `record`, `part`, `snapshot_parts`, `kind` and `fault`.
 ghost use Rattle.std.specs.Prelude.{◌≡◌, ℕ, ◌∷◌, Err, IfOk};
 ghost use Rattle.tsdb_log.specs.declared.record.LogRecord.{LogRecord};
-ghost use Rattle.tsdb_log.specs.Places.{IsBad, IsReadAs};
+ghost use Rattle.tsdb_log.specs.Places.{IsBadRecord, IsReadAs};
 ghost use Rattle.tsdb_log.specs.Spelling.{files_fields, spelling, AreFiles, IsRecord};
 ghost use Rattle.tsdb_log.specs.Steps.{ReadsFields, ReadsRecord};
 
 use crate::fault::LogFault;
-use crate::kind::{CREATE, DELETE, FLUSHED, FREEZE, INSERT, REPLACED, SNAPSHOT};
+use crate::kind::{
+    CREATE_KIND, DELETE_KIND, FLUSHED_KIND, FREEZE_KIND, INSERT_KIND, REPLACED_KIND, SNAPSHOT_KIND,
+};
 use crate::part::{read_part, read_parts};
 use crate::record::LogRecord;
 use crate::snapshot_parts::read_snapshot;
@@ -112,13 +114,13 @@ fn read_first<'a>(alloc: Global, payload: &'a [u8]) -> Result<(LogRecord, Rest<'
         return Err(FieldFault::Bad { at: 0 });
     };
     match *kind {
-        CREATE => read_create(alloc, bytes),
-        INSERT => read_insert(alloc, bytes),
-        DELETE => read_delete(alloc, bytes),
-        FREEZE => Ok((LogRecord::Freeze, Rest { at: 1, bytes })),
-        FLUSHED => read_flushed(alloc, bytes),
-        REPLACED => read_replaced(alloc, bytes),
-        SNAPSHOT => read_snapshot(alloc, bytes),
+        CREATE_KIND => read_create(alloc, bytes),
+        INSERT_KIND => read_insert(alloc, bytes),
+        DELETE_KIND => read_delete(alloc, bytes),
+        FREEZE_KIND => Ok((LogRecord::Freeze, Rest { at: 1, bytes })),
+        FLUSHED_KIND => read_flushed(alloc, bytes),
+        REPLACED_KIND => read_replaced(alloc, bytes),
+        SNAPSHOT_KIND => read_snapshot(alloc, bytes),
         _ => Err(FieldFault::Bad { at: 0 }),
     }
 }
@@ -128,7 +130,7 @@ fn read_first<'a>(alloc: Global, payload: &'a [u8]) -> Result<(LogRecord, Rest<'
 pub fn read_record(alloc: Global, payload: &[u8]) -> Result<LogRecord, LogFault>
     ensures record { IfOk result IsRecord }
     ensures found { IfOk result (λ item. payload.now ≡ spelling item) }
-    ensures bad { (at : ℕ) → result ≡ Err (LogFault.Bad at) → IsBad payload.now at }
+    ensures bad { (at : ℕ) → result ≡ Err (LogFault.Bad at) → IsBadRecord payload.now at }
     ensures good { (item : LogRecord) → IsRecord item → payload.now ≡ spelling item → IsReadAs item result }
 {
     let (item, rest) = read_first(alloc, payload)?;

@@ -8,7 +8,8 @@ ghost use Rattle.tsdb_log.specs.SnapshotLaws.{byte_field, frozen_pair_rows, IsBy
 ghost use Rattle.tsdb_log.specs.SnapshotLaws.{some_point, some_table, some_frozen_pair};
 ghost use Rattle.tsdb_log.specs.Snapshots.{frozen_fields, front_fields, listed_fields, mark_fields, pair_fields};
 ghost use Rattle.tsdb_log.specs.Snapshots.{point_fields, schema_fields, snapshot_fields, table_fields, watermark_fields};
-ghost use Rattle.tsdb_log.specs.Snapshots.{AreFrozen, IsListed, IsMark, IsPair, IsPoint, IsSchema, IsTable, IsWatermark};
+ghost use Rattle.tsdb_log.specs.Snapshots.{AreFrozen, IsFileRecord, IsMark, IsPairRecord, IsPoint, IsSchemaRecord};
+ghost use Rattle.tsdb_log.specs.Snapshots.{IsTable, IsWatermark};
 ghost use Rattle.tsdb_log.specs.Snapshots.{IsFront, IsSnapshot, most_pairs};
 ghost use Rattle.tsdb_log.specs.Spelling.{joined_fields};
 ghost use Rattle.tsdb_log.specs.Steps.{ReadsFields, ReadsRecord};
@@ -28,7 +29,7 @@ use tsdb_path::Path;
 impl Part for SchemaRecord {
     ghost fields = { schema_fields };
 
-    ghost is_part = { IsSchema };
+    ghost is_part = { IsSchemaRecord };
 
     ghost rows = { schema_rows };
 
@@ -100,7 +101,7 @@ impl Part for MarkRecord {
 impl Part for FileRecord {
     ghost fields = { listed_fields };
 
-    ghost is_part = { IsListed };
+    ghost is_part = { IsFileRecord };
 
     ghost rows = { listed_rows };
 
@@ -165,7 +166,7 @@ impl Part for TableRecord {
 impl Part for PairRecord {
     ghost fields = { pair_fields };
 
-    ghost is_part = { IsPair };
+    ghost is_part = { IsPairRecord };
 
     ghost rows = { frozen_pair_rows };
 

@@ -4,7 +4,9 @@ ghost use Rattle.std.specs.Vec.{vec_capacity};
 ghost use Rattle.tsdb_log.specs.Spelling.{joined_fields, cells_fields, files_fields, most_cells, most_files, spelling};
 ghost use Rattle.tsdb_log.specs.Spelling.{AreFiles, HasFewParts, IsCell, IsRecord};
 
-use crate::kind::{CREATE, DELETE, FLUSHED, FREEZE, INSERT, REPLACED, SNAPSHOT};
+use crate::kind::{
+    CREATE_KIND, DELETE_KIND, FLUSHED_KIND, FREEZE_KIND, INSERT_KIND, REPLACED_KIND, SNAPSHOT_KIND,
+};
 use crate::part::{Part, put_bytes, write_both, write_parts};
 use crate::record::{CellRecord, LogRecord};
 use crate::snapshot_parts::write_snapshot;
@@ -65,7 +67,7 @@ fn write_insert(time: Time, cells: &[CellRecord], into: &mut Vec<u8>) -> Result<
         < length into.old.items + length (spelling (LogRecord.Insert time cells.now))) }
     ensures capacity { vec_capacity into.old ≤ vec_capacity into.new }
 {
-    put_bytes(&[INSERT], into)?;
+    put_bytes(&[INSERT_KIND], into)?;
     time.write(into)?;
     write_cells(cells, into)
 }
@@ -78,7 +80,7 @@ fn write_delete(path: &Path, range: &Range, into: &mut Vec<u8>) -> Result<(), Me
         < length into.old.items + length (spelling (LogRecord.Delete path.now range.now))) }
     ensures capacity { vec_capacity into.old ≤ vec_capacity into.new }
 {
-    put_bytes(&[DELETE], into)?;
+    put_bytes(&[DELETE_KIND], into)?;
     path.write(into)?;
     write_both(&range.from, &range.to, into)
 }
@@ -117,14 +119,14 @@ pub fn append_record(item: &LogRecord, into: &mut Vec<u8>) -> Result<(), Memory>
             path,
             data_type,
             encoding,
-        } => write_of_kind(CREATE, path, &(*data_type, *encoding), into),
+        } => write_of_kind(CREATE_KIND, path, &(*data_type, *encoding), into),
         LogRecord::Insert { time, cells } => write_insert(*time, cells.items(), into),
         LogRecord::Delete { path, range } => write_delete(path, range, into),
-        LogRecord::Freeze => put_bytes(&[FREEZE], into),
+        LogRecord::Freeze => put_bytes(&[FREEZE_KIND], into),
         LogRecord::Flushed {
             sequence,
             unsequence,
-        } => write_of_kind(FLUSHED, &sequence.0, &unsequence.0, into),
+        } => write_of_kind(FLUSHED_KIND, &sequence.0, &unsequence.0, into),
         LogRecord::Replaced {
             born,
             space,
@@ -133,11 +135,11 @@ pub fn append_record(item: &LogRecord, into: &mut Vec<u8>) -> Result<(), Memory>
             sequence,
             unsequence,
         } => {
-            write_of_kind(REPLACED, &born.0, &(*space, (*place, output.0)), into)?;
+            write_of_kind(REPLACED_KIND, &born.0, &(*space, (*place, output.0)), into)?;
             write_inputs(sequence.items(), unsequence.items(), into)
         }
         LogRecord::Snapshot(snapshot) => {
-            put_bytes(&[SNAPSHOT], into)?;
+            put_bytes(&[SNAPSHOT_KIND], into)?;
             write_snapshot(snapshot, into)
         }
     }

@@ -9,8 +9,8 @@ use denote.Bor.{Bor}
 use Rattle.tsdb_base.specs.declared.answers.Aggregate.{Aggregate}
 use Rattle.tsdb_base.specs.declared.point.Point.{Point}
 use Rattle.tsdb_base.specs.declared.value.Value.{Value}
-use Rattle.tsdb_model.specs.World.{Points}
-use Rattle.tsdb_model.specs.Folds.{aggregate_of, if_number, in_order, number_of, numbers}
+use Rattle.tsdb_model.specs.World.{PointMap}
+use Rattle.tsdb_model.specs.Folds.{aggregate_of, if_number, in_order, as_number, numbers}
 use Rattle.tsdb_map.specs.Model.{better, points_of_entries}
 
 abbrev Seen : Type 0
@@ -43,12 +43,12 @@ filter_map-append h [] ys = refl
 filter_map-append h (x ∷ xs) ys = ap (cons_option (h x)) (filter_map-append h xs ys) ∙ cons-append (h x) (filter_map h xs) (filter_map h ys)
 
 pub reduce-more : (f : Choose) (xs : List Seen) (x : Seen)
-    → reduce f (numbers (points_of_entries (map deref_pair (xs ++ x ∷ [])))) ≡ better f (number_of x.1.now) (reduce f (numbers (points_of_entries (map deref_pair xs)))) x.1.now
+    → reduce f (numbers (points_of_entries (map deref_pair (xs ++ x ∷ [])))) ≡ better f (as_number x.1.now) (reduce f (numbers (points_of_entries (map deref_pair xs)))) x.1.now
 reduce-more f xs x =
     ap (λ (l : List (ℤ × Value)). reduce f (numbers (points_of_entries l))) (map-append deref_pair xs (x ∷ []))
     ∙ ap (λ l. reduce f (numbers l)) (map-append (λ (e : ℤ × Value). record { time = e.0; value = e.1 }) (map deref_pair xs) (map deref_pair (x ∷ [])))
-    ∙ ap (reduce f) (filter_map-append (λ (p : Point). if_number (number_of p.value) p.value) (points_of_entries (map deref_pair xs)) (points_of_entries (map deref_pair (x ∷ []))))
-    ∙ reduce-push f (numbers (points_of_entries (map deref_pair xs))) (number_of x.1.now) x.1.now
+    ∙ ap (reduce f) (filter_map-append (λ (p : Point). if_number (as_number p.value) p.value) (points_of_entries (map deref_pair xs)) (points_of_entries (map deref_pair (x ∷ []))))
+    ∙ reduce-push f (numbers (points_of_entries (map deref_pair xs))) (as_number x.1.now) x.1.now
 
 -- the first point, and the last
 pub first_of : (g : ℤ → Value → Value) (s t : List (ℤ × Value)) (r : Option Seen) → TakesFirst deref_pair s r t
@@ -80,5 +80,5 @@ length-points_of_entries [] = refl
 length-points_of_entries (e ∷ es) = ap (λ n. suc n) (length-points_of_entries es)
 
 -- the aggregate of the points that were walked
-pub of_range : (a b : Aggregate) (es : List (ℤ × Value)) (p : Points) → a ≡ b → es ≡ entries p → aggregate_of b (points_of_entries es) ≡ aggregate_of a (in_order p)
+pub of_range : (a b : Aggregate) (es : List (ℤ × Value)) (p : PointMap) → a ≡ b → es ≡ entries p → aggregate_of b (points_of_entries es) ≡ aggregate_of a (in_order p)
 of_range a b es p is same = ap (λ a. aggregate_of a (points_of_entries es)) (sym is) ∙ ap (λ (es : List (ℤ × Value)). aggregate_of a (points_of_entries es)) same

@@ -17,10 +17,10 @@ use Rattle.tsdb_model.specs.declared.command.Command.TheVariants.{Delete, Insert
 use Rattle.tsdb_model.specs.declared.command.Literal.{Literal}
 use Rattle.tsdb_model.specs.declared.command.Row.{Row}
 use Rattle.tsdb_model.specs.declared.reply.Reply.TheVariants.{Plain}
-use Rattle.tsdb_model.specs.World.{change, change_series, cut, is_in, points_of, put, value_at, Series, World}
+use Rattle.tsdb_model.specs.World.{change, change_series, cut, is_in, points_of_series, put, value_at, Series, World}
 use Rattle.tsdb_model.specs.Apply.{after_reply, all_fit, fits_series, insert_answer, put_cells, put_literal, put_value, reply_of, series_of, value_of, world_after}
 use Rattle.tsdb_model.specs.Commands.{AreDifferent, IsRow}
-use Rattle.tsdb_map.specs.Laws.{IsNamed}
+use Rattle.tsdb_map.specs.Laws.{IsCellPath}
 use Rattle.tsdb_map.proofs.PlainLemmas.{cell-put, done_fits, fits, here, here_at, not_done, rest_fits}
 use Rattle.tsdb_map.proofs.WorldLemmas.{behind, behind-child}
 use Rattle.tsdb_path.specs.Nodes.{child_of}
@@ -46,9 +46,9 @@ at_time : (world : World) (p q : List ℕ) (f : Series → Series) (time : ℤ) 
     → (found : Option Series) → get world p ≡ found → value_at (change_series world p f found) q time ≡ value_at world q time
 at_time world p q f time h None is = refl
 at_time world p q f time h (Some s) is =
-    ap (λ o. get (points_of o) time) (get-insert nat_list_cmp_total world p (f s) q)
-    ∙ elim (same q p) as (λ b. same q p ≡ b → get (points_of (cond b (Some (f s)) (get world q))) time ≡ value_at world q time) [
-      | true ↦ λ e. h s ∙ ap (λ o. get (points_of o) time) (sym is ∙ ap (get world) (sym (tells_apart exact_bytes q p e)))
+    ap (λ o. get (points_of_series o) time) (get-insert nat_list_cmp_total world p (f s) q)
+    ∙ elim (same q p) as (λ b. same q p ≡ b → get (points_of_series (cond b (Some (f s)) (get world q))) time ≡ value_at world q time) [
+      | true ↦ λ e. h s ∙ ap (λ o. get (points_of_series o) time) (sym is ∙ ap (get world) (sym (tells_apart exact_bytes q p e)))
       | false ↦ λ e. refl
     ] refl
 
@@ -63,19 +63,19 @@ put_elsewhere t time (Some v) s apart =
 
 cell_stays : (world : World) (p q : List ℕ) (t time : ℤ) (literal : Literal) → (q ≢ p) ⊎ (time ≢ t)
     → value_at (change world p (put_literal t literal)) q time ≡ value_at world q time
-cell_stays world p q t time literal (inl apart) = ap (λ o. get (points_of o) time) (other_series world p q (put_literal t literal) apart)
+cell_stays world p q t time literal (inl apart) = ap (λ o. get (points_of_series o) time) (other_series world p q (put_literal t literal) apart)
 cell_stays world p q t time literal (inr apart) =
     at_time world p q (put_literal t literal) time (λ s. put_elsewhere t time (value_of literal s.data_type) s apart) (get world p) refl
 
-first_not : (device path : List ℕ) (cell : Cell) (cells : List Cell) {A : Type 0} → (¬ IsNamed device (cell ∷ cells) path) ⊎ A → (path ≢ child_of device cell.measurement) ⊎ A
+first_not : (device path : List ℕ) (cell : Cell) (cells : List Cell) {A : Type 0} → (¬ IsCellPath device (cell ∷ cells) path) ⊎ A → (path ≢ child_of device cell.measurement) ⊎ A
 first_not device path cell cells (inl h) = inl (λ e. h (inl e))
 first_not device path cell cells (inr a) = inr a
 
-rest_not : (device path : List ℕ) (cell : Cell) (cells : List Cell) {A : Type 0} → (¬ IsNamed device (cell ∷ cells) path) ⊎ A → (¬ IsNamed device cells path) ⊎ A
+rest_not : (device path : List ℕ) (cell : Cell) (cells : List Cell) {A : Type 0} → (¬ IsCellPath device (cell ∷ cells) path) ⊎ A → (¬ IsCellPath device cells path) ⊎ A
 rest_not device path cell cells (inl h) = inl (λ e. h (inr e))
 rest_not device path cell cells (inr a) = inr a
 
-cells_stay : (cells : List Cell) (world : World) (device path : List ℕ) (t time : ℤ) → (¬ IsNamed device cells path) ⊎ (time ≢ t)
+cells_stay : (cells : List Cell) (world : World) (device path : List ℕ) (t time : ℤ) → (¬ IsCellPath device cells path) ⊎ (time ≢ t)
     → value_at (put_cells world device t cells) path time ≡ value_at world path time
 cells_stay [] world device path t time h = refl
 cells_stay (cell ∷ cells) world device path t time h =
@@ -92,7 +92,7 @@ after_answer world device row Device Q stays written = stays
 after_answer world device row Memory Q stays written = stays
 after_answer world device row (Full counter) Q stays written = stays
 
-pub others : (world : World) (device path : List ℕ) (row : Row) (time : ℤ) → (¬ IsNamed device row.cells path) ⊎ (time ≢ row.time)
+pub others : (world : World) (device path : List ℕ) (row : Row) (time : ℤ) → (¬ IsCellPath device row.cells path) ⊎ (time ≢ row.time)
     → value_at (world_after world (Insert device row)) path time ≡ value_at world path time
 others world device path row time h =
     after_answer world device row (insert_answer world device row.cells) (λ after. value_at after path time ≡ value_at world path time) refl
@@ -104,7 +104,7 @@ same_name a b e = cc
 one_name : (device a b : List ℕ) → child_of device a ≡ child_of device b → a ≡ b
 one_name device a b e = same_name a b (sym (behind-child device a) ∙ ap (behind device) e ∙ behind-child device b)
 
-named_at : (device name : List ℕ) (cells : List Cell) → IsNamed device cells (child_of device name)
+named_at : (device name : List ℕ) (cells : List Cell) → IsCellPath device cells (child_of device name)
     → (k : ℕ) × (slice_get (map (λ (cell : Cell). cell.measurement) cells) k ≡ Some name)
 named_at device name [] h = absurd h
 named_at device name (cell ∷ cells) (inl e) = (zero, ap Some (sym (one_name device name cell.measurement e)))
@@ -127,7 +127,7 @@ written_here : (world : World) (p : List ℕ) (time : ℤ) (literal : Literal) (
 written_here world p time literal s fit there =
     let f = fits literal (get world p) fit in
     ap (λ w. value_at w p time) (cell-put world p time literal f)
-    ∙ ap (λ o. get (points_of o) time) (here world p (put time f.value f.series)) ∙ here_at f.series.points time f.value
+    ∙ ap (λ o. get (points_of_series o) time) (here world p (put time f.value f.series)) ∙ here_at f.series.points time f.value
     ∙ sym f.is ∙ ap (λ (s : Series). value_of literal s.data_type) (some_series f.series s (sym f.there ∙ there))
   where
     some_series : (a b : Series) → Some a ≡ Some b → a ≡ b
@@ -197,9 +197,9 @@ delete_is world series range = deleted world series range (get world series) ref
 
 removed_from : (world : World) (series : List ℕ) (range : Range) (time : ℤ) → is_in range time ≡ true → (found : Option Series) → get world series ≡ found
     → value_at (change_series world series (cut range) found) series time ≡ None
-removed_from world series range time inside None e = ap (λ o. get (points_of o) time) e ∙ get-empty int_cmp time
+removed_from world series range time inside None e = ap (λ o. get (points_of_series o) time) e ∙ get-empty int_cmp time
 removed_from world series range time inside (Some s) e =
-    ap (λ o. get (points_of o) time) (here world series (cut range s)) ∙ get-cut range s time
+    ap (λ o. get (points_of_series o) time) (here world series (cut range s)) ∙ get-cut range s time
     ∙ ap (λ b. cond (not b) (get s.points time) None) inside
 
 pub removes : (world : World) (series : List ℕ) (range : Range) (time : ℤ) → is_in range time ≡ true
@@ -210,7 +210,7 @@ removes world series range time inside =
 pub keeps : (world : World) (series path : List ℕ) (range : Range) (time : ℤ) → (path ≢ series) ⊎ (is_in range time ≡ false)
     → value_at (world_after world (Delete series range)) path time ≡ value_at world path time
 keeps world series path range time (inl apart) =
-    ap (λ w. value_at w path time) (delete_is world series range) ∙ ap (λ o. get (points_of o) time) (other_series world series path (cut range) apart)
+    ap (λ w. value_at w path time) (delete_is world series range) ∙ ap (λ o. get (points_of_series o) time) (other_series world series path (cut range) apart)
 keeps world series path range time (inr outside) =
     ap (λ w. value_at w path time) (delete_is world series range)
     ∙ at_time world series path (cut range) time (λ s. get-cut range s time ∙ ap (λ b. cond (not b) (get s.points time) None) outside) (get world series) refl

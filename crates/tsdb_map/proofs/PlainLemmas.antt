@@ -17,7 +17,7 @@ use Rattle.tsdb_model.specs.declared.command.Cell.{Cell}
 use Rattle.tsdb_model.specs.declared.command.Command.{Command}
 use Rattle.tsdb_model.specs.declared.command.Literal.{Literal}
 use Rattle.tsdb_model.specs.declared.reply.Reply.TheVariants.{Plain}
-use Rattle.tsdb_model.specs.World.{change, change_series, points_of, put, value_at, Points, Series, World}
+use Rattle.tsdb_model.specs.World.{change, change_series, points_of_series, put, value_at, PointMap, Series, World}
 use Rattle.tsdb_model.specs.Apply.{after_reply, all_fit, are_there, fits_series, insert_answer, put_cells, put_literal, put_value, series_of, value_of}
 use Rattle.tsdb_map.specs.Model.{set_at}
 use Rattle.tsdb_map.specs.Pending.{old_values}
@@ -101,7 +101,7 @@ cell-put world p time literal fit =
 pub here : (world : World) (p : List ℕ) (s : Series) → get (insert world p s) p ≡ Some s
 here world p s = get-insert nat_list_cmp_total world p s p ∙ ap (λ b. cond b (Some s) (get world p)) ((eq_by_cmp_equiv nat_list_cmp_total).refl p)
 
-pub here_at : (m : Points) (t : ℤ) (v : Value) → get (insert m t v) t ≡ Some v
+pub here_at : (m : PointMap) (t : ℤ) (v : Value) → get (insert m t v) t ≡ Some v
 here_at m t v = get-insert int_cmp_total m t v t ∙ ap (λ b. cond b (Some v) (get m t)) ((eq_by_cmp_equiv int_cmp_total).refl t)
 
 -- the time is there once a cell was written
@@ -110,7 +110,7 @@ pub put_there : (world after : World) (p : List ℕ) (time : ℤ) (literal : Lit
 put_there world after p time literal e is =
     let fit = fits literal (get world p) e in
     ap is_some (ap (λ w. value_at w p time) (is ∙ cell-put world p time literal fit)
-    ∙ ap (λ o. get (points_of o) time) (here world p (put time fit.value fit.series))
+    ∙ ap (λ o. get (points_of_series o) time) (here world p (put time fit.value fit.series))
     ∙ here_at fit.series.points time fit.value)
 
 twice : (b : Bool) (x y : Option Value) → cond b x (cond b y x) ≡ x
@@ -121,7 +121,7 @@ twice_series : (b : Bool) (x y : Option Series) (o : Option Series) → cond b x
 twice_series true x y o = refl
 twice_series false x y o = refl
 
-same_points : (a b : Points) → ((q : ℤ) → get a q ≡ get b q) → a ≡ b
+same_points : (a b : PointMap) → ((q : ℤ) → get a q ≡ get b q) → a ≡ b
 same_points a b h = same_map int_cmp_total int_cmp-IsAntisymmetric a b h
 
 back-at : (b : Bool) (v : Value) (o p : Option Value) → (b ≡ true → p ≡ o) → cond b o (cond b (Some v) p) ≡ p
@@ -130,11 +130,11 @@ back-at false v o p h = refl
 
 -- what stood at the time stands there again
 series-back : (s : Series) (time : ℤ) (v : Value) (old : Option Value) → old ≡ get s.points time → set_at time old (put time v s) ≡ s
-series-back s time v None e = ap (λ (p : Points). record { data_type = s.data_type; points = p }) (same_points (remove (insert s.points time v) time) s.points (λ q.
+series-back s time v None e = ap (λ (p : PointMap). record { data_type = s.data_type; points = p }) (same_points (remove (insert s.points time v) time) s.points (λ q.
     get-remove int_cmp_total (insert s.points time v) time q
     ∙ ap (cond (eq_by_cmp int_cmp q time) None) (get-insert int_cmp_total s.points time v q)
     ∙ back-at (eq_by_cmp int_cmp q time) v None (get s.points q) (λ at. ap (get s.points) (tells_apart exact_signed q time at) ∙ sym e)))
-series-back s time v (Some w) e = ap (λ (p : Points). record { data_type = s.data_type; points = p }) (same_points (insert (insert s.points time v) time w) s.points (λ q.
+series-back s time v (Some w) e = ap (λ (p : PointMap). record { data_type = s.data_type; points = p }) (same_points (insert (insert s.points time v) time w) s.points (λ q.
     get-insert int_cmp_total (insert s.points time v) time w q
     ∙ ap (cond (eq_by_cmp int_cmp q time) (Some w)) (get-insert int_cmp_total s.points time v q)
     ∙ back-at (eq_by_cmp int_cmp q time) v (Some w) (get s.points q) (λ at. ap (get s.points) (tells_apart exact_signed q time at) ∙ sym e)))
@@ -156,7 +156,7 @@ taken_back world after back p time literal old e put_so stood is =
     ∙ sym (change-there (insert world p (put time fit.value fit.series)) p (set_at time old) (put time fit.value fit.series) (set_at time old (put time fit.value fit.series))
     (here world p (put time fit.value fit.series)) refl)
     ∙ ap (insert (insert world p (put time fit.value fit.series)) p)
-    (series-back fit.series time fit.value old (stood ∙ ap (λ o. get (points_of o) time) fit.there))
+    (series-back fit.series time fit.value old (stood ∙ ap (λ o. get (points_of_series o) time) fit.there))
     ∙ insert-twice world p fit.series (put time fit.value fit.series) ∙ insert-same world p fit.series fit.there
 
 -- a list with one more at its end

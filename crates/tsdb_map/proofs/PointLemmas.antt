@@ -23,10 +23,10 @@ use Rattle.std.specs.BTreeMap.{BTreeMap, is_at}
 use Rattle.std.specs.BTreeMap as tree
 use Rattle.std.specs.declared.cmp.Ordering.TheVariants.{Less, Equal, Greater}
 use Rattle.tsdb_base.specs.declared.value.Value.{Value}
-use Rattle.tsdb_model.specs.World.{Points, Series, cut, is_in}
+use Rattle.tsdb_model.specs.World.{PointMap, Series, cut, is_in}
 use Rattle.tsdb_model.proofs.TimeTests.{of_true, le-lt, le-cmp, lt-cmp}
 
-abbrev pub points_of : BTreeMap ℤ Value → Points
+abbrev pub points_of : BTreeMap ℤ Value → PointMap
 points_of kept = from_entries kept.entries
 
 pub find-lookup : {K X : Type 0} (R : K → K → Ordering) (es : List (K × X)) (q : K) → find R q es ≡ lookup (is_at (R q)) es
@@ -83,13 +83,13 @@ entries-points_of kept ordered =
 pub set-removed : (kind : DataType) (m n : BTreeMap ℤ Value) (s : Series) (t u : ℤ) (o : Option Value) → series_view kind m ≡ s → o ≡ None → u ≡ t
     → ((q : ℤ) → tree.get int_cmp n q ≡ cond (is_at (int_cmp u) q) None (tree.get int_cmp m q)) → series_view kind n ≡ set_at t o s
 set-removed kind m n s t u o is none same h =
-    ap (λ (p : Points). record { data_type = kind; points = p }) (points_of-removed m n u h)
+    ap (λ (p : PointMap). record { data_type = kind; points = p }) (points_of-removed m n u h)
     ∙ ap (λ x. set_at x None (series_view kind m)) same ∙ ap (set_at t None) is ∙ ap (λ x. set_at t x s) (sym none)
 
 pub set-put : (kind : DataType) (m n : BTreeMap ℤ Value) (s : Series) (t u : ℤ) (v : Value) (o : Option Value) → series_view kind m ≡ s → o ≡ Some v → u ≡ t
     → ((q : ℤ) → tree.get int_cmp n q ≡ cond (is_at (int_cmp u) q) (Some v) (tree.get int_cmp m q)) → series_view kind n ≡ set_at t o s
 set-put kind m n s t u v o is some same h =
-    ap (λ (p : Points). record { data_type = kind; points = p }) (points_of-put m n u v h)
+    ap (λ (p : PointMap). record { data_type = kind; points = p }) (points_of-put m n u v h)
     ∙ ap (λ x. set_at x (Some v) (series_view kind m)) same ∙ ap (set_at t (Some v)) is ∙ ap (λ x. set_at t x s) (sym some)
 
 -- what the series has at a time
@@ -117,7 +117,7 @@ filter-none (e ∷ es) = filter-none es
 alike : (p : ℤ → Bool) (q x : ℤ) → int_cmp q x ≡ Equal → p x ≡ p q
 alike p q x tied = ap p (sym (int_cmp-IsAntisymmetric q x tied))
 
-entries-retain_keys : (points : Points) (p : ℤ → Bool) → entries (retain_keys points p) ≡ where_key int_cmp p (entries points)
+entries-retain_keys : (points : PointMap) (p : ℤ → Bool) → entries (retain_keys points p) ≡ where_key int_cmp p (entries points)
 entries-retain_keys points p =
     let sorted : T (is_sorted int_cmp (where_key int_cmp p (entries points))) = is_sorted-where_key int_cmp p (entries points) (entries_sorted points) in
     ap entries (same_map int_cmp_total int_cmp-IsAntisymmetric (retain_keys points p) (from_sorted (where_key int_cmp p (entries points))) (λ q.
@@ -125,7 +125,7 @@ entries-retain_keys points p =
     ∙ sym (get-from_sorted int_cmp (where_key int_cmp p (entries points)) q sorted ∙ find-where_key int_cmp p q (alike p q) (entries points))))
     ∙ entries-from_sorted int_cmp (where_key int_cmp p (entries points)) sorted
 
-entries-within : (points : Points) (range : Range) → entries (within range points) ≡ filter (λ e. is_in range e.0) (entries points)
+entries-within : (points : PointMap) (range : Range) → entries (within range points) ≡ filter (λ e. is_in range e.0) (entries points)
 entries-within points range = entries-retain_keys points (is_in range)
 
 entries_of : (kind : DataType) (m : BTreeMap ℤ Value) (s : Series) (range : Range) → tree.IsOrdered int_cmp m → series_view kind m ≡ s
@@ -166,17 +166,17 @@ entries-empty kind m s range a ordered is empty =
     ∙ sym (filter-same (is_in range) (λ q. false) (is_in-empty range empty) m.entries)
     ∙ sym (entries_of kind m s range ordered is)
 
-get-within : (points : Points) (range : Range) (q : ℤ) → get (within range points) q ≡ cond (is_in range q) (get points q) None
+get-within : (points : PointMap) (range : Range) (q : ℤ) → get (within range points) q ≡ cond (is_in range q) (get points q) None
 get-within points range q = get-retain_keys points (is_in range) q (alike (is_in range) q)
 
-get-outside : (points : Points) (range : Range) (q : ℤ) → get (retain_keys points (λ t. not (is_in range t))) q ≡ cond (not (is_in range q)) (get points q) None
+get-outside : (points : PointMap) (range : Range) (q : ℤ) → get (retain_keys points (λ t. not (is_in range t))) q ≡ cond (not (is_in range q)) (get points q) None
 get-outside points range q = get-retain_keys points (λ t. not (is_in range t)) q (alike (λ t. not (is_in range t)) q)
 
-same_points : (a b : Points) → ((q : ℤ) → get a q ≡ get b q) → a ≡ b
+same_points : (a b : PointMap) → ((q : ℤ) → get a q ≡ get b q) → a ≡ b
 same_points a b h = same_map int_cmp_total int_cmp-IsAntisymmetric a b h
 
-with_points : (s : Series) (p : Points) → p ≡ s.points → record { data_type = s.data_type; points = p } ≡ s
-with_points s p e = ap (λ (p : Points). record { data_type = s.data_type; points = p }) e
+with_points : (s : Series) (p : PointMap) → p ≡ s.points → record { data_type = s.data_type; points = p } ≡ s
+with_points s p e = ap (λ (p : PointMap). record { data_type = s.data_type; points = p }) e
 
 -- where no time is in the range there is nothing to cut
 pub cut-none : (range : Range) (s : Series) → entries (within range s.points) ≡ [] → s ≡ cut range s
@@ -188,7 +188,7 @@ cut-none range s none = sym (with_points s (retain_keys s.points (λ t. not (is_
     ] (sym (get-within s.points range q) ∙ get-entries (within range s.points) q ∙ ap (find int_cmp q) none))))
 
 -- the first point in the range is in it, and the series has it
-pub first-in : (range : Range) (p : Points) (t : ℤ) (v : Value) (rest : List (ℤ × Value)) → entries (within range p) ≡ (t, v) ∷ rest
+pub first-in : (range : Range) (p : PointMap) (t : ℤ) (v : Value) (rest : List (ℤ × Value)) → entries (within range p) ≡ (t, v) ∷ rest
     → (is_in range t ≡ true) × (get p t ≡ Some v)
 first-in range p t v rest first =
     elim (is_in range t) as (λ b. cond b (get p t) None ≡ Some v → (b ≡ true) × (get p t ≡ Some v)) [
@@ -233,14 +233,14 @@ and-false true = refl
 and-false false = refl
 
 -- the points of the range at a time: those of the series, where the range has the time
-pub within-there : (range : Range) (p : Points) (t : ℤ) → int_lt t range.from ≡ false → int_lt range.to t ≡ false → get (within range p) t ≡ get p t
+pub within-there : (range : Range) (p : PointMap) (t : ℤ) → int_lt t range.from ≡ false → int_lt range.to t ≡ false → get (within range p) t ≡ get p t
 within-there range p t e f =
     get-within p range t ∙ ap (λ b. cond b (get p t) None) (both-and _ _ true true (le-lt t range.from ∙ ap not e) (le-lt range.to t ∙ ap not f))
 
-pub within-before : (range : Range) (p : Points) (t : ℤ) → int_lt t range.from ≡ true → get (within range p) t ≡ None
+pub within-before : (range : Range) (p : PointMap) (t : ℤ) → int_lt t range.from ≡ true → get (within range p) t ≡ None
 within-before range p t e = get-within p range t ∙ ap (λ b. cond (b && int_le t range.to) (get p t) None) (le-lt t range.from ∙ ap not e)
 
-pub within-behind : (range : Range) (p : Points) (t : ℤ) → int_lt range.to t ≡ true → get (within range p) t ≡ None
+pub within-behind : (range : Range) (p : PointMap) (t : ℤ) → int_lt range.to t ≡ true → get (within range p) t ≡ None
 within-behind range p t e =
     get-within p range t
     ∙ ap (λ b. cond b (get p t) None) (ap (λ b. int_le range.from t && b) (le-lt range.to t ∙ ap not e) ∙ and-false (int_le range.from t))

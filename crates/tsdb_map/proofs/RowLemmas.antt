@@ -16,7 +16,7 @@ use Rattle.tsdb_model.specs.declared.command.Item.{Item}
 use Rattle.tsdb_base.specs.declared.answers.Answer.TheVariants.{NoPath, WrongType}
 use Rattle.tsdb_model.specs.declared.reply.Line.{Line}
 use Rattle.tsdb_model.specs.declared.reply.Reply.TheVariants.{Lines, Plain, Values}
-use Rattle.tsdb_model.specs.World.{points_of, Points, Series, World}
+use Rattle.tsdb_model.specs.World.{points_of_series, PointMap, Series, World}
 use Rattle.tsdb_model.specs.Folds.{line_at, rows, within}
 use Rattle.tsdb_model.specs.Apply.{any_unfit, are_there, ask_aggregates, columns_of, item_values, select_reply, series_of}
 use Rattle.tsdb_map.proofs.PlainLemmas.{whole}
@@ -26,7 +26,7 @@ fused : {A B C : Type 0} (g : B → C) (f : A → B) (xs : List A) → map g (ma
 fused g f [] = refl
 fused g f (x ∷ xs) = ap (λ l. g (f x) ∷ l) (fused g f xs)
 
-abbrev pub columns_in : Range → List (Bor Series) → List Points
+abbrev pub columns_in : Range → List (Bor Series) → List PointMap
 columns_in range columns = map (λ column. within range column.now.points) columns
 
 -- a line once all columns were read
@@ -99,11 +99,11 @@ items_there world device items i end h = item_names world device items ∙ ap (l
 
 -- the columns of the items, from their series
 pub columns-are : (world : World) (device : List ℕ) (items : List Item) (range : Range) (columns : List (Bor Series))
-    → map (λ column. column.now.points) columns ≡ map (λ item. points_of (series_of world device item.measurement)) items
+    → map (λ column. column.now.points) columns ≡ map (λ item. points_of_series (series_of world device item.measurement)) items
     → columns_in range columns ≡ columns_of world device items range
 columns-are world device items range columns is =
     sym (fused (within range) (λ (column : Bor Series). column.now.points) columns) ∙ ap (map (within range)) is
-    ∙ fused (within range) (λ (item : Item). points_of (series_of world device item.measurement)) items
+    ∙ fused (within range) (λ (item : Item). points_of_series (series_of world device item.measurement)) items
 
 -- the lines of a select without aggregates
 pub lines_reply : (world : World) (device : List ℕ) (items : List Item) (range : Range) (lines : List Line)

@@ -17,7 +17,7 @@ use Rattle.std.proofs.lemmas.List.Elements.{recursion_from_All, All-from_recursi
 use Rattle.std.proofs.lemmas.Map.Views.{tells_apart, All-values-set_value, All-values-insert_entry, All-keys-insert_entry, All-map-remove_entry, IfSome-lookup_from_All}
 use Rattle.std.proofs.lemmas.Map.Lookups.{exact_bytes}
 use Rattle.tsdb_model.specs.World.{change, change_series, Series, World}
-use Rattle.tsdb_map.specs.Model.{AreKept, IsDotless, device_entries, world_of}
+use Rattle.tsdb_map.specs.Model.{AreOrderedDevices, IsDotless, device_entries, world_of}
 use Rattle.tsdb_path.specs.Nodes.{child_of, device_of, dot, IsName}
 use Rattle.tsdb_path.proofs.Bytes.{IsNode-dotless}
 use Rattle.tsdb_path.proofs.Parts.{device_of-child}
@@ -185,7 +185,7 @@ seek-child (e ∷ es) s h d n a =
     ] refl
 
 -- the series of a device with this measurement
-pub get-world : (m : BTreeMap (List ℕ) Names) (world : World) → AreKept m → world_of m.entries ≡ world → (d n : List ℕ) → IsDotless n
+pub get-world : (m : BTreeMap (List ℕ) Names) (world : World) → AreOrderedDevices m → world_of m.entries ≡ world → (d n : List ℕ) → IsDotless n
     → get world (child_of d n) ≡ in_names (tree.get path_cmp m d) n
 get-world m world kept is d n a =
     ap (λ w. get w (child_of d n)) (sym is) ∙ get-seek m.entries (child_of d n)
@@ -264,7 +264,7 @@ world-by-seek es fs world p t is h = same_map nat_list_cmp_total (slice_cmp-IsAn
     get-seek fs q ∙ h q ∙ ap (cond (same q p) (Some t)) (sym (get-seek es q) ∙ ap (λ w. get w q) is) ∙ sym (get-insert nat_list_cmp_total world p t q))
 
 -- a series of a device that is there
-pub world-set : (m n : BTreeMap (List ℕ) Names) (world : World) → AreKept m → world_of m.entries ≡ world → (d name : List ℕ) → IsDotless name
+pub world-set : (m n : BTreeMap (List ℕ) Names) (world : World) → AreOrderedDevices m → world_of m.entries ≡ world → (d name : List ℕ) → IsDotless name
     → (old new : Names) (t : Series) → tree.get path_cmp m d ≡ Some old → Puts old new name t
     → n.entries ≡ set_value (is_at (path_cmp d)) m.entries new → world_of n.entries ≡ insert world (child_of d name) t
 world-set m n world kept is d name a old new t found puts written =
@@ -293,7 +293,7 @@ seek-drop (e ∷ es) d n old new found drops q apart =
     ] refl found
 
 -- a series that is taken away
-pub world-drop : (m n : BTreeMap (List ℕ) Names) (world : World) → AreKept m → AreKept n → world_of m.entries ≡ world → (d name : List ℕ) → IsDotless name
+pub world-drop : (m n : BTreeMap (List ℕ) Names) (world : World) → AreOrderedDevices m → AreOrderedDevices n → world_of m.entries ≡ world → (d name : List ℕ) → IsDotless name
     → (old new : Names) → tree.get path_cmp m d ≡ Some old → tree.get path_cmp n d ≡ Some new → Drops old new name
     → n.entries ≡ set_value (is_at (path_cmp d)) m.entries new → world_of n.entries ≡ remove world (child_of d name)
 world-drop m n world kept after is d name a old new found now drops written =
@@ -322,22 +322,22 @@ remove-insert world p s none = same_map nat_list_cmp_total (slice_cmp-IsAntisymm
     [ true ↦ λ e. sym none ∙ ap (get world) (sym (tells_apart exact_bytes q p e)) | false ↦ λ e. refl ] refl)
 
 -- the first series of a device
-pub world-new : (m n : BTreeMap (List ℕ) Names) (world : World) → AreKept m → world_of m.entries ≡ world → (d name : List ℕ) → IsDotless name
+pub world-new : (m n : BTreeMap (List ℕ) Names) (world : World) → AreOrderedDevices m → world_of m.entries ≡ world → (d name : List ℕ) → IsDotless name
     → (none new : Names) (t : Series) → none.entries ≡ [] → tree.get path_cmp m d ≡ None → Puts none new name t
     → n.entries ≡ insert_entry path_cmp m.entries d new → world_of n.entries ≡ insert world (child_of d name) t
 world-new m n world kept is d name a none new t empty absent puts written =
     ap world_of written ∙ world-by-seek m.entries _ world (child_of d name) t is (seek-new m.entries (recursion_from_All _ _ kept.dotless) d name a none new t empty absent puts)
 
-pub kept-set : (m n : BTreeMap (List ℕ) Names) → AreKept m → (d : List ℕ) (new : Names) → n.entries ≡ set_value (is_at (path_cmp d)) m.entries new
-    → tree.IsOrdered path_cmp n → All IsDotless (tree.keys new) → AreKept n
+pub kept-set : (m n : BTreeMap (List ℕ) Names) → AreOrderedDevices m → (d : List ℕ) (new : Names) → n.entries ≡ set_value (is_at (path_cmp d)) m.entries new
+    → tree.IsOrdered path_cmp n → All IsDotless (tree.keys new) → AreOrderedDevices n
 kept-set m n kept d new written ordered h = record {
   ordered = ordered;
   dotless = subst (λ es. All (λ names. All IsDotless (tree.keys names)) (values_of es)) (sym written)
       (All-values-set_value (is_at (path_cmp d)) (λ names. All IsDotless (tree.keys names)) m.entries new kept.dotless h);
 }
 
-pub kept-new : (m n : BTreeMap (List ℕ) Names) → AreKept m → (d : List ℕ) (new : Names) → n.entries ≡ insert_entry path_cmp m.entries d new
-    → tree.IsOrdered path_cmp n → All IsDotless (tree.keys new) → AreKept n
+pub kept-new : (m n : BTreeMap (List ℕ) Names) → AreOrderedDevices m → (d : List ℕ) (new : Names) → n.entries ≡ insert_entry path_cmp m.entries d new
+    → tree.IsOrdered path_cmp n → All IsDotless (tree.keys new) → AreOrderedDevices n
 kept-new m n kept d new written ordered h = record {
   ordered = ordered;
   dotless = subst (λ es. All (λ names. All IsDotless (tree.keys names)) (values_of es)) (sym written)
@@ -345,7 +345,7 @@ kept-new m n kept d new written ordered h = record {
 }
 
 -- the names of a device that is there have no dots
-pub kept-found : (m : BTreeMap (List ℕ) Names) → AreKept m → (d : List ℕ) (names : Names) → tree.get path_cmp m d ≡ Some names → All IsDotless (tree.keys names)
+pub kept-found : (m : BTreeMap (List ℕ) Names) → AreOrderedDevices m → (d : List ℕ) (names : Names) → tree.get path_cmp m d ≡ Some names → All IsDotless (tree.keys names)
 kept-found m kept d names found = at (tree.get path_cmp m d) found (IfSome-lookup_from_All (λ names. All IsDotless (tree.keys names)) (is_at (path_cmp d)) m.entries kept.dotless)
   where
     at : (o : Option Names) → o ≡ Some names → IfSome o (λ names. All IsDotless (tree.keys names)) → All IsDotless (tree.keys names)

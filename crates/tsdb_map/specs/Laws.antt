@@ -4,6 +4,6 @@ use Rattle.tsdb_model.specs.declared.command.Cell.{Cell}
 use Rattle.tsdb_path.specs.Nodes.{child_of}
 
 -- a path is that of one of the cells
-abbrev pub IsNamed : List ℕ → List Cell → List ℕ → Type 0
-IsNamed device [] path = ⊥
-IsNamed device (cell ∷ cells) path = (path ≡ child_of device cell.measurement) ⊎ IsNamed device cells path
+abbrev pub IsCellPath : List ℕ → List Cell → List ℕ → Type 0
+IsCellPath device [] path = ⊥
+IsCellPath device (cell ∷ cells) path = (path ≡ child_of device cell.measurement) ⊎ IsCellPath device cells path

@@ -13,7 +13,7 @@ use Rattle.tsdb_base.specs.declared.answers.Aggregate.{Aggregate}
 use Rattle.tsdb_base.specs.declared.answers.Aggregate.TheVariants.{Count, FirstValue, LastValue, MinValue, MaxValue}
 use Rattle.tsdb_base.specs.declared.answers.Aggregate.TheVariants.{MinTime, MaxTime}
 use Rattle.tsdb_base.specs.declared.point.Point.{Point}
-use Rattle.tsdb_model.specs.World.{Points, Series, World, put}
+use Rattle.tsdb_model.specs.World.{PointMap, Series, World, put}
 use Rattle.tsdb_path.specs.Nodes.{child_of, dot}
 use base.Stored.{Coded, coded×, coded_via}
 
@@ -21,11 +21,11 @@ use base.Stored.{Coded, coded×, coded_via}
 abbrev pub series_view : DataType → BTreeMap ℤ Value → Series
 series_view data_type points = record { data_type = data_type; points = from_entries points.entries }
 
-abbrev pub parts_of : Series → DataType × Points
+abbrev pub parts_of : Series → DataType × PointMap
 parts_of series = (series.data_type, series.points)
 
 pub same_series : (a b : Series) → parts_of a ≡ parts_of b → a ≡ b
-same_series a b e = ap (λ (p : DataType × Points). record { data_type = p.0; points = p.1 }) e
+same_series a b e = ap (λ (p : DataType × PointMap). record { data_type = p.0; points = p.1 }) e
 
 abbrev pub series_code : Coded DataType → Coded Value → Coded Series
 series_code data_type value = coded_via (coded× data_type (finite.code coded_ℤ value)) parts_of same_series
@@ -46,7 +46,7 @@ abbrev pub IsDotless : List ℕ → Type 0
 IsDotless name = All (λ byte. (byte == dot) ≡ false) name
 
 -- devices in their order, with names that have no dot
-pub record AreKept (devices : BTreeMap (List ℕ) (BTreeMap (List ℕ) Series)) : Type 0 where
+pub record AreOrderedDevices (devices : BTreeMap (List ℕ) (BTreeMap (List ℕ) Series)) : Type 0 where
   pub ordered : IsOrdered (slice_cmp nat_cmp) devices
   pub dotless : All (λ names. All IsDotless (keys names)) (values devices)
 

@@ -49,6 +49,6 @@ pub record AwaitsChange (before now : World) (command : Command) (change : Pendi
   pub pending : IsPending before now command change
 
 -- what a map that was `before` is once a command was prepared
-abbrev pub IsPrepared : World → World → Command → Prepared → Type 0
-IsPrepared before now command (Reply reply) = ChangesNothing before now command reply
-IsPrepared before now command (Change change) = AwaitsChange before now command change
+abbrev pub HasPrepared : World → World → Command → Prepared → Type 0
+HasPrepared before now command (Reply reply) = ChangesNothing before now command reply
+HasPrepared before now command (Change change) = AwaitsChange before now command change

@@ -22,7 +22,7 @@ pub struct Catalog {
 
 impl Model for Catalog {
     ghost use Rattle.tsdb_model.specs.World.{World};
-    ghost use Rattle.tsdb_map.specs.Model.{world_code, world_of, AreKept};
+    ghost use Rattle.tsdb_map.specs.Model.{world_code, world_of, AreOrderedDevices};
     ghost use Rattle.tsdb_map.specs.contracts.series.Series as series;
 
     ghost Value = { World };
@@ -31,7 +31,7 @@ impl Model for Catalog {
 
     ghost view = { λ catalog. world_of catalog.devices.entries };
 
-    ghost invariant = { λ catalog. AreKept catalog.devices };
+    ghost invariant = { λ catalog. AreOrderedDevices catalog.devices };
 }
 
 impl Catalog {

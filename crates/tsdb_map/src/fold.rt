@@ -11,7 +11,7 @@ use tsdb_base::{Memory, Time, Value};
 
 /// The number that a value is, if it is one.
 fn number_of(value: &Value) -> Option<i64>
-    ensures { result ≡ folds.number_of value.now }
+    ensures { result ≡ folds.as_number value.now }
 {
     match value {
         Value::I32(number) => Some(i64::from(*number)),
@@ -31,7 +31,7 @@ fn is_less(a: &Value, b: &Value) -> bool
 }
 
 /// How many points there are.
-pub fn count(points: btree_map::Range<'_, Time, Value>) -> usize
+pub fn count_points(points: btree_map::Range<'_, Time, Value>) -> usize
     requires { length points < 2 ^ 63 }
     ensures { result ≡ length points.entry }
 {
@@ -63,8 +63,8 @@ pub fn time(point: Option<(&Time, &Value)>) -> Option<Value>
 }
 
 /// The least number among the values.
-pub fn least(points: btree_map::Range<'_, Time, Value>) -> Result<Option<Value>, Memory>
-    ensures { IfOk result (λ value. value ≡ reduce folds.lesser (folds.numbers (points_of_entries points.entry))) }
+pub fn least_number(points: btree_map::Range<'_, Time, Value>) -> Result<Option<Value>, Memory>
+    ensures { IfOk result (λ value. value ≡ reduce folds.lesser_value (folds.numbers (points_of_entries points.entry))) }
 {
     let mut least: Option<&Value> = None;
     for (_, value) in points {
@@ -74,7 +74,7 @@ pub fn least(points: btree_map::Range<'_, Time, Value>) -> Result<Option<Value>,
 }
 
 /// The greatest number among the values.
-pub fn greatest(points: btree_map::Range<'_, Time, Value>) -> Result<Option<Value>, Memory>
+pub fn greatest_number(points: btree_map::Range<'_, Time, Value>) -> Result<Option<Value>, Memory>
     ensures { IfOk result (λ value. value ≡ reduce folds.greater (folds.numbers (points_of_entries points.entry))) }
 {
     let mut greatest: Option<&Value> = None;
@@ -87,7 +87,7 @@ pub fn greatest(points: btree_map::Range<'_, Time, Value>) -> Result<Option<Valu
 /// The lesser of two numbers, of which the first may not be there; another value is passed over.
 fn lesser<'a>(least: Option<&'a Value>, value: &'a Value) -> Option<&'a Value>
     ensures { option_copied result
-        ≡ better folds.lesser (folds.number_of value.now) (option_copied least.entry) value.now }
+        ≡ better folds.lesser_value (folds.as_number value.now) (option_copied least.entry) value.now }
 {
     if number_of(value).is_none() {
         return least;
@@ -101,7 +101,7 @@ fn lesser<'a>(least: Option<&'a Value>, value: &'a Value) -> Option<&'a Value>
 /// The greater of two numbers, of which the first may not be there; another value is passed over.
 fn greater<'a>(greatest: Option<&'a Value>, value: &'a Value) -> Option<&'a Value>
     ensures { option_copied result
-        ≡ better folds.greater (folds.number_of value.now) (option_copied greatest.entry) value.now }
+        ≡ better folds.greater (folds.as_number value.now) (option_copied greatest.entry) value.now }
 {
     if number_of(value).is_none() {
         return greatest;

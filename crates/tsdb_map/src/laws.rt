@@ -8,12 +8,12 @@ ghost use Rattle.tsdb_model.specs.declared.command.Row.{Row};
 ghost use Rattle.tsdb_model.specs.declared.reply.Reply.{Reply};
 ghost use Rattle.tsdb_model.specs.Apply.{reply_of, series_of, value_of, world_after};
 ghost use Rattle.tsdb_model.specs.World.{is_in, Series, value_at, World};
-ghost use Rattle.tsdb_map.specs.Laws.{IsNamed};
+ghost use Rattle.tsdb_map.specs.Laws.{IsCellPath};
 ghost use Rattle.tsdb_model.specs.Commands.{IsRow};
 ghost use Rattle.tsdb_path.specs.Nodes.{child_of};
 
 /// Each value of a row that is accepted is what its series has at the row's time from then on, whatever it had there.
-pub fn last_write_wins()
+pub fn last_write_wins_in_map()
     ensures { (world : World) (device : List ℕ) (row : Row) (k : ℕ) (cell : Cell) (series : Series)
         → IsRow row → reply_of world (Command.Insert device row) ≡ Reply.Plain Answer.Done
         → slice_get row.cells k ≡ Some cell → series_of world device cell.measurement ≡ Some series
@@ -22,9 +22,9 @@ pub fn last_write_wins()
 {}
 
 /// A write leaves every series that it does not name, and every other time, as it was.
-pub fn other_values_stay()
+pub fn other_values_stay_in_map()
     ensures { (world : World) (device path : List ℕ) (row : Row) (time : ℤ)
-        → (¬ IsNamed device row.cells path) ⊎ (time ≢ row.time)
+        → (¬ IsCellPath device row.cells path) ⊎ (time ≢ row.time)
         → value_at (world_after world (Command.Insert device row)) path time ≡ value_at world path time }
 {}
 

@@ -13,8 +13,8 @@ mod select;
 mod series;
 
 pub use laws::{
-    deletion_keeps_the_rest, deletion_removes_its_range, last_write_wins, other_values_stay,
-    refused_insert_changes_nothing,
+    deletion_keeps_the_rest, deletion_removes_its_range, last_write_wins_in_map,
+    other_values_stay_in_map, refused_insert_changes_nothing,
 };
 pub use pending::{Pending, Prepared};
 pub use plain::Plain;

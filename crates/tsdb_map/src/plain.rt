@@ -3,7 +3,7 @@ ghost use Rattle.std.specs.Prelude.{◌≡◌, ℕ, List, None, IfOk, OnOk, OnEr
 ghost use Rattle.std.specs.FinMap as map;
 ghost use Rattle.tsdb_model.specs.Commands.{IsSchema, IsWellFormed, IsSeries};
 ghost use Rattle.tsdb_model.specs.Apply.{accepted, reply_of, world_after};
-ghost use Rattle.tsdb_map.specs.Pending.{IsPending, IsPrepared};
+ghost use Rattle.tsdb_map.specs.Pending.{IsPending, HasPrepared};
 ghost use Rattle.tsdb_model.specs.World.{World, new_series};
 ghost use Rattle.tsdb_path.specs.Nodes.{child_of};
 ghost use Rattle.tsdb_model.specs.declared.command.Command.{Command};
@@ -11,7 +11,7 @@ ghost use Rattle.tsdb_model.specs.declared.command.Command.{Command};
 use crate::catalog::Catalog;
 use crate::pending::{Pending, Prepared};
 use crate::row::{insert_answer, put_cells, take_back_cells};
-use crate::select::select;
+use crate::select::select_items;
 use std::alloc::Global;
 use std::marker::Model;
 use tsdb_base::{Answer, List, Memory, Range};
@@ -80,7 +80,7 @@ impl Plain {
     /// cancelled before another command. Out of memory changes nothing.
     pub fn prepare(&mut self, command: &Command) -> Result<Prepared, Memory>
         requires { IsWellFormed command.now }
-        ensures prepared { IfOk result (λ prepared. IsPrepared self.old self.new command.now prepared) }
+        ensures prepared { IfOk result (λ prepared. HasPrepared self.old self.new command.now prepared) }
         ensures memory { OnErr result (self.new ≡ self.old) }
     {
         match command {
@@ -128,7 +128,7 @@ impl Plain {
     /// Begins a series without points, where it is not there.
     fn prepare_create(&mut self, schema: &Schema) -> Result<Prepared, Memory>
         requires { IsSchema schema.now }
-        ensures prepared { IfOk result (λ prepared. IsPrepared self.old self.new (Command.Create schema.now) prepared) }
+        ensures prepared { IfOk result (λ prepared. HasPrepared self.old self.new (Command.Create schema.now) prepared) }
         ensures memory { OnErr result (self.new ≡ self.old) }
     {
         let (device, name) = split(&schema.path)?;
@@ -154,7 +154,7 @@ impl Plain {
 
     /// Writes the values of a row, where all of its series are there and each literal fits.
     fn prepare_insert(&mut self, device: &Path, row: &Row) -> Result<Prepared, Memory>
-        ensures prepared { IfOk result (λ prepared. IsPrepared self.old self.new (Command.Insert device.now row.now)
+        ensures prepared { IfOk result (λ prepared. HasPrepared self.old self.new (Command.Insert device.now row.now)
             prepared) }
         ensures memory { OnErr result (self.new ≡ self.old) }
     {
@@ -172,7 +172,7 @@ impl Plain {
     /// Looks for the series. Its points stay.
     fn prepare_delete(&mut self, series: &Path, range: &Range) -> Result<Prepared, Memory>
         requires { IsSeries series.now }
-        ensures prepared { IfOk result (λ prepared. IsPrepared self.old self.new (Command.Delete series.now range.now)
+        ensures prepared { IfOk result (λ prepared. HasPrepared self.old self.new (Command.Delete series.now range.now)
             prepared) }
         ensures memory { self.new ≡ self.old }
     {
@@ -203,9 +203,9 @@ impl Plain {
         items: &List<Item>,
         range: &Range,
     ) -> Result<Prepared, Memory>
-        ensures { IfOk result (IsPrepared self.now self.now (Command.Select device.now items.now range.now)) }
+        ensures { IfOk result (HasPrepared self.now self.now (Command.Select device.now items.now range.now)) }
     {
-        let reply = select(self.alloc, &self.catalog, device, items.items(), range)?;
+        let reply = select_items(self.alloc, &self.catalog, device, items.items(), range)?;
         Ok(Prepared::Reply(reply))
     }
 }

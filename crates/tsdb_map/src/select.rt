@@ -3,7 +3,7 @@ ghost use Rattle.std.specs.Prelude.{◌≡◌, IfOk, IfSome, IfNone, map, if◌t
 ghost use Rattle.tsdb_model.specs.declared.reply.Reply.{Reply};
 ghost use Rattle.tsdb_base.specs.declared.answers.Answer.{Answer};
 ghost use Rattle.tsdb_model.specs.Apply as apply;
-ghost use Rattle.tsdb_model.specs.World.{points_of};
+ghost use Rattle.tsdb_model.specs.World.{points_of_series};
 ghost use Rattle.tsdb_model.specs.Folds.{within};
 ghost use Rattle.tsdb_map.specs.Model.{is_number_aggregate};
 
@@ -16,7 +16,7 @@ use tsdb_model::{Item, Reply, ask_aggregates};
 use tsdb_path::Path;
 
 /// The rows, or the aggregates, of items over the range.
-pub fn select(
+pub fn select_items(
     alloc: Global,
     catalog: &Catalog,
     device: &Path,
@@ -47,7 +47,7 @@ fn find_columns<'a>(
     ensures there { IfOk result (λ found. IfSome found (λ columns.
         apply.are_there catalog.now device.now (map (λ item. item.measurement) items.now) ≡ true)) }
     ensures columns { IfOk result (λ found. IfSome found (λ columns. map (λ column. column.now.points) columns.items
-        ≡ map (λ item. points_of (apply.series_of catalog.now device.now item.measurement)) items.now)) }
+        ≡ map (λ item. points_of_series (apply.series_of catalog.now device.now item.measurement)) items.now)) }
 {
     let mut columns = Vec::with_capacity(alloc, items.len())?;
     for item in items {

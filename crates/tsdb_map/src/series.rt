@@ -134,13 +134,13 @@ impl Series {
     {
         let mut points = self.points_in(range);
         match aggregate {
-            Aggregate::Count => Ok(Some(Value::I64(fold::count(points) as i64))),
+            Aggregate::Count => Ok(Some(Value::I64(fold::count_points(points) as i64))),
             Aggregate::FirstValue => fold::value(points.next()),
             Aggregate::LastValue => fold::value(points.next_back()),
             Aggregate::MinTime => Ok(fold::time(points.next())),
             Aggregate::MaxTime => Ok(fold::time(points.next_back())),
-            Aggregate::MinValue => fold::least(points),
-            Aggregate::MaxValue => fold::greatest(points),
+            Aggregate::MinValue => fold::least_number(points),
+            Aggregate::MaxValue => fold::greatest_number(points),
         }
     }
 }

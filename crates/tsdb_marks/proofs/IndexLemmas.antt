@@ -20,7 +20,7 @@ use Rattle.std.specs.declared.cmp.Ordering.TheVariants.{Less, Equal, Greater}
 use Rattle.std.proofs.lemmas.Bool.{false≢true}
 use Rattle.std.proofs.lemmas.Map.Lookups.{exact_bytes}
 use Rattle.tsdb_marks.specs.Index.{Entries, at, is_path}
-use Rattle.tsdb_marks.specs.Series.{Series, has_none, no_marks, without_old}
+use Rattle.tsdb_marks.specs.Series.{SeriesMarks, has_none, no_marks, without_old}
 
 equal : (o : Ordering) → is_eq o ≡ true → o ≡ Equal
 equal Less h = absurd (false≢true h)
@@ -31,12 +31,12 @@ pub one_path : (path other : List ℕ) → is_path path other ≡ true → path 
 one_path path other h = exact_bytes path other (equal (slice_cmp nat_cmp path other) h)
 
 -- where no other entry changes
-pub at_other : (path other : List ℕ) (b : Bool) (old new : Option Series) (s : Series) → b ≡ is_path path other → path ≢ other → new ≡ cond b (Some s) old → unwrap_or new no_marks ≡ unwrap_or old no_marks
+pub at_other : (path other : List ℕ) (b : Bool) (old new : Option SeriesMarks) (s : SeriesMarks) → b ≡ is_path path other → path ≢ other → new ≡ cond b (Some s) old → unwrap_or new no_marks ≡ unwrap_or old no_marks
 at_other path other true old new s q ne e = absurd (ne (one_path path other (sym q)))
 at_other path other false old new s q ne e = ap (λ o. unwrap_or o no_marks) e
 
 -- where the entry stays what it was
-pub at_same : (path other : List ℕ) (b : Bool) (old new : Option Series) (s : Series) → b ≡ is_path path other → (path ≡ other → old ≡ Some s) → new ≡ cond b (Some s) old → unwrap_or new no_marks ≡ unwrap_or old no_marks
+pub at_same : (path other : List ℕ) (b : Bool) (old new : Option SeriesMarks) (s : SeriesMarks) → b ≡ is_path path other → (path ≡ other → old ≡ Some s) → new ≡ cond b (Some s) old → unwrap_or new no_marks ≡ unwrap_or old no_marks
 at_same path other true old new s q is e = ap (λ o. unwrap_or o no_marks) (e ∙ sym (is (one_path path other (sym q))))
 at_same path other false old new s q is e = ap (λ o. unwrap_or o no_marks) e
 
@@ -47,7 +47,7 @@ none_is [] [] h = refl
 none_is [] (x ∷ runs) h = absurd (false≢true (sym (ne_eqb (length (x ∷ runs)) 0 (λ e. omega (arith, e))) ∙ h))
 none_is (x ∷ versions) runs h = absurd (false≢true (sym (ap (λ b. b && (length runs == 0)) (ne_eqb (length (x ∷ versions)) 0 (λ e. omega (arith, e)))) ∙ h))
 
-full-same : (v : ℕ) (o : Option Series) → unwrap_or (option_filter (λ s. not (has_none s)) (option_map (without_old v) o)) no_marks ≡ without_old v (unwrap_or o no_marks)
+full-same : (v : ℕ) (o : Option SeriesMarks) → unwrap_or (option_filter (λ s. not (has_none s)) (option_map (without_old v) o)) no_marks ≡ without_old v (unwrap_or o no_marks)
 full-same v None = refl
 full-same v (Some s) =
     let w = without_old v s in

@@ -9,13 +9,13 @@ use Rattle.std.proofs.lemmas.List.Elements.{All-push, All-weaker, All-get_or}
 use Rattle.std.proofs.lemmas.List.Quantifiers.{all_pairs_push}
 use Rattle.tsdb_marks.specs.declared.run.Cursor.{Cursor}
 use Rattle.tsdb_marks.specs.declared.run.Step.{Step}
-use Rattle.tsdb_marks.specs.Cursors.{next_start, IsFrom, IsRead, GoesTo, read_at}
-use Rattle.tsdb_marks.specs.Merging.{lesser, IsMerged}
-use Rattle.tsdb_marks.specs.Steps.{version_at, IsRising, newest_of}
+use Rattle.tsdb_marks.specs.Cursors.{next_start, IsFrom, IsCursorRead, GoesTo, read_at}
+use Rattle.tsdb_marks.specs.Merging.{lesser_moment, IsMerged}
+use Rattle.tsdb_marks.specs.Steps.{version_at, AreStepsRising, newest_of}
 use Rattle.tsdb_marks.proofs.StepLemmas.{at_snoc}
 
 -- no step begins until the moment
-pub goes_nowhere : (c : Cursor) (bound moment : ℕ) → IsRead c bound → bound ≤ moment → IsFrom (moment + 1) (next_start c) → GoesTo c c moment
+pub goes_nowhere : (c : Cursor) (bound moment : ℕ) → IsCursorRead c bound → bound ≤ moment → IsFrom (moment + 1) (next_start c) → GoesTo c c moment
 goes_nowhere c bound moment read le next = record {
   steps = refl;
   read = record { rising = read.rising; read = read.read; ahead = next; version = λ m h. read.version m (omega arith) };
@@ -25,7 +25,7 @@ goes_nowhere c bound moment read le next = record {
 }
 
 -- the next step begins at it
-pub goes_on : (c : Cursor) (s : Step) (bound moment : ℕ) → IsRead c bound → bound ≤ moment → IsFrom moment (next_start c) → slice_get c.steps.now c.read ≡ Some s → s.start ≤ moment
+pub goes_on : (c : Cursor) (s : Step) (bound moment : ℕ) → IsCursorRead c bound → bound ≤ moment → IsFrom moment (next_start c) → slice_get c.steps.now c.read ≡ Some s → s.start ≤ moment
     → GoesTo c (record { steps = c.steps; read = c.read + 1; version = s.version }) moment
 goes_on c s bound moment read le next is begins =
     let steps = c.steps.now in
@@ -61,7 +61,7 @@ goes_on c s bound moment read le next is begins =
 
 -- the start of a merge
 
-pub nothing_read : (c : Cursor) → IsRising c.steps.now → c.read ≡ 0 → c.version ≡ 0 → IsRead c 0
+pub nothing_read : (c : Cursor) → AreStepsRising c.steps.now → c.read ≡ 0 → c.version ≡ 0 → IsCursorRead c 0
 nothing_read c rising none zero =
     let from_none : (o : Option ℕ) → IsFrom 0 o = λ o. elim o as (λ o. IsFrom 0 o) [ None ↦ tt | Some n ↦ omega arith ] in
     record {
@@ -73,31 +73,31 @@ nothing_read c rising none zero =
 
 -- the least start
 
-lesser-first : (a b : Option ℕ) (m : ℕ) → lesser a b ≡ Some m → IsFrom m a × IsFrom m b
+lesser-first : (a b : Option ℕ) (m : ℕ) → lesser_moment a b ≡ Some m → IsFrom m a × IsFrom m b
 lesser-first None None m e = (tt, tt)
 lesser-first None (Some y) m e = let same : y ≡ m = cc e in (tt, omega (arith, same))
 lesser-first (Some x) None m e = let same : x ≡ m = cc e in (omega (arith, same), tt)
 lesser-first (Some x) (Some y) m e = let same : min x y ≡ m = cc e in (omega (arith, same), omega (arith, same))
 
-pub lesser-low : (a b : Option ℕ) (m : ℕ) → lesser a b ≡ Some m → IsFrom m a
+pub lesser-low : (a b : Option ℕ) (m : ℕ) → lesser_moment a b ≡ Some m → IsFrom m a
 lesser-low a b m e = (lesser-first a b m e).0
 
-pub lesser-high : (a b : Option ℕ) (m : ℕ) → lesser a b ≡ Some m → IsFrom m b
+pub lesser-high : (a b : Option ℕ) (m : ℕ) → lesser_moment a b ≡ Some m → IsFrom m b
 lesser-high a b m e = (lesser-first a b m e).1
 
-pub lesser-bound : (a b : Option ℕ) (m bound : ℕ) → lesser a b ≡ Some m → IsFrom bound a → IsFrom bound b → bound ≤ m
+pub lesser-bound : (a b : Option ℕ) (m bound : ℕ) → lesser_moment a b ≡ Some m → IsFrom bound a → IsFrom bound b → bound ≤ m
 lesser-bound None None m bound e f g = absurd (let no : None ≡ Some m = e in cc no)
 lesser-bound None (Some y) m bound e f g = let same : y ≡ m = cc e in omega (arith, same, g)
 lesser-bound (Some x) None m bound e f g = let same : x ≡ m = cc e in omega (arith, same, f)
 lesser-bound (Some x) (Some y) m bound e f g = let same : min x y ≡ m = cc e in omega (arith, same, f, g)
 
-pub lesser-one : (a b : Option ℕ) (m : ℕ) → lesser a b ≡ Some m → (a ≡ Some m) ⊎ (b ≡ Some m)
+pub lesser-one : (a b : Option ℕ) (m : ℕ) → lesser_moment a b ≡ Some m → (a ≡ Some m) ⊎ (b ≡ Some m)
 lesser-one None b m e = inr e
 lesser-one (Some x) None m e = inl e
 lesser-one (Some x) (Some y) m e = let same : min x y ≡ m = cc e in
     ⊎_elim (λ (lt : x < y). inl (ap Some (let e : x ≡ m = omega (arith, same, lt) in e))) (λ (ge : y ≤ x). inr (ap Some (let e : y ≡ m = omega (arith, same, ge) in e))) (cases_lt x y)
 
-pub lesser-none : (a b : Option ℕ) → lesser a b ≡ None → (a ≡ None) × (b ≡ None)
+pub lesser-none : (a b : Option ℕ) → lesser_moment a b ≡ None → (a ≡ None) × (b ≡ None)
 lesser-none None b e = (refl, e)
 lesser-none (Some x) None e = absurd (cc e)
 lesser-none (Some x) (Some y) e = absurd (cc e)
@@ -115,12 +115,12 @@ newest-push [] s = omega arith
 newest-push (x ∷ xs) s = let others = newest-push xs s in omega (arith, others)
 
 module _ {a b : Cursor} {steps : List Step} {version newest moment : ℕ} where
-  pub reached : (was : IsMerged a b steps version newest) → lesser (next_start a) (next_start b) ≡ Some moment → was.bound ≤ moment
+  pub reached : (was : IsMerged a b steps version newest) → lesser_moment (next_start a) (next_start b) ≡ Some moment → was.bound ≤ moment
   reached was is = lesser-bound (next_start a) (next_start b) moment was.bound is was.first_read.ahead was.second_read.ahead
 
 module _ {a b a1 b1 : Cursor} {steps : List Step} {version newest moment : ℕ} where
   -- where the greater version is the last one
-  pub merged_same : IsMerged a b steps version newest → lesser (next_start a) (next_start b) ≡ Some moment → GoesTo a a1 moment → GoesTo b b1 moment → max a1.version b1.version ≡ version
+  pub merged_same : IsMerged a b steps version newest → lesser_moment (next_start a) (next_start b) ≡ Some moment → GoesTo a a1 moment → GoesTo b b1 moment → max a1.version b1.version ≡ version
       → IsMerged a1 b1 steps version newest
   merged_same was is one two same = let le : was.bound ≤ moment = reached was is in record {
     bound = moment + 1;
@@ -139,7 +139,7 @@ module _ {a b a1 b1 : Cursor} {steps : List Step} {version newest moment : ℕ} 
   }
 
   -- where it is another, with one more step
-  pub merged_more : IsMerged a b steps version newest → lesser (next_start a) (next_start b) ≡ Some moment → GoesTo a a1 moment → GoesTo b b1 moment
+  pub merged_more : IsMerged a b steps version newest → lesser_moment (next_start a) (next_start b) ≡ Some moment → GoesTo a a1 moment → GoesTo b b1 moment
       → (greater top : ℕ) → greater ≡ max a1.version b1.version → top ≡ max newest greater
       → IsMerged a1 b1 (steps ++ record { start = moment; version = greater } ∷ []) greater top
   merged_more was is one two greater top same high =
@@ -157,7 +157,7 @@ module _ {a b a1 b1 : Cursor} {steps : List Step} {version newest moment : ℕ} 
       }
 
   -- one of the two went on
-  pub merge_falls : IsMerged a b steps version newest → lesser (next_start a) (next_start b) ≡ Some moment → GoesTo a a1 moment → GoesTo b b1 moment
+  pub merge_falls : IsMerged a b steps version newest → lesser_moment (next_start a) (next_start b) ≡ Some moment → GoesTo a a1 moment → GoesTo b b1 moment
       → length a1.steps.now - a1.read + (length b1.steps.now - b1.read) < length a.steps.now - a.read + (length b.steps.now - b.read)
   merge_falls was is one two =
       let e = ap (λ (xs : List Step). length xs) one.steps in
@@ -170,12 +170,12 @@ module _ {a b a1 b1 : Cursor} {steps : List Step} {version newest moment : ℕ} 
       (lesser-one (next_start a) (next_start b) moment is)
 
 -- all was read
-read_whole : (c : Cursor) (bound : ℕ) → IsRead c bound → next_start c ≡ None → take c.read c.steps.now ≡ c.steps.now
+read_whole : (c : Cursor) (bound : ℕ) → IsCursorRead c bound → next_start c ≡ None → take c.read c.steps.now ≡ c.steps.now
 read_whole c bound read none =
     let Q : Option Step → Type 0 = λ o. option_map (λ (s : Step). s.start) o ≡ None in
     take_all c.read c.steps.now (⊎_elim (λ some. absurd (let no = subst Q some.2 none in cc no)) (λ past. past.0) (slice_get_cases c.steps.now c.read).1)
 
-pub merged_whole : {a b : Cursor} {steps : List Step} {version newest : ℕ} → IsMerged a b steps version newest → lesser (next_start a) (next_start b) ≡ None
+pub merged_whole : {a b : Cursor} {steps : List Step} {version newest : ℕ} → IsMerged a b steps version newest → lesser_moment (next_start a) (next_start b) ≡ None
     → (m : ℕ) → version_at steps m ≡ max (version_at a.steps.now m) (version_at b.steps.now m)
 merged_whole {a} {b} {steps} {version} {newest} was is = λ m.
     let none = lesser-none (next_start a) (next_start b) is in

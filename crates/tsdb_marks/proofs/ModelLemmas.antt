@@ -14,7 +14,7 @@ use Rattle.tsdb_marks.specs.Index.{Entries, at}
 use Rattle.tsdb_marks.specs.Moments.{moment}
 use Rattle.tsdb_marks.specs.Survival.{Covers, Survives, Meets}
 use Rattle.tsdb_marks.specs.Lists.{is_newer_than}
-use Rattle.tsdb_marks.specs.Series.{Series, AddsMark, DropsOld, version_over}
+use Rattle.tsdb_marks.specs.Series.{SeriesMarks, AddsMark, DropsOld, version_over}
 use Rattle.tsdb_marks.specs.Steps.{IsMet, IsUnmet, newest_at}
 use Rattle.tsdb_marks.specs.Model.{SomeOver, IsCovered, IsUncovered, HasTimes, IsIndexOf, is_mark_of, versions_of}
 
@@ -117,14 +117,14 @@ exact_added marks mark floor old new exact adds others =
       over = λ p m b fits low. ⊎_elim (λ (e : mark.path ≡ p). let P : List ℕ → Type 0 = λ q. (b < newest_at (at new q).runs m) ↔ SomeOver (marks ++ mark ∷ []) q m b in subst P e (same_over m b fits low))
           (λ (ne : mark.path ≢ p).
           let was = exact.over p m b fits low in
-          let P : Series → Type 0 = λ s. b < newest_at s.runs m in (
+          let P : SeriesMarks → Type 0 = λ s. b < newest_at s.runs m in (
             λ h. over-left marks (mark ∷ []) p m b (was.0 (subst P (others p ne) h)),
             λ h. subst P (sym (others p ne)) (⊎_elim (λ (o : SomeOver marks p m b). was.1 o) (λ r. ⊎_elim (λ (one : IsOver mark p m b). absurd (ne one.0)) (λ e. absurd e) r) (over-cases marks (mark ∷ []) p m b h)),
           )) (decides p);
       versions = λ p. ⊎_elim (λ (e : mark.path ≡ p). let P : List ℕ → Type 0 = λ q. (at new q).versions ≡ versions_of (filter (is_mark_of q) (marks ++ mark ∷ [])) in subst P e same_versions)
           (λ (ne : mark.path ≢ p).
           let no : is_mark_of p mark ≡ false = ⊎_elim (λ (q : is_mark_of p mark ≡ true). absurd (ne (sym ((bytes_decides p mark.path).0 q)))) (λ q. q) (cases_Bool (is_mark_of p mark)) in
-          ap (λ (s : Series). s.versions) (others p ne) ∙ exact.versions p
+          ap (λ (s : SeriesMarks). s.versions) (others p ne) ∙ exact.versions p
           ∙ sym (ap versions_of (filter-append (is_mark_of p) marks (mark ∷ []) ∙ ap (λ b. filter (is_mark_of p) marks ++ cond b (mark ∷ []) []) no ∙ append-nil (filter (is_mark_of p) marks)))) (decides p);
     }
 

@@ -7,8 +7,8 @@ use Rattle.std.proofs.lemmas.List.{take_all}
 use Rattle.std.proofs.lemmas.List.Elements.{All-head, All-tail, All-cons, All-nil, All-weaker}
 use Rattle.tsdb_marks.specs.declared.run.Run.{Run}
 use Rattle.tsdb_marks.specs.declared.run.Step.{Step}
-use Rattle.tsdb_marks.specs.Series.{Series, DropsOld, without_old}
-use Rattle.tsdb_marks.specs.Steps.{IsRun, IsMet, IsUnmet, newest_at, newest_of, steps_of, version_at}
+use Rattle.tsdb_marks.specs.Series.{SeriesMarks, DropsOld, without_old}
+use Rattle.tsdb_marks.specs.Steps.{IsMarkRun, IsMet, IsUnmet, newest_at, newest_of, steps_of, version_at}
 use Rattle.tsdb_marks.proofs.StepLemmas.{from_up_to}
 
 pub newest_push : (runs : List (List Step)) (r : List Step) (m : ℕ) → newest_at (runs ++ r ∷ []) m ≡ max (newest_at runs m) (version_at r m)
@@ -54,15 +54,15 @@ newest_filter v (x ∷ runs) m b le =
     (λ (ge : newest_of x ≤ v). rw (le-ltb v (newest_of x) ge) (λ h. let k = others.0 h in omega (arith, k), λ h. others.1 (omega (arith, h, low))))
     (cases_lt v (newest_of x))
 
-pub drops_old : (v : ℕ) (series : Series) → DropsOld series (without_old v series) v
+pub drops_old : (v : ℕ) (series : SeriesMarks) → DropsOld series (without_old v series) v
 drops_old v series = record { versions = refl; moments = λ m b le. newest_filter v series.runs m b le }
 
 -- the code asks each run for its newest version
-pub told_newest : (v : ℕ) (runs : List Run) → All IsRun runs → map steps_of (filter (λ (r : Run). nat_lt v r.newest) runs) ≡ filter (λ r. nat_lt v (newest_of r)) (map steps_of runs)
+pub told_newest : (v : ℕ) (runs : List Run) → All IsMarkRun runs → map steps_of (filter (λ (r : Run). nat_lt v r.newest) runs) ≡ filter (λ r. nat_lt v (newest_of r)) (map steps_of runs)
 told_newest v [] good = refl
 told_newest v (x ∷ runs) good =
-    let others = told_newest v runs (All-tail IsRun x runs good) in
-    let same = (All-head IsRun x runs good).newest in
+    let others = told_newest v runs (All-tail IsMarkRun x runs good) in
+    let same = (All-head IsMarkRun x runs good).newest in
     ⊎_elim (λ (lt : v < x.newest). rw (lt-ltb v x.newest lt, lt-ltb v (newest_of (steps_of x)) (omega (arith, same, lt))) (ap (λ rs. steps_of x ∷ rs) others))
     (λ (ge : x.newest ≤ v). rw (le-ltb v x.newest ge, le-ltb v (newest_of (steps_of x)) (omega (arith, same, ge))) others)
     (cases_lt v x.newest)

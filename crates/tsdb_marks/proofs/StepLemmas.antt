@@ -8,7 +8,7 @@ use Rattle.std.proofs.lemmas.List.Elements.{All-head, All-tail, All-from_all_wit
 use Rattle.tsdb_marks.specs.declared.run.Step.{Step}
 use Rattle.std.specs.List.Sorted.{IsPartitionPoint, IsPartitionedBy}
 use Rattle.std.proofs.lemmas.Bool.{leb-true, leb-false}
-use Rattle.tsdb_marks.specs.Steps.{version_from, version_at, IsRising, IsMet, IsUnmet, IsUntil}
+use Rattle.tsdb_marks.specs.Steps.{version_from, version_at, AreStepsRising, IsMet, IsUnmet, IsUntil}
 
 pub from_append : (v : ℕ) (xs ys : List Step) (m : ℕ) → version_from v (xs ++ ys) m ≡ version_from (version_from v xs m) ys m
 from_append v [] ys m = refl
@@ -42,7 +42,7 @@ at_step steps k s m within is le behind =
     ap (λ (xs : List Step). version_at xs m) split ∙ from_append 0 (take k steps ++ s ∷ []) (drop (suc k) steps) m ∙ from_behind _ (drop (suc k) steps) m behind
     ∙ at_snoc (take k steps) s m ∙ rw (le-leb s.start m le) refl
 
-pub behind_step : (steps : List Step) (k : ℕ) (s : Step) → IsRising steps → k < length steps → s ≡ get_or steps k s → All (λ t. s.start < t.start) (drop (suc k) steps)
+pub behind_step : (steps : List Step) (k : ℕ) (s : Step) → AreStepsRising steps → k < length steps → s ≡ get_or steps k s → All (λ t. s.start < t.start) (drop (suc k) steps)
 behind_step steps k s rising within is =
     let P : Step → Type 0 = λ t. s.start < t.start in
     All-from_all_within P (drop (suc k) steps) (λ i d low high.
@@ -66,7 +66,7 @@ met_before steps from to born count s until is le newer =
     record { moment = from; from = omega arith; to = le; newer = rw e newer }
 
 -- that of a step in the range is
-pub met_step : (steps : List Step) (from to born count k : ℕ) (s : Step) → IsRising steps → IsUntil steps from count → count ≤ k → k < length steps → s ≡ get_or steps k s
+pub met_step : (steps : List Step) (from to born count k : ℕ) (s : Step) → AreStepsRising steps → IsUntil steps from count → count ≤ k → k < length steps → s ≡ get_or steps k s
     → s.start ≤ to → born < s.version → IsMet (version_at steps) from to born
 met_step steps from to born count k s rising until low within is le newer =
     let P : Step → Type 0 = λ x. from < x.start in
@@ -105,7 +105,7 @@ unmet_steps steps from to born count until before within = λ m low high.
 abbrev pub begins_until : ℕ → Step → Bool
 begins_until moment s = nat_le s.start moment
 
-pub parted : (moment : ℕ) (steps : List Step) → IsRising steps → IsPartitionedBy (begins_until moment) steps
+pub parted : (moment : ℕ) (steps : List Step) → AreStepsRising steps → IsPartitionedBy (begins_until moment) steps
 parted moment steps rising = λ i j d le within h.
     let P : ℕ → Type 0 = λ k. begins_until moment (get_or steps k d) ≡ true in
     ⊎_elim (λ (lt : i < j). let less = rising i j d lt within in le-leb (get_or steps i d).start moment (let low = leb-true (get_or steps j d).start moment h in omega (arith, less, low)))
@@ -128,7 +128,7 @@ met_first steps from to born (suc k) version until none step le newer =
     met_before steps from to born k (get_or steps k d) until here le (omega (arith, same, newer))
 
 -- what stands at a step behind the range or behind it is behind the range
-pub beyond : (steps : List Step) (to at k : ℕ) (d e : Step) → IsRising steps → at < length steps → to < (get_or steps at d).start → at ≤ k → k < length steps → to < (get_or steps k e).start
+pub beyond : (steps : List Step) (to at k : ℕ) (d e : Step) → AreStepsRising steps → at < length steps → to < (get_or steps at d).start → at ≤ k → k < length steps → to < (get_or steps k e).start
 beyond steps to at k d e rising here far le within =
     let P : Step → Type 0 = λ s. to < s.start in
     let there : to < (get_or steps at e).start = subst P (get_or_default steps at d e here) far in

@@ -14,8 +14,8 @@ abbrev pub version_at : List Step → ℕ → ℕ
 version_at steps moment = version_from 0 steps moment
 
 -- each step begins behind the one before
-abbrev pub IsRising : List Step → Type 0
-IsRising steps = AllPairs (λ a b. a.start < b.start) steps
+abbrev pub AreStepsRising : List Step → Type 0
+AreStepsRising steps = AllPairs (λ a b. a.start < b.start) steps
 
 -- the greatest version of the steps; 0 of none
 abbrev pub newest_of : List Step → ℕ
@@ -31,8 +31,8 @@ abbrev pub steps_of : Run → List Step
 steps_of run = run.steps.items
 
 -- the steps rise, and the newest version is told
-pub record IsRun (run : Run) : Type 0 where
-  pub rising : IsRising (steps_of run)
+pub record IsMarkRun (run : Run) : Type 0 where
+  pub rising : AreStepsRising (steps_of run)
   pub newest : run.newest ≡ newest_of (steps_of run)
 
 -- at some moment of the range the version is greater than `born`

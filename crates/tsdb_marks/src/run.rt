@@ -4,9 +4,9 @@
 //! and version 0 stands for no mark. A moment is a time counted from the least one, so that it is no less than 0.
 ghost use Rattle.std.specs.Prelude.{◌≡◌, ℕ, ◌+◌, ◌^◌, ◌<◌, ◌≤◌, cond, max, false, nat_le, IfOk, IsTrue, Option, Some};
 ghost use Rattle.std.specs.Prelude.{get_or, length, suc};
-ghost use Rattle.tsdb_marks.specs.Cursors.{next_start, GoesTo, IsFrom, IsRead};
-ghost use Rattle.tsdb_marks.specs.Merging.{lesser as lesser_of};
-ghost use Rattle.tsdb_marks.specs.Steps.{IsMet, IsRising, IsRun, IsUnmet, IsUntil, steps_of, version_at};
+ghost use Rattle.tsdb_marks.specs.Cursors.{next_start, GoesTo, IsFrom, IsCursorRead};
+ghost use Rattle.tsdb_marks.specs.Merging.{lesser_moment as lesser_of};
+ghost use Rattle.tsdb_marks.specs.Steps.{IsMet, AreStepsRising, IsMarkRun, IsUnmet, IsUntil, steps_of, version_at};
 
 use std::alloc::Global;
 use tsdb_base::Memory;
@@ -46,7 +46,7 @@ impl Cursor<'_> {
 
     /// Reads the step at the moment, where there is one.
     fn go_to(&mut self, moment: u64)
-        ensures { (bound : ℕ) → IsRead self.old bound → bound ≤ moment → IsFrom moment (next_start self.old)
+        ensures { (bound : ℕ) → IsCursorRead self.old bound → bound ≤ moment → IsFrom moment (next_start self.old)
             → GoesTo self.old self.new moment }
     {
         if let Some(step) = self.steps.get(self.read) {
@@ -71,7 +71,7 @@ fn lesser(first: Option<u64>, second: Option<u64>) -> Option<u64>
 
 /// How many steps begin at the moment or before it.
 fn count_until(steps: &[Step], moment: u64) -> usize
-    requires { IsRising steps.now }
+    requires { AreStepsRising steps.now }
     ensures { IsUntil steps.now moment result }
 {
     steps.partition_point(|step| step.start <= moment)
@@ -93,7 +93,7 @@ impl Run {
     /// The version over the moments of a range.
     pub(crate) fn of_range(alloc: Global, from: u64, to: u64, version: u64) -> Result<Run, Memory>
         requires { from ≤ to }
-        ensures run { IfOk result IsRun }
+        ensures run { IfOk result IsMarkRun }
         ensures versions { IfOk result (λ run. (moment : ℕ) → moment < 2 ^ 64 → version_at (steps_of run) moment
             ≡ cond (nat_le from moment) (cond (nat_le moment to) version 0) 0) }
     {
@@ -116,9 +116,9 @@ impl Run {
 
     /// The greater version of the two at each moment.
     pub(crate) fn merge(&self, other: &Run) -> Result<Run, Memory>
-        requires first { IsRun self.now }
-        requires second { IsRun other.now }
-        ensures run { IfOk result IsRun }
+        requires first { IsMarkRun self.now }
+        requires second { IsMarkRun other.now }
+        ensures run { IfOk result IsMarkRun }
         ensures versions { IfOk result (λ run. (moment : ℕ) → version_at (steps_of run) moment
             ≡ max (version_at (steps_of self.now) moment) (version_at (steps_of other.now) moment)) }
     {
@@ -153,7 +153,7 @@ impl Run {
 
     /// Whether a version greater than `born` holds at a moment of the range.
     pub(crate) fn meets(&self, from: u64, to: u64, born: u64) -> bool
-        requires run { IsRun self.now }
+        requires run { IsMarkRun self.now }
         requires range { from ≤ to }
         ensures met { IsTrue result → IsMet (version_at (steps_of self.now)) from to born }
         ensures unmet { result ≡ false → IsUnmet (version_at (steps_of self.now)) from to born }

@@ -5,7 +5,7 @@
 ghost use Rattle.std.specs.Prelude.{◌≡◌, ℕ, ◌<◌, ◌≤◌, max, map, false, IsTrue, OnOk, OnErr, vec_len, vec_capacity};
 ghost use Rattle.std.specs.List.{All};
 ghost use Rattle.tsdb_marks.specs.Series.{AddsMark, has_none, no_marks, without_old};
-ghost use Rattle.tsdb_marks.specs.Steps.{IsMet, IsRun, IsUnmet, newest_at, steps_of, version_at};
+ghost use Rattle.tsdb_marks.specs.Steps.{IsMet, IsMarkRun, IsUnmet, newest_at, steps_of, version_at};
 
 use crate::run::Run;
 use std::alloc::Global;
@@ -20,13 +20,13 @@ pub(crate) struct Series {
 }
 
 impl Model for Series {
-    ghost use Rattle.tsdb_marks.specs.Series.{Series};
+    ghost use Rattle.tsdb_marks.specs.Series.{SeriesMarks};
 
-    ghost Value = { Series };
+    ghost Value = { SeriesMarks };
 
-    ghost use Rattle.tsdb_marks.specs.Series.{IsSeriesKept, series_view};
+    ghost use Rattle.tsdb_marks.specs.Series.{IsSeriesKept, series_marks_view};
 
-    ghost view = { series_view };
+    ghost view = { series_marks_view };
 
     ghost invariant = { IsSeriesKept };
 }
@@ -35,9 +35,9 @@ impl Model for Series {
 /// memory runs out they stay apart.
 fn push_run(runs: &mut Vec<Run>, run: Run)
     requires room { vec_len runs.old < vec_capacity runs.old }
-    requires runs { All IsRun runs.old.items }
-    requires run { IsRun run }
-    ensures runs { All IsRun runs.new.items }
+    requires runs { All IsMarkRun runs.old.items }
+    requires run { IsMarkRun run }
+    ensures runs { All IsMarkRun runs.new.items }
     ensures moments { (moment : ℕ) → newest_at (map steps_of runs.new.items) moment
         ≡ max (newest_at (map steps_of runs.old.items) moment) (version_at (steps_of run) moment) }
 {

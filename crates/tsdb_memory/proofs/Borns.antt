@@ -11,10 +11,10 @@ use Rattle.tsdb_state.specs.Marks.{is_any_older, purge}
 use Rattle.tsdb_model.specs.declared.command.Schema.{Schema}
 use Rattle.tsdb_marks.specs.Lists.{is_newer_than, purge_list}
 use Rattle.tsdb_marks.specs.declared.marks.Mark.{Mark}
-use Rattle.tsdb_memory.specs.Least.{IsLeastOf, least_with, lesser}
+use Rattle.tsdb_memory.specs.Least.{IsLeastOf, least_with, lesser_born}
 use Rattle.tsdb_memory.specs.Shown.{IsFrozenOf}
 use Rattle.tsdb_memory.specs.Store as store
-use Rattle.tsdb_state.specs.State.{FrozenPair}
+use Rattle.tsdb_state.specs.State.{FrozenContent}
 
 all_newer : (least version : ℕ) (borns : List ℕ) → Each (λ born. least ≤ born) borns
     → nat_lt least version ≡ false → list_any (λ born. nat_lt born version) borns ≡ false
@@ -60,7 +60,7 @@ purge_least (Some least) borns marks is =
     by version false e = e ∙ sym (all_newer least.0 version borns is.1 e)
 
 -- the borns of the frozen pairs are those of the state
-pub frozen_borns : (series : List Schema) (frozen : List store.FrozenPair) (shown : List FrozenPair)
+pub frozen_borns : (series : List Schema) (frozen : List store.FrozenPair) (shown : List FrozenContent)
     → AllZip (IsFrozenOf series) frozen shown → map (λ pair. pair.born) shown ≡ map (λ pair. pair.born) frozen
 frozen_borns series [] [] is = refl
 frozen_borns series [] (s ∷ shown) is = absurd is
@@ -93,7 +93,7 @@ each_push P [] x all one = (one, tt)
 each_push P (y ∷ xs) x all one = (all.0, each_push P xs x all.1 one)
 
 pub least_push : (least : Option Stamp) (borns : List ℕ) (born : ℕ) → IsLeastOf least borns
-    → IsLeastOf (Some (lesser least born)) (borns ++ born ∷ [])
+    → IsLeastOf (Some (lesser_born least born)) (borns ++ born ∷ [])
 least_push None borns born is =
     subst (λ bs. IsLeastOf (Some (record { 0 = born })) (bs ++ born ∷ [])) (sym is) (inl refl, (itself born, tt))
 least_push (Some least) borns born is = by (nat_lt born least.0) refl
@@ -120,5 +120,5 @@ pub least_all : (least : Option Stamp) (borns more : List ℕ) → IsLeastOf lea
     → IsLeastOf (least_with least more) (borns ++ more)
 least_all least borns [] is = subst (IsLeastOf least) (sym (append-nil borns)) is
 least_all least borns (born ∷ more) is =
-    subst (IsLeastOf (least_with (Some (lesser least born)) more)) (append_assoc borns (born ∷ []) more)
-    (least_all (Some (lesser least born)) (borns ++ born ∷ []) more (least_push least borns born is))
+    subst (IsLeastOf (least_with (Some (lesser_born least born)) more)) (append_assoc borns (born ∷ []) more)
+    (least_all (Some (lesser_born least born)) (borns ++ born ∷ []) more (least_push least borns born is))

@@ -19,7 +19,7 @@ use Rattle.tsdb_base.specs.declared.value.Value.{Value}
 use Rattle.tsdb_base.proofs.Lists.{among_left, among_map, among_right, each_among, each_from_among}
 use Rattle.tsdb_state.proofs.LayerLemmas.Places.{is_place, place_cmp_total, place_itself, same_content}
 use Rattle.tsdb_base.specs.Lists.{Among, EachPair}
-use Rattle.tsdb_state.specs.Places.{Content, Place, place_cmp}
+use Rattle.tsdb_state.specs.Places.{Content, PointPlace, place_cmp}
 use Rattle.tsdb_model.specs.declared.command.Schema.{Schema}
 use Rattle.tsdb_memory.proofs.Emptiness.{not_less, parted, total}
 use Rattle.tsdb_memory.proofs.Frozen.{image_of, point_at, value_there}
@@ -27,45 +27,45 @@ use Rattle.tsdb_memory.proofs.Numbers.{schema_at, some_same}
 use Rattle.tsdb_memory.proofs.Raises.{beyond}
 use Rattle.tsdb_memory.proofs.Series.{itself, one_number}
 use Rattle.tsdb_memory.specs.Model.{HasKnownSeries}
-use Rattle.tsdb_memory.specs.Shown.{IsContentOf, number_of, value_at, value_found}
-use Rattle.tsdb_memtable.specs.Pairs.{HasRisingSeries, Pair, SeriesPoints, blank, count, is_series, points_in, points_of}
+use Rattle.tsdb_memory.specs.Shown.{IsPairContent, number_of, point_value_at, value_found}
+use Rattle.tsdb_memtable.specs.Pairs.{HasRisingSeries, Pair, SeriesPoints, blank, space_count, is_series, points_in, points_of}
 use Rattle.tsdb_base.specs.Points.{IsRising}
 
 -- how many values a content has
 
-abbrev pub AreKeys : List Place → Content → Type 0
-AreKeys places content = (q : Place) → (Among q places → IsSome (get content q)) × (IsSome (get content q) → Among q places)
+abbrev pub AreKeys : List PointPlace → Content → Type 0
+AreKeys places content = (q : PointPlace) → (Among q places → IsSome (get content q)) × (IsSome (get content q) → Among q places)
 
 pub none_of : (o : Option Value) → (IsSome o → ⊥) → o ≡ None
 none_of None h = refl
 none_of (Some v) h = absurd (h refl)
 
-pub removed_none : (content : Content) (p : Place) → get (remove content p) p ≡ None
+pub removed_none : (content : Content) (p : PointPlace) → get (remove content p) p ≡ None
 removed_none content p = get-remove place_cmp_total content p p
     ∙ ap (λ b. cond b None (get content p)) (place_itself p)
 
 -- a content with a value is what it is without it, and the value
-pub put_back : (content : Content) (p : Place) (v : Value) → get content p ≡ Some v
+pub put_back : (content : Content) (p : PointPlace) (v : Value) → get content p ≡ Some v
     → content ≡ insert (remove content p) p v
 put_back content p v at = same_content content (insert (remove content p) p v) (λ q.
     sym (get-insert place_cmp_total (remove content p) p v q
     ∙ ap (cond (eq_by_cmp place_cmp q p) (Some v)) (get-remove place_cmp_total content p q)
     ∙ choose q (eq_by_cmp place_cmp q p) refl))
   where
-    choose : (q : Place) (b : Bool) → eq_by_cmp place_cmp q p ≡ b
+    choose : (q : PointPlace) (b : Bool) → eq_by_cmp place_cmp q p ≡ b
         → cond b (Some v) (cond b None (get content q)) ≡ get content q
     choose q true e = sym (ap (get content) (is_place q p e) ∙ at)
     choose q false e = refl
 
 -- what is left without a value
-pub left_at : (content : Content) (p q : Place) (v : Value) → get (remove content p) q ≡ Some v → get content q ≡ Some v
+pub left_at : (content : Content) (p q : PointPlace) (v : Value) → get (remove content p) q ≡ Some v → get content q ≡ Some v
 left_at content p q v at = by (eq_by_cmp place_cmp q p) (sym (get-remove place_cmp_total content p q) ∙ at)
   where
     by : (b : Bool) → cond b None (get content q) ≡ Some v → get content q ≡ Some v
     by true e = absurd (cc)
     by false e = e
 
-pub keys_left : (p : Place) (places : List Place) (content : Content) → EachPair (λ (p q : Place). p ≢ q) (p ∷ places)
+pub keys_left : (p : PointPlace) (places : List PointPlace) (content : Content) → EachPair (λ (p q : PointPlace). p ≢ q) (p ∷ places)
     → AreKeys (p ∷ places) content → AreKeys places (remove content p)
 keys_left p places content differ are q = (
   λ among. by_first (eq_by_cmp place_cmp q p) refl among,
@@ -74,25 +74,25 @@ keys_left p places content differ are q = (
 )
   where
     is_gone : p ≡ q → get (remove content p) q ≡ None
-    is_gone same = subst (λ (r : Place). get (remove content p) r ≡ None) same (removed_none content p)
+    is_gone same = subst (λ (r : PointPlace). get (remove content p) r ≡ None) same (removed_none content p)
 
     was : (b : Bool) → IsSome (cond b None (get content q)) → IsSome (get content q)
     was true some = absurd (false≢true some)
     was false some = some
 
     by_first : (b : Bool) → eq_by_cmp place_cmp q p ≡ b → Among q places → IsSome (get (remove content p) q)
-    by_first true e among = absurd (each_among (λ (r : Place). p ≢ r) places q differ.0 among (sym (is_place q p e)))
+    by_first true e among = absurd (each_among (λ (r : PointPlace). p ≢ r) places q differ.0 among (sym (is_place q p e)))
     by_first false e among = subst IsSome (sym (get-remove place_cmp_total content p q
         ∙ ap (λ b. cond b None (get content q)) e)) ((are q).0 (inr among))
 
-pub len_of : (places : List Place) (content : Content) → EachPair (λ (p q : Place). p ≢ q) places → AreKeys places content
+pub len_of : (places : List PointPlace) (content : Content) → EachPair (λ (p q : PointPlace). p ≢ q) places → AreKeys places content
     → len content ≡ length places
 len_of [] content differ are =
     ap len (same_content content empty
     (λ q. none_of (get content q) (λ some. nothing q ((are q).1 some)) ∙ sym (get-empty place_cmp q)))
     ∙ len-empty place_cmp Value
   where
-    nothing : (q : Place) → Among q [] → ⊥
+    nothing : (q : PointPlace) → Among q [] → ⊥
     nothing q among = absurd among
 len_of (p ∷ places) content differ are =
     by (get content p) refl (len_of places (remove content p) differ.1 (keys_left p places content differ are))
@@ -114,10 +114,10 @@ len_of (p ∷ places) content differ are =
 abbrev pub path_in : List Schema → ℕ → List ℕ
 path_in series number = unwrap_or (option_map (λ (s : Schema). s.path) (slice_get series number)) []
 
-abbrev pub placed : List ℕ → Point → Place
+abbrev pub placed : List ℕ → Point → PointPlace
 placed path point = record { path = path; time = point.time }
 
-abbrev pub places_in : List Schema → Space → Pair → List Place
+abbrev pub places_in : List Schema → Space → Pair → List PointPlace
 places_in series space [] = []
 places_in series space (entry ∷ pair) =
     map (placed (path_in series entry.0)) (points_in space entry.1) ++ places_in series space pair
@@ -129,7 +129,7 @@ as_many series space (entry ∷ pair) =
     ∙ (λ i. length-map (points_in space entry.1) (placed (path_in series entry.0)) i + as_many series space pair i)
     ∙ sym (parted space entry pair)
 
-record PlaceIn (series : List Schema) (space : Space) (pair : Pair) (place : Place) : Type 0 where
+record PlaceIn (series : List Schema) (space : Space) (pair : Pair) (place : PointPlace) : Type 0 where
   pub entry : ℕ × SeriesPoints
   pub listed : Among entry pair
   pub point : Point
@@ -141,7 +141,7 @@ among_either [] ys x among = inr among
 among_either (z ∷ xs) ys x (inl is) = inl (inl is)
 among_either (z ∷ xs) ys x (inr among) = ⊎_elim (λ h. inl (inr h)) (λ h. inr h) (among_either xs ys x among)
 
-place_in : (series : List Schema) (space : Space) (pair : Pair) (place : Place)
+place_in : (series : List Schema) (space : Space) (pair : Pair) (place : PointPlace)
     → Among place (places_in series space pair) → PlaceIn series space pair place
 place_in series space [] place among = absurd among
 place_in series space (entry ∷ pair) place among = ⊎_elim
@@ -168,7 +168,7 @@ has_place series Unsequence [] number point among = absurd among
 has_place series space (entry ∷ pair) number point among =
     by (is_series number entry.0) refl among (λ h. has_place series space pair number point h)
   where
-    row : List Place
+    row : List PointPlace
     row = map (placed (path_in series entry.0)) (points_in space entry.1)
 
     by : (b : Bool) → is_series number entry.0 ≡ b
@@ -242,10 +242,10 @@ time_is a = grind (arith, ints)
 
 -- the value at the time of a point is its own
 pub value_of_point : (points : List Point) (point : Point) → IsRising points → Among point points
-    → value_at point.time points ≡ Some point.value
+    → point_value_at point.time points ≡ Some point.value
 value_of_point [] point rising among = absurd among
 value_of_point (p ∷ points) point rising (inl is) =
-    subst (λ (q : Point). value_at q.time (p ∷ points) ≡ Some q.value) is
+    subst (λ (q : Point). point_value_at q.time (p ∷ points) ≡ Some q.value) is
     (ap (λ b. option_map (λ (q : Point). q.value) (cond b (Some p) (find (λ (q : Point). int_eq p.time q.time) points)))
     (time_is p.time))
 value_of_point (p ∷ points) point rising (inr among) =
@@ -255,13 +255,13 @@ value_of_point (p ∷ points) point rising (inr among) =
     ∙ value_of_point points point (tail_rising p points rising) among
 
 pub row_differs : (path : List ℕ) (points : List Point) → IsRising points
-    → EachPair (λ (p q : Place). p ≢ q) (map (placed path) points)
+    → EachPair (λ (p q : PointPlace). p ≢ q) (map (placed path) points)
 row_differs path [] rising = tt
 row_differs path (p ∷ points) rising = (
-  each_from_among (λ (q : Place). placed path p ≢ q) (map (placed path) points) (λ q among same.
+  each_from_among (λ (q : PointPlace). placed path p ≢ q) (map (placed path) points) (λ q among same.
       let image = image_of (placed path) points q among in
       apart p.time image.element.time (below p points rising image.element image.among)
-      (ap (λ (r : Place). r.time) (same ∙ sym image.is))),
+      (ap (λ (r : PointPlace). r.time) (same ∙ sym image.is))),
   row_differs path points (tail_rising p points rising),
 )
 
@@ -299,11 +299,11 @@ places_differ : (series : List Schema) (space : Space) (pair : Pair) → HasNumb
     → ((entry : ℕ × SeriesPoints) → Among entry pair → IsRising (points_in space entry.1))
     → ((entry : ℕ × SeriesPoints) (point : Point) → Among entry pair → Among point (points_in space entry.1)
     → IsLive series entry.0)
-    → EachPair (λ (p q : Place). p ≢ q) (places_in series space pair)
+    → EachPair (λ (p q : PointPlace). p ≢ q) (places_in series space pair)
 unfolding IsStrictlySortedBy
 places_differ series space [] once sorted rising live = tt
 places_differ series space (first ∷ pair) once sorted rising live =
-    pairs_append (λ (p q : Place). p ≢ q) (map (placed (path_in series first.0)) (points_in space first.1))
+    pairs_append (λ (p q : PointPlace). p ≢ q) (map (placed (path_in series first.0)) (points_in space first.1))
     (places_in series space pair)
     (row_differs (path_in series first.0) (points_in space first.1) (rising first (inl refl)))
     (places_differ series space pair once sorted.1 (λ entry among. rising entry (inr among))
@@ -313,31 +313,31 @@ places_differ series space (first ∷ pair) once sorted rising live =
     let other = place_in series space pair q right in
     let number = one_series series once first.0 other.entry.0 (live first image.element (inl refl) image.among)
     (live other.entry other.point (inr other.listed) other.among)
-    (ap (λ (r : Place). r.path) (image.is ∙ same ∙ sym other.is)) in
+    (ap (λ (r : PointPlace). r.path) (image.is ∙ same ∙ sym other.is)) in
     not_less first.0 (subst (λ n. nat_cmp first.0 n ≡ Less) (sym number)
     (each_among (λ y. nat_cmp first.0 y ≡ Less) (keys_of pair) other.entry.0 sorted.0
     (among_map (λ (e : ℕ × SeriesPoints). e.0) pair other.entry other.listed))))
 
 -- the count
 
-record FoundIn (series : List Schema) (space : Space) (pair : Pair) (place : Place) : Type 0 where
+record FoundIn (series : List Schema) (space : Space) (pair : Pair) (place : PointPlace) : Type 0 where
   pub number : ℕ
   pub numbered : number_of series place.path ≡ Some number
-  pub some : IsSome (value_at place.time (points_of space number pair))
+  pub some : IsSome (point_value_at place.time (points_of space number pair))
 
-found_in : (series : List Schema) (space : Space) (pair : Pair) (place : Place)
+found_in : (series : List Schema) (space : Space) (pair : Pair) (place : PointPlace)
     → IsSome (value_found series space pair place) → FoundIn series space pair place
 found_in series space pair place some = by (number_of series place.path) refl some
   where
     by : (o : Option ℕ) → number_of series place.path ≡ o
-        → IsSome (option_and_then (λ number. value_at place.time (points_of space number pair)) o)
+        → IsSome (option_and_then (λ number. point_value_at place.time (points_of space number pair)) o)
         → FoundIn series space pair place
     by None e some = absurd (false≢true some)
     by (Some n) e some = record { number = n; numbered = e; some = some }
 
 module _ (series : List Schema) (space : Space) (pair : Pair) (content : Content) (once : HasNumbers series)
     (known : HasKnownSeries series pair) (rising : (number : ℕ) → IsRising (points_of space number pair))
-    (sorted : HasRisingSeries pair) (is : IsContentOf series space pair content) where
+    (sorted : HasRisingSeries pair) (is : IsPairContent series space pair content) where
   live : (number : ℕ) (point : Point) → Among point (points_of space number pair) → IsLive series number
   live number point among = by (slice_get series number) refl
     where
@@ -351,7 +351,7 @@ module _ (series : List Schema) (space : Space) (pair : Pair) (content : Content
   here : (entry : ℕ × SeriesPoints) → Among entry pair → points_of space entry.0 pair ≡ points_in space entry.1
   here entry among = at_entry space pair sorted entry among
 
-  has : (q : Place) → Among q (places_in series space pair) → IsSome (get content q)
+  has : (q : PointPlace) → Among q (places_in series space pair) → IsSome (get content q)
   has q among =
       let found = place_in series space pair q among in
       let at : Among found.point (points_of space found.entry.0 pair) =
@@ -360,12 +360,12 @@ module _ (series : List Schema) (space : Space) (pair : Pair) (content : Content
       let numbered : number_of series (path_in series found.entry.0) ≡ Some found.entry.0 =
       ap (number_of series) (path_is series found.entry.0 alive) ∙ once found.entry.0 alive.schema alive.at in
       let value : IsSome (value_found series space pair (placed (path_in series found.entry.0) found.point)) =
-      subst (λ o. IsSome (option_and_then (λ number. value_at found.point.time (points_of space number pair)) o))
+      subst (λ o. IsSome (option_and_then (λ number. point_value_at found.point.time (points_of space number pair)) o))
       (sym numbered) (value_there (points_of space found.entry.0 pair) found.point at) in
-      subst (λ (p : Place). IsSome (get content p)) found.is
+      subst (λ (p : PointPlace). IsSome (get content p)) found.is
       (subst IsSome (sym (is (placed (path_in series found.entry.0) found.point))) value)
 
-  had : (q : Place) → IsSome (get content q) → Among q (places_in series space pair)
+  had : (q : PointPlace) → IsSome (get content q) → Among q (places_in series space pair)
   had q some =
       let found = found_in series space pair q (subst IsSome (is q) some) in
       let point = point_at (points_of space found.number pair) q.time found.some in
@@ -374,18 +374,18 @@ module _ (series : List Schema) (space : Space) (pair : Pair) (content : Content
       ap (λ o. unwrap_or (option_map (λ (s : Schema). s.path) o) []) schema.at ∙ schema.of_path in
       let same : placed (path_in series found.number) point.point ≡ q =
       λ i. record { path = path i; time = point.is i } in
-      subst (λ (p : Place). Among p (places_in series space pair)) same
+      subst (λ (p : PointPlace). Among p (places_in series space pair)) same
       (has_place series space pair found.number point.point point.among)
 
   pub are_keys : AreKeys (places_in series space pair) content
   are_keys q = (has q, had q)
 
-  pub places_apart : EachPair (λ (p q : Place). p ≢ q) (places_in series space pair)
+  pub places_apart : EachPair (λ (p q : PointPlace). p ≢ q) (places_in series space pair)
   places_apart = places_differ series space pair once sorted
       (λ entry among. subst IsRising (here entry among) (rising entry.0))
       (λ entry point among at. live entry.0 point (subst (λ l. Among point l) (sym (here entry among)) at))
 
-  pub counted_points : len content ≡ count space pair
+  pub counted_points : len content ≡ space_count space pair
   counted_points = len_of (places_in series space pair) content places_apart are_keys ∙ as_many series space pair
 
   -- each point has its value at its place
@@ -396,6 +396,6 @@ module _ (series : List Schema) (space : Space) (pair : Pair) (content : Content
       subst (λ l. Among point l) (sym (here entry listed)) among in
       let alive = live entry.0 point at in
       is (placed (path_in series entry.0) point)
-      ∙ ap (option_and_then (λ number. value_at point.time (points_of space number pair)))
+      ∙ ap (option_and_then (λ number. point_value_at point.time (points_of space number pair)))
       (ap (number_of series) (path_is series entry.0 alive) ∙ once entry.0 alive.schema alive.at)
       ∙ value_of_point (points_of space entry.0 pair) point (rising entry.0) at

@@ -15,7 +15,7 @@ use Rattle.tsdb_base.specs.declared.ids.Space.TheVariants.{Sequence, Unsequence}
 use Rattle.tsdb_base.specs.declared.ids.Stamp.{Stamp}
 use Rattle.tsdb_base.specs.declared.point.Range.{Range}
 use Rattle.tsdb_state.specs.Marks.{purge}
-use Rattle.tsdb_state.specs.Places.{Place, place_cmp}
+use Rattle.tsdb_state.specs.Places.{PointPlace, place_cmp}
 use Rattle.tsdb_model.specs.declared.command.Schema.{Schema}
 use Rattle.tsdb_marks.specs.Lists.{Marks, is_newer_than, purge_list}
 use Rattle.tsdb_marks.specs.declared.marks.Mark.{Mark}
@@ -25,10 +25,10 @@ use Rattle.tsdb_memory.proofs.Numbers.{length_push, once_push}
 use Rattle.tsdb_memory.specs.Least.{IsLeastOf, least_with}
 use Rattle.tsdb_memory.proofs.Typing.{all_both, typed_cut, typed_push}
 use Rattle.tsdb_memory.proofs.InTurn.{later_in_turn, left_in_turn, none_in_turn}
-use Rattle.tsdb_memory.specs.Model.{AreFrozenInTurn, HasKnownSeries, HasRisingPoints, HasTypedPoints, IsFormed, IsSound}
+use Rattle.tsdb_memory.specs.Model.{AreFrozenInTurn, HasKnownSeries, HasRisingPoints, HasTypedPoints, IsFormed, IsSoundMemory}
 use Rattle.tsdb_memory.specs.Rows.{ChangesRoom}
-use Rattle.tsdb_memory.specs.Shown.{IsFrozenOf, IsMemoryOf, IsPairOf, entry_of, file_borns, number_of, value_at}
-use Rattle.tsdb_memory.specs.Store.{FrozenPair, Places, Store}
+use Rattle.tsdb_memory.specs.Shown.{IsFrozenOf, IsMemoryOf, IsPairOf, series_entry, file_borns, number_of, point_value_at}
+use Rattle.tsdb_memory.specs.Store.{FrozenPair, SparePlaces, MemoryState}
 use Rattle.tsdb_memtable.specs.Pairs.{change_points, points_of, without_range}
 use Rattle.tsdb_base.specs.Points.{IsRising}
 use Rattle.tsdb_base.specs.Limits.{end_of_numbers, max_frozen}
@@ -52,15 +52,15 @@ UpTo n mark = mark.version.0 ≤ n
 longer : (a b n : ℕ) → a ≡ b + 1 → a ≤ n → b ≤ n
 longer a b n e h = omega (arith, e, h)
 
-pub created_shown : (store : Store) (series : List Schema) (places : Places) (schema : Schema) (shown : StoreState)
-    → series ≡ store.series ++ schema ∷ [] → IsSound store → IsMemoryOf store shown
+pub created_shown : (store : MemoryState) (series : List Schema) (places : SparePlaces) (schema : Schema) (shown : StoreState)
+    → series ≡ store.series ++ schema ∷ [] → IsSoundMemory store → IsMemoryOf store shown
     → IsMemoryOf (record store { series = series; stamp = store.stamp + 1; places = places }) (created schema shown)
 created_shown store series places schema shown joins sound is =
     subst
     (λ s. IsMemoryOf (record store { series = s; stamp = store.stamp + 1; places = places }) (created schema shown))
     (sym joins)
     (record {
-      schemas = ap (λ s. s ++ entry_of schema ∷ []) is.schemas ∙ sym (map-append entry_of store.series (schema ∷ []));
+      schemas = ap (λ s. s ++ series_entry schema ∷ []) is.schemas ∙ sym (map-append series_entry store.series (schema ∷ []));
       stamp = ap (λ n. n + 1) is.stamp;
       watermarks = is.watermarks;
       marks = is.marks;
@@ -68,12 +68,12 @@ created_shown store series places schema shown joins sound is =
       working = pair_push store.series schema store.working shown.working sound.known is.working;
     })
 
-pub created_sound : (store : Store) (series : List Schema) (places : Places) (schema : Schema)
+pub created_sound : (store : MemoryState) (series : List Schema) (places : SparePlaces) (schema : Schema)
     → series ≡ store.series ++ schema ∷ [] → IsFormed schema → number_of store.series schema.path ≡ None
-    → store.stamp < end_of_numbers → IsSound store
-    → IsSound (record store { series = series; stamp = store.stamp + 1; places = places })
+    → store.stamp < end_of_numbers → IsSoundMemory store
+    → IsSoundMemory (record store { series = series; stamp = store.stamp + 1; places = places })
 created_sound store series places schema joins formed free stamp sound =
-    subst (λ s. IsSound (record store { series = s; stamp = store.stamp + 1; places = places })) (sym joins)
+    subst (λ s. IsSoundMemory (record store { series = s; stamp = store.stamp + 1; places = places })) (sym joins)
     (record {
       formed = All-push IsFormed store.series schema sound.formed formed;
       once = once_push store.series schema free sound.once;
@@ -102,7 +102,7 @@ created_sound store series places schema joins formed free stamp sound =
 
 -- a purge
 
-pub purged_shown : (store : Store) (shown : StoreState) (marks : Marks) (listed : Option Stamp)
+pub purged_shown : (store : MemoryState) (shown : StoreState) (marks : Marks) (listed : Option Stamp)
     → IsMemoryOf store shown → IsLeastOf listed (file_borns shown)
     → marks.marks ≡ purge_list (least_with listed (map (λ pair. pair.born) store.frozen)) store.marks.marks
     → IsMemoryOf (record store { marks = marks }) (purged shown)
@@ -124,8 +124,8 @@ purged_versions : (n : ℕ) (least : Option Stamp) (marks : List Mark) → All (
 purged_versions n None marks all = All-nil (UpTo n)
 purged_versions n (Some least) marks all = All-filter (is_newer_than least.0) (UpTo n) marks all
 
-pub purged_sound : (store : Store) (marks : Marks) (least : Option Stamp) → IsSound store
-    → marks.marks ≡ purge_list least store.marks.marks → IsSound (record store { marks = marks })
+pub purged_sound : (store : MemoryState) (marks : Marks) (least : Option Stamp) → IsSoundMemory store
+    → marks.marks ≡ purge_list least store.marks.marks → IsSoundMemory (record store { marks = marks })
 purged_sound store marks least sound after = record {
   formed = sound.formed;
   once = sound.once;
@@ -144,8 +144,8 @@ purged_sound store marks least sound after = record {
 
 -- a deletion
 
-module _ (store : Store) (n : ℕ) (path : List ℕ) (range : Range) (added : Marks) where
-  abbrev pub cut_store : Store
+module _ (store : MemoryState) (n : ℕ) (path : List ℕ) (range : Range) (added : Marks) where
+  abbrev pub cut_store : MemoryState
   cut_store = record store {
     stamp = store.stamp + 1;
     marks = added;
@@ -196,8 +196,8 @@ module _ (store : Store) (n : ℕ) (path : List ℕ) (range : Range) (added : Ma
         version = record { 0 = store.stamp + 1 };
       }) more (itself (store.stamp + 1))
 
-  pub cut_sound : IsSound store → store.stamp < end_of_numbers
-      → added.marks ≡ add_mark path range (store.stamp + 1) store.marks.marks → IsSound cut_store
+  pub cut_sound : IsSoundMemory store → store.stamp < end_of_numbers
+      → added.marks ≡ add_mark path range (store.stamp + 1) store.marks.marks → IsSoundMemory cut_store
   cut_sound sound stamp after = record {
     formed = sound.formed;
     once = sound.once;
@@ -219,8 +219,8 @@ pub map_same : {X Y Z : Type 0} (f : X → Y) (g : Y → Z) (xs : List X) → ma
 map_same f g [] = refl
 map_same f g (x ∷ xs) = ap (λ l. g (f x) ∷ l) (map_same f g xs)
 
-flush_base : (store : Store) (frozen : List FrozenPair) (oldest : FrozenPair) (places : Places) (shown : StoreState)
-    (pairs : List state.FrozenPair) (first : state.FrozenPair) (sequence unsequence : List state.File)
+flush_base : (store : MemoryState) (frozen : List FrozenPair) (oldest : FrozenPair) (places : SparePlaces) (shown : StoreState)
+    (pairs : List state.FrozenContent) (first : state.FrozenContent) (sequence unsequence : List state.File)
     → store.frozen ≡ oldest ∷ frozen → shown.frozen ≡ first ∷ pairs → IsMemoryOf store shown
     → IsMemoryOf (record store { frozen = frozen; places = places })
     (record shown { frozen = pairs; sequence = sequence; unsequence = unsequence })
@@ -237,7 +237,7 @@ flush_base store frozen oldest places shown pairs first sequence unsequence had 
     both = subst (λ l. AllZip (IsFrozenOf store.series) l (first ∷ pairs)) had
         (subst (λ l. AllZip (IsFrozenOf store.series) store.frozen l) has is.frozen)
 
-pub flushed_shown : (store : Store) (frozen : List FrozenPair) (oldest : FrozenPair) (places : Places) (marks : Marks)
+pub flushed_shown : (store : MemoryState) (frozen : List FrozenPair) (oldest : FrozenPair) (places : SparePlaces) (marks : Marks)
     (listed : Option Stamp) (shown : StoreState) (sequence unsequence : ℕ)
     → store.frozen ≡ oldest ∷ frozen → IsMemoryOf store shown
     → IsLeastOf listed (file_borns (flushed sequence unsequence shown))
@@ -249,7 +249,7 @@ flushed_shown store frozen oldest places marks listed shown sequence unsequence 
     none : AllZip (IsFrozenOf store.series) store.frozen [] → ⊥
     none h = subst (λ l. AllZip (IsFrozenOf store.series) l []) had h
 
-    by : (pairs : List state.FrozenPair) → shown.frozen ≡ pairs
+    by : (pairs : List state.FrozenContent) → shown.frozen ≡ pairs
         → IsLeastOf listed (file_borns (flush_oldest sequence unsequence pairs shown))
         → IsMemoryOf (record store { frozen = frozen; places = places; marks = marks })
         (flush_oldest sequence unsequence pairs shown)
@@ -263,7 +263,7 @@ flushed_shown store frozen oldest places marks listed shown sequence unsequence 
         (flush_base store frozen oldest places shown pairs first (shown.sequence ++ new_file sequence first.born)
         (shown.unsequence ++ new_file unsequence first.born) had has is) low after
 
-pub replaced_shown : (store : Store) (marks : Marks) (listed : Option Stamp) (shown : StoreState) (item : Replacement)
+pub replaced_shown : (store : MemoryState) (marks : Marks) (listed : Option Stamp) (shown : StoreState) (item : Replacement)
     → IsMemoryOf store shown → IsLeastOf listed (file_borns (replaced item shown))
     → marks.marks ≡ purge_list (least_with listed (map (λ pair. pair.born) store.frozen)) store.marks.marks
     → IsMemoryOf (record store { marks = marks }) (replaced item shown)
@@ -290,7 +290,7 @@ replaced_shown store marks listed shown item is least after =
 
 -- a new store
 
-abbrev pub new_memory : Places → Store
+abbrev pub new_memory : SparePlaces → MemoryState
 new_memory places = record {
   series = [];
   stamp = 0;
@@ -301,7 +301,7 @@ new_memory places = record {
   places = places;
 }
 
-pub new_shown : (places : Places) → IsMemoryOf (new_memory places) new_store
+pub new_shown : (places : SparePlaces) → IsMemoryOf (new_memory places) new_store
 new_shown places = record {
   schemas = refl;
   stamp = refl;
@@ -317,7 +317,7 @@ new_shown places = record {
 pub nothing_rises : IsRising []
 nothing_rises = λ i j d before within. absurd (omega (arith, within))
 
-pub new_sound : (places : Places) → IsSound (new_memory places)
+pub new_sound : (places : SparePlaces) → IsSoundMemory (new_memory places)
 new_sound places = record {
   formed = All-nil IsFormed;
   once = λ number schema e. absurd (none schema e);
@@ -346,10 +346,10 @@ new_sound places = record {
 
 -- what is kept where only room has changed
 
-pub roomy_shown : (old new : Store) (shown : StoreState) → ChangesRoom old new → IsMemoryOf old shown
+pub roomy_shown : (old new : MemoryState) (shown : StoreState) → ChangesRoom old new → IsMemoryOf old shown
     → IsMemoryOf new shown
 roomy_shown old new shown room is = record {
-  schemas = is.schemas ∙ sym (ap (map entry_of) room.series);
+  schemas = is.schemas ∙ sym (ap (map series_entry) room.series);
   stamp = is.stamp ∙ sym room.stamp;
   watermarks = λ device. is.watermarks device ∙ sym (room.watermarks device);
   marks = is.marks ∙ sym room.marks;
@@ -361,13 +361,13 @@ roomy_shown old new shown room is = record {
   });
 }
   where
-    same : (space : Space) (place : Place) (o : Option ℕ)
-        → option_and_then (λ number. value_at place.time (points_of space number new.working)) o
-        ≡ option_and_then (λ number. value_at place.time (points_of space number old.working)) o
+    same : (space : Space) (place : PointPlace) (o : Option ℕ)
+        → option_and_then (λ number. point_value_at place.time (points_of space number new.working)) o
+        ≡ option_and_then (λ number. point_value_at place.time (points_of space number old.working)) o
     same space place None = refl
-    same space place (Some n) = ap (value_at place.time) (room.working space n)
+    same space place (Some n) = ap (point_value_at place.time) (room.working space n)
 
-pub roomy_sound : (old new : Store) → ChangesRoom old new → IsSound old → IsSound new
+pub roomy_sound : (old new : MemoryState) → ChangesRoom old new → IsSoundMemory old → IsSoundMemory new
 roomy_sound old new room sound = record {
   formed = subst (All IsFormed) (sym room.series) sound.formed;
   once = subst (λ s. (number : ℕ) (schema : Schema) → slice_get s number ≡ Some schema
@@ -391,10 +391,10 @@ roomy_sound old new room sound = record {
   ends = subst (λ n. n ≤ end_of_numbers) (sym room.stamp) sound.ends;
 }
 
-pub flushed_sound : (store : Store) (frozen : List FrozenPair) (oldest : FrozenPair) (places : Places) (marks : Marks)
-    (least : Option Stamp) → store.frozen ≡ oldest ∷ frozen → IsSound store
+pub flushed_sound : (store : MemoryState) (frozen : List FrozenPair) (oldest : FrozenPair) (places : SparePlaces) (marks : Marks)
+    (least : Option Stamp) → store.frozen ≡ oldest ∷ frozen → IsSoundMemory store
     → marks.marks ≡ purge_list least store.marks.marks
-    → IsSound (record store { frozen = frozen; places = places; marks = marks })
+    → IsSoundMemory (record store { frozen = frozen; places = places; marks = marks })
 flushed_sound store frozen oldest places marks least had sound after = record {
   formed = sound.formed;
   once = sound.once;

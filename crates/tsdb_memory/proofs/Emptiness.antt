@@ -19,17 +19,17 @@ use Rattle.tsdb_base.specs.declared.point.Point.{Point}
 use Rattle.tsdb_base.proofs.Lists.{each_among}
 use Rattle.tsdb_state.proofs.LayerLemmas.Places.{same_content}
 use Rattle.tsdb_base.specs.Lists.{Among}
-use Rattle.tsdb_state.specs.Places.{Content, Place, place_cmp}
+use Rattle.tsdb_state.specs.Places.{Content, PointPlace, place_cmp}
 use Rattle.tsdb_model.specs.declared.command.Schema.{Schema}
 use Rattle.tsdb_memory.proofs.Frozen.{value_there}
 use Rattle.tsdb_memory.proofs.Raises.{beyond}
 use Rattle.tsdb_memory.proofs.Series.{itself, one_number}
-use Rattle.tsdb_memory.specs.Fits.{HasNoPoint}
-use Rattle.tsdb_memory.specs.Model.{HasKnownSeries, IsSound}
-use Rattle.tsdb_memory.specs.Shown.{IsContentOf, IsFilled, IsFrozenOf, IsMemoryOf, IsPairOf, SomePoint, number_of, part_of}
-use Rattle.tsdb_memory.specs.Shown.{value_at, value_found}
-use Rattle.tsdb_memory.specs.Store.{FrozenPair, Store}
-use Rattle.tsdb_memtable.specs.Pairs.{HasRisingSeries, Pair, SeriesPoints, blank, count, is_series, points_in, points_of}
+use Rattle.tsdb_memory.specs.Fits.{HasNoPairPoint}
+use Rattle.tsdb_memory.specs.Model.{HasKnownSeries, IsSoundMemory}
+use Rattle.tsdb_memory.specs.Shown.{IsPairContent, TellsSpaceFilled, IsFrozenOf, IsMemoryOf, IsPairOf, SomePoint, number_of, part_of}
+use Rattle.tsdb_memory.specs.Shown.{point_value_at, value_found}
+use Rattle.tsdb_memory.specs.Store.{FrozenPair, MemoryState}
+use Rattle.tsdb_memtable.specs.Pairs.{HasRisingSeries, Pair, SeriesPoints, blank, space_count, is_series, points_in, points_of}
 use Rattle.tsdb_state.specs.Limit.{IsEmptyPair}
 use Rattle.tsdb_state.specs.State as state
 
@@ -129,11 +129,11 @@ nothing : (n : ℕ) → nat_lt 0 n ≡ false → n ≡ 0
 nothing n e = grind (arith, nat_tests)
 
 -- whether the count is above 0
-pub filled_by : (space : Space) (pair : Pair) (n : ℕ) → HasRisingSeries pair → n ≡ count space pair
-    → IsFilled (nat_lt 0 n) space pair
+pub filled_by : (space : Space) (pair : Pair) (n : ℕ) → HasRisingSeries pair → n ≡ space_count space pair
+    → TellsSpaceFilled (nat_lt 0 n) space pair
 filled_by space pair n rising is = by (nat_lt 0 n) refl
   where
-    by : (b : Bool) → nat_lt 0 n ≡ b → IsFilled b space pair
+    by : (b : Bool) → nat_lt 0 n ≡ b → TellsSpaceFilled b space pair
     by true e =
         let found = counted space pair rising (subst (λ k. 0 < k) is (positive n e)) in
         record {
@@ -144,40 +144,40 @@ filled_by space pair n rising is = by (nat_lt 0 n) refl
     by false e = none_counted space pair (sym is ∙ nothing n e)
 
 -- a pair with a point in a space has one
-pub some_point : (space : Space) (pair : Pair) → SomePoint space pair → ¬ HasNoPoint pair
+pub some_point : (space : Space) (pair : Pair) → SomePoint space pair → ¬ HasNoPairPoint pair
 some_point space pair some none = nowhere some.point
     (subst (λ l. Among some.point l) (none_counted space pair (by space) some.number) some.among)
   where
     nowhere : (point : Point) → Among point [] → ⊥
     nowhere point among = absurd among
 
-    by : (space : Space) → count space pair ≡ 0
+    by : (space : Space) → space_count space pair ≡ 0
     by Sequence = none.0
     by Unsequence = none.1
 
-pub late_point : (filled : Bool) (pair : Pair) → IsFilled filled Unsequence pair → not filled ≡ false
-    → ¬ HasNoPoint pair
+pub late_point : (filled : Bool) (pair : Pair) → TellsSpaceFilled filled Unsequence pair → not filled ≡ false
+    → ¬ HasNoPairPoint pair
 late_point true pair filled busy = some_point Unsequence pair filled
 late_point false pair filled busy = absurd (false≢true (sym busy))
 
 -- the content of a part
 
 empty_content : (series : List Schema) (space : Space) (pair : Pair) (content : Content)
-    → IsContentOf series space pair content → ((number : ℕ) → points_of space number pair ≡ []) → content ≡ empty
+    → IsPairContent series space pair content → ((number : ℕ) → points_of space number pair ≡ []) → content ≡ empty
 empty_content series space pair content is none =
     same_content content empty
     (λ q. is q ∙ by q.time (number_of series q.path) ∙ sym (get-empty place_cmp q))
   where
-    by : (time : ℤ) (o : Option ℕ) → option_and_then (λ number. value_at time (points_of space number pair)) o ≡ None
+    by : (time : ℤ) (o : Option ℕ) → option_and_then (λ number. point_value_at time (points_of space number pair)) o ≡ None
     by time None = refl
-    by time (Some n) = ap (value_at time) (none n)
+    by time (Some n) = ap (point_value_at time) (none n)
 
 abbrev HasNumbers : List Schema → Type 0
 HasNumbers series = (number : ℕ) (schema : Schema) → slice_get series number ≡ Some schema
     → number_of series schema.path ≡ Some number
 
 full_content : (series : List Schema) (space : Space) (pair : Pair) (content : Content) → HasNumbers series
-    → HasKnownSeries series pair → IsContentOf series space pair content → SomePoint space pair → content ≢ empty
+    → HasKnownSeries series pair → IsPairContent series space pair content → SomePoint space pair → content ≢ empty
 full_content series space pair content once known is some none = by (slice_get series some.number) refl
   where
     nowhere : (point : Point) → Among point [] → ⊥
@@ -187,20 +187,20 @@ full_content series space pair content once known is some none = by (slice_get s
     by None e = nowhere some.point
         (subst (λ l. Among some.point l) (known space some.number (beyond series some.number e)) some.among)
     by (Some schema) e =
-        let place : Place = record { path = schema.path; time = some.point.time } in
+        let place : PointPlace = record { path = schema.path; time = some.point.time } in
         let value : IsSome (value_found series space pair place) =
-        subst (λ o. IsSome (option_and_then (λ number. value_at some.point.time (points_of space number pair)) o))
+        subst (λ o. IsSome (option_and_then (λ number. point_value_at some.point.time (points_of space number pair)) o))
         (sym (once some.number schema e)) (value_there (points_of space some.number pair) some.point some.among) in
         false≢true (subst IsSome
         (sym (is place) ∙ ap (λ (c : Content). get c place) none ∙ get-empty place_cmp place) value)
 
 pub part_is : (series : List Schema) (pair : Pair) (shown : state.PairContent) (space : Space) → IsPairOf series pair shown
-    → IsContentOf series space pair (part_of space shown)
+    → IsPairContent series space pair (part_of space shown)
 part_is series pair shown Sequence is = is.sequence
 part_is series pair shown Unsequence is = is.unsequence
 
 filled_part : (series : List Schema) (space : Space) (pair : Pair) (shown : state.PairContent) (b : Bool) → HasNumbers series
-    → HasKnownSeries series pair → IsPairOf series pair shown → IsFilled b space pair
+    → HasKnownSeries series pair → IsPairOf series pair shown → TellsSpaceFilled b space pair
     → (IsTrue b ↔ (part_of space shown ≢ empty))
 filled_part series space pair shown true once known is filled = (
   λ h. full_content series space pair (part_of space shown) once known (part_is series pair shown space is) filled,
@@ -212,15 +212,15 @@ filled_part series space pair shown false once known is filled = (
       filled)),
 )
 
-module _ (store : Store) (shown : state.StoreState) (sound : IsSound store) (is : IsMemoryOf store shown) where
-  pub not_idle : IsFilled true Sequence store.working → (IsTrue false ↔ IsEmptyPair shown.working)
+module _ (store : MemoryState) (shown : state.StoreState) (sound : IsSoundMemory store) (is : IsMemoryOf store shown) where
+  pub not_idle : TellsSpaceFilled true Sequence store.working → (IsTrue false ↔ IsEmptyPair shown.working)
   not_idle filled = (
     λ h. absurd (false≢true h),
     λ none. absurd (full_content store.series Sequence store.working shown.working.sequence sound.once sound.known
         is.working.sequence filled none.0),
   )
 
-  pub idle_by : (b : Bool) → IsFilled false Sequence store.working → IsFilled b Unsequence store.working
+  pub idle_by : (b : Bool) → TellsSpaceFilled false Sequence store.working → TellsSpaceFilled b Unsequence store.working
       → (IsTrue (not b) ↔ IsEmptyPair shown.working)
   idle_by true none filled = (
     λ h. absurd (false≢true h),
@@ -235,9 +235,9 @@ module _ (store : Store) (shown : state.StoreState) (sound : IsSound store) (is 
     λ h. refl,
   )
 
-  pub oldest_part : (first : FrozenPair) (rest : List FrozenPair) (oldest : state.FrozenPair)
-      (newer : List state.FrozenPair) (space : Space) (b : Bool) → store.frozen ≡ first ∷ rest
-      → shown.frozen ≡ oldest ∷ newer → IsFilled b space first.pair → (IsTrue b ↔ (part_of space oldest.pair ≢ empty))
+  pub oldest_part : (first : FrozenPair) (rest : List FrozenPair) (oldest : state.FrozenContent)
+      (newer : List state.FrozenContent) (space : Space) (b : Bool) → store.frozen ≡ first ∷ rest
+      → shown.frozen ≡ oldest ∷ newer → TellsSpaceFilled b space first.pair → (IsTrue b ↔ (part_of space oldest.pair ≢ empty))
   oldest_part first rest oldest newer space b had has filled =
       let both : AllZip (IsFrozenOf store.series) (first ∷ rest) (oldest ∷ newer) =
       subst (λ l. AllZip (IsFrozenOf store.series) l (oldest ∷ newer)) had
@@ -247,7 +247,7 @@ module _ (store : Store) (shown : state.StoreState) (sound : IsSound store) (is 
       (subst (λ l. All (λ (f : FrozenPair). HasKnownSeries store.series f.pair) l) had sound.frozen_known) in
       filled_part store.series space first.pair oldest.pair b sound.once known both.0.pair filled
 
-  pub no_oldest : (oldest : state.FrozenPair) (newer : List state.FrozenPair) → store.frozen ≡ []
+  pub no_oldest : (oldest : state.FrozenContent) (newer : List state.FrozenContent) → store.frozen ≡ []
       → shown.frozen ≡ oldest ∷ newer → ⊥
   no_oldest oldest newer none has =
       subst (λ l. AllZip (IsFrozenOf store.series) l (oldest ∷ newer)) none

@@ -20,15 +20,15 @@ use Rattle.tsdb_model.specs.declared.command.Command.TheVariants as command
 use Rattle.tsdb_model.specs.declared.command.Row.{Row}
 use Rattle.tsdb_model.specs.declared.command.Schema.{Schema}
 use Rattle.tsdb_model.specs.declared.reply.Reply.TheVariants.{Plain}
-use Rattle.tsdb_memory.specs.Shown.{IsMemoryOf, entry_of, number_of}
-use Rattle.tsdb_memory.specs.Store.{Store}
+use Rattle.tsdb_memory.specs.Shown.{IsMemoryOf, series_entry, number_of}
+use Rattle.tsdb_memory.specs.Store.{MemoryState}
 use Rattle.tsdb_memory.proofs.RowLemmas.MapAnswers.{follows}
-use Rattle.tsdb_memory.specs.RowReading.{IsRefused}
+use Rattle.tsdb_memory.specs.RowReading.{IsRowRefused}
 use Rattle.tsdb_state.proofs.Creating.{created_stands}
 use Rattle.tsdb_state.proofs.Deleting.{deleted_stands}
 use Rattle.tsdb_state.proofs.Freezing.{froze_keeps}
 use Rattle.tsdb_state.specs.Records.{CanFreeze, after, froze}
-use Rattle.tsdb_state.specs.State.{StoreState, Told}
+use Rattle.tsdb_state.specs.State.{StoreState, ToldContents}
 use Rattle.tsdb_state.specs.StoreOrder.{StoreInOrder}
 use Rattle.tsdb_state.specs.Worlds.{StandsFor, type_at}
 
@@ -45,7 +45,7 @@ some_there None None same some = absurd cc
 some_there None (Some shown) same some = absurd cc
 some_there (Some series) shown same some = refl
 
-module _ (told : Told) (store : Store) (state : StoreState) (memory : IsMemoryOf store state)
+module _ (told : ToldContents) (store : MemoryState) (state : StoreState) (memory : IsMemoryOf store state)
     (world : World) (stands : StandsFor told state world) where
   absent : (path : List ℕ) → number_of store.series path ≡ None → is_some (get world path) ≡ false
   absent path none = none_there (get world path) (stands.types path ∙ no_type_at store state path memory none)
@@ -84,7 +84,7 @@ module _ (told : Told) (store : Store) (state : StoreState) (memory : IsMemoryOf
   delete_answers path range answer.Memory is = tt
   delete_answers path range (answer.Full counter) is = delete_done path range is.0
 
-module _ (told : Told) (store : Store) (state : StoreState) (memory : IsMemoryOf store state)
+module _ (told : ToldContents) (store : MemoryState) (state : StoreState) (memory : IsMemoryOf store state)
     (order : StoreInOrder told state) where
   create_leads : (schema : Schema) (formed : IsSchema schema) (result : Answer)
       → IsCreateAnswer store schema.path result → IsTried result
@@ -136,7 +136,7 @@ module _ (told : Told) (store : Store) (state : StoreState) (memory : IsMemoryOf
       accepted_row readable =
           follows told store state world device row (Ok readable.0) memory order stands readable.1
 
-      refused_row : (refused : Answer) → IsRefused (map entry_of store.series) device row.cells refused
+      refused_row : (refused : Answer) → IsRowRefused (map series_entry store.series) device row.cells refused
           → reply_of world (command.Insert device row) ≡ Plain refused
       refused_row refused is = follows told store state world device row (Err refused) memory order stands is
 
@@ -151,7 +151,7 @@ module _ (told : Told) (store : Store) (state : StoreState) (memory : IsMemoryOf
       by (answer.Full counter) is = accepted_row is.0
 
 -- a freeze keeps the world
-pub froze_stands : (told : Told) (state : StoreState) (world : World) → StoreInOrder told state → CanFreeze state
+pub froze_stands : (told : ToldContents) (state : StoreState) (world : World) → StoreInOrder told state → CanFreeze state
     → StandsFor told state world → StandsFor told (froze state) world
 froze_stands told state world order can stands =
     let keeps = froze_keeps told state order can in

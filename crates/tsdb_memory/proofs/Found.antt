@@ -14,14 +14,14 @@ use Rattle.tsdb_base.specs.declared.point.Point.{Point}
 use Rattle.tsdb_base.specs.declared.point.Range.{Range}
 use Rattle.tsdb_base.specs.declared.value.Value.{Value}
 use Rattle.tsdb_state.proofs.LayerLemmas.Places.{get_cut, is_path_same, path_itself}
-use Rattle.tsdb_state.specs.Places.{Place, is_path, is_within}
+use Rattle.tsdb_state.specs.Places.{PointPlace, is_path, is_within}
 use Rattle.tsdb_model.specs.World.{is_in}
 use Rattle.tsdb_model.specs.declared.command.Schema.{Schema}
 use Rattle.tsdb_memory.proofs.Numbers.{number_push, one_path, some_same}
 use Rattle.std.specs.Ordering.{eq_by_cmp, int_eq, nat_cmp}
 use Rattle.tsdb_memory.proofs.Series.{erased_here, erased_there, itself, one_number}
 use Rattle.tsdb_memory.specs.Model.{HasKnownSeries, HasRisingPoints}
-use Rattle.tsdb_memory.specs.Shown.{IsFrozenOf, IsPairOf, number_of, value_at, value_found}
+use Rattle.tsdb_memory.specs.Shown.{IsFrozenOf, IsPairOf, number_of, point_value_at, value_found}
 use Rattle.tsdb_memory.specs.Store as store
 use Rattle.tsdb_memtable.specs.Pairs.{Pair, change_points, points_of, without_range}
 use Rattle.tsdb_base.specs.Points.{IsRising}
@@ -34,20 +34,20 @@ use Rattle.tsdb_state.specs.State as state
 upper : (n : ℕ) → n ≤ n
 upper n = omega arith
 
-found_push : (series : List Schema) (schema : Schema) (space : Space) (pair : Pair) (place : Place)
+found_push : (series : List Schema) (schema : Schema) (space : Space) (pair : Pair) (place : PointPlace)
     → HasKnownSeries series pair
     → value_found (series ++ schema ∷ []) space pair place ≡ value_found series space pair place
 found_push series schema space pair place known =
-    ap (option_and_then (λ number. value_at place.time (points_of space number pair)))
+    ap (option_and_then (λ number. point_value_at place.time (points_of space number pair)))
     (number_push series schema place.path)
     ∙ by (number_of series place.path) (is_path place.path schema.path)
   where
     by : (o : Option ℕ) (b : Bool)
-        → option_and_then (λ number. value_at place.time (points_of space number pair))
+        → option_and_then (λ number. point_value_at place.time (points_of space number pair))
         (option_or o (cond b (Some (length series)) None))
-        ≡ option_and_then (λ number. value_at place.time (points_of space number pair)) o
+        ≡ option_and_then (λ number. point_value_at place.time (points_of space number pair)) o
     by (Some m) b = refl
-    by None true = ap (value_at place.time) (known space (length series) (upper (length series)))
+    by None true = ap (point_value_at place.time) (known space (length series) (upper (length series)))
     by None false = refl
 
 pub pair_push : (series : List Schema) (schema : Schema) (pair : Pair) (shown : state.PairContent)
@@ -58,7 +58,7 @@ pair_push series schema pair shown known is = record {
 }
 
 pub frozen_push : (series : List Schema) (schema : Schema) (frozen : List store.FrozenPair)
-    (shown : List state.FrozenPair)
+    (shown : List state.FrozenContent)
     → All (λ pair. HasKnownSeries series pair.pair) frozen → AllZip (IsFrozenOf series) frozen shown
     → AllZip (IsFrozenOf (series ++ schema ∷ [])) frozen shown
 frozen_push series schema [] [] known is = tt
@@ -81,24 +81,24 @@ same_time a b h = grind (arith, ints)
 
 -- the points outside of a range have the values outside of it
 value_outside : (range : Range) (time : ℤ) (all : List Point)
-    → value_at time (filter (points.is_outside range) all) ≡ cond (not (is_in range time)) (value_at time all) None
+    → point_value_at time (filter (points.is_outside range) all) ≡ cond (not (is_in range time)) (point_value_at time all) None
 value_outside range time [] = none (not (is_in range time))
   where
     none : (b : Bool) → ◌≡◌ {A = Option Value} None (cond b None None)
     none true = refl
     none false = refl
 value_outside range time (p ∷ all) =
-    by (points.is_within range p) (int_eq time p.time) (is_in range time) refl refl (value_outside range time all)
+    by (points.is_point_within range p) (int_eq time p.time) (is_in range time) refl refl (value_outside range time all)
   where
-    inside : (b : Bool) → int_eq time p.time ≡ true → points.is_within range p ≡ b → is_in range time ≡ b
+    inside : (b : Bool) → int_eq time p.time ≡ true → points.is_point_within range p ≡ b → is_in range time ≡ b
     inside b e w = ap (is_in range) (same_time time p.time e) ∙ w
 
-    by : (w t i : Bool) → points.is_within range p ≡ w → int_eq time p.time ≡ t
-        → value_at time (filter (points.is_outside range) all) ≡ cond (not (is_in range time)) (value_at time all) None
-        → value_at time (cond (not w) (p ∷ filter (points.is_outside range) all) (filter (points.is_outside range) all))
+    by : (w t i : Bool) → points.is_point_within range p ≡ w → int_eq time p.time ≡ t
+        → point_value_at time (filter (points.is_outside range) all) ≡ cond (not (is_in range time)) (point_value_at time all) None
+        → point_value_at time (cond (not w) (p ∷ filter (points.is_outside range) all) (filter (points.is_outside range) all))
         ≡ cond (not (is_in range time)) (option_map (λ (q : Point). q.value) (cond t (Some p) (find (λ (q : Point). int_eq time q.time) all))) None
     by true true i we te rest =
-        rest ∙ ap (λ b. cond (not b) (value_at time all) None) (inside true te we)
+        rest ∙ ap (λ b. cond (not b) (point_value_at time all) None) (inside true te we)
         ∙ sym (ap (λ b. cond (not b) (Some p.value) None) (inside true te we))
     by true false i we te rest = rest
     by false true i we te rest =
@@ -108,7 +108,7 @@ value_outside range time (p ∷ all) =
         ap (λ b. option_map (λ (q : Point). q.value) (cond b (Some p) (find (λ (q : Point). int_eq time q.time) (filter (points.is_outside range) all)))) te
         ∙ rest
 
-found_cut : (series : List Schema) (space : Space) (pair : Pair) (n : ℕ) (path : List ℕ) (range : Range) (place : Place)
+found_cut : (series : List Schema) (space : Space) (pair : Pair) (n : ℕ) (path : List ℕ) (range : Range) (place : PointPlace)
     → number_of series path ≡ Some n
     → value_found series space (change_points n (without_range range) pair) place
     ≡ cond (not (is_within path range place)) (value_found series space pair place) None
@@ -121,17 +121,17 @@ found_cut series space pair n path range place at =
 
     by : (o : Option ℕ) (b : Bool) → number_of series place.path ≡ o → is_path path place.path ≡ b
         → option_and_then
-        (λ number. value_at place.time (points_of space number (change_points n (without_range range) pair))) o
+        (λ number. point_value_at place.time (points_of space number (change_points n (without_range range) pair))) o
         ≡ cond (not (b && is_in range place.time))
-        (option_and_then (λ number. value_at place.time (points_of space number pair)) o) None
+        (option_and_then (λ number. point_value_at place.time (points_of space number pair)) o) None
     by None b eo eb = none (not (b && is_in range place.time))
     by (Some m) true eo eb =
         let here : m ≡ n = some_same m n (sym eo ∙ ap (number_of series) (sym (is_path_same path place.path eb)) ∙ at) in
-        subst (λ k. value_at place.time (points_of space k (change_points n (without_range range) pair))
-        ≡ cond (not (is_in range place.time)) (value_at place.time (points_of space k pair)) None) (sym here)
-        (ap (value_at place.time) (erased_here space n range pair)
+        subst (λ k. point_value_at place.time (points_of space k (change_points n (without_range range) pair))
+        ≡ cond (not (is_in range place.time)) (point_value_at place.time (points_of space k pair)) None) (sym here)
+        (ap (point_value_at place.time) (erased_here space n range pair)
         ∙ value_outside range place.time (points_of space n pair))
-    by (Some m) false eo eb = ap (value_at place.time) (erased_there space n range pair m
+    by (Some m) false eo eb = ap (point_value_at place.time) (erased_there space n range pair m
         (λ e. false≢true (sym eb ∙ ap (is_path path) (sym (one_path series m path place.path (at ∙ ap Some e) eo))
         ∙ path_itself path)))
 

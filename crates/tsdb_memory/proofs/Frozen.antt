@@ -18,19 +18,19 @@ use Rattle.tsdb_base.specs.declared.value.Value.{Value}
 use Rattle.tsdb_base.proofs.Lists.{among_map}
 use Rattle.tsdb_state.proofs.LayerLemmas.Places.{is_place, place_itself}
 use Rattle.tsdb_base.specs.Lists.{Among}
-use Rattle.tsdb_state.specs.Places.{Content, Place, place_cmp}
+use Rattle.tsdb_state.specs.Places.{Content, PointPlace, place_cmp}
 use Rattle.tsdb_model.specs.declared.command.Schema.{Schema}
 use Rattle.tsdb_memory.proofs.Effects.{nothing_rises}
 use Rattle.tsdb_memory.proofs.Numbers.{length_push, schema_at}
 use Rattle.tsdb_memory.proofs.Raising.{IsRaisedTo, Rise, code_risen, one_raised, rise_in, rise_of, risen}
 use Rattle.tsdb_memory.proofs.Raising.{rises_raise, state_risen, through}
-use Rattle.tsdb_memory.specs.Freezing.{AreRaises, HasTime, raised_by}
+use Rattle.tsdb_memory.specs.Freezing.{AreRaises, HasPairTime, raised_by}
 use Rattle.tsdb_memory.proofs.InTurn.{pushed_in_turn}
-use Rattle.tsdb_memory.specs.Fits.{HasNoPoint}
-use Rattle.tsdb_memory.specs.Model.{AreFrozenInTurn, HasKnownSeries, HasRisingPoints, HasTypedPoints, IsSound, frozen_in}
+use Rattle.tsdb_memory.specs.Fits.{HasNoPairPoint}
+use Rattle.tsdb_memory.specs.Model.{AreFrozenInTurn, HasKnownSeries, HasRisingPoints, HasTypedPoints, IsSoundMemory, frozen_in}
 use Rattle.tsdb_memory.specs.Shared.{pair_in}
-use Rattle.tsdb_memory.specs.Shown.{IsContentOf, IsFrozenOf, IsMemoryOf, number_of, value_at, value_found}
-use Rattle.tsdb_memory.specs.Store.{FrozenPair, Places, Store}
+use Rattle.tsdb_memory.specs.Shown.{IsPairContent, IsFrozenOf, IsMemoryOf, number_of, point_value_at, value_found}
+use Rattle.tsdb_memory.specs.Store.{FrozenPair, SparePlaces, MemoryState}
 use Rattle.tsdb_memory.specs.declared.freezing.Raise.{Raise}
 use Rattle.tsdb_memory.specs.declared.shared.SharedPair.{SharedPair}
 use Rattle.tsdb_memory.specs.declared.store.FrozenPair.{FrozenPair as Kept}
@@ -65,25 +65,25 @@ pub record PointAt (points : List Point) (time : ℤ) : Type 0 where
   pub among : Among point points
   pub is : point.time ≡ time
 
-pub point_at : (points : List Point) (time : ℤ) → IsSome (value_at time points) → PointAt points time
+pub point_at : (points : List Point) (time : ℤ) → IsSome (point_value_at time points) → PointAt points time
 point_at [] time some = absurd (false≢true some)
 point_at (p ∷ points) time some = by (int_eq time p.time) refl some (λ h. point_at points time h)
   where
     by : (b : Bool) → int_eq time p.time ≡ b
         → IsSome (option_map (λ (q : Point). q.value)
         (cond b (Some p) (find_first (λ (q : Point). int_eq time q.time) points)))
-        → (IsSome (value_at time points) → PointAt points time) → PointAt (p ∷ points) time
+        → (IsSome (point_value_at time points) → PointAt points time) → PointAt (p ∷ points) time
     by true e some rest = record { point = p; among = inl refl; is = sym (same_time time p.time e) }
     by false e some rest =
         let there = rest some in
         record { point = there.point; among = inr there.among; is = there.is }
 
-pub value_there : (points : List Point) (point : Point) → Among point points → IsSome (value_at point.time points)
+pub value_there : (points : List Point) (point : Point) → Among point points → IsSome (point_value_at point.time points)
 value_there [] point among = absurd among
 value_there (p ∷ points) point among = by (int_eq point.time p.time) refl among (λ h. value_there points point h)
   where
     by : (b : Bool) → int_eq point.time p.time ≡ b → (p ≡ point) ⊎ Among point points
-        → (Among point points → IsSome (value_at point.time points))
+        → (Among point points → IsSome (point_value_at point.time points))
         → IsSome (option_map (λ (q : Point). q.value)
         (cond b (Some p) (find_first (λ (q : Point). int_eq point.time q.time) points)))
     by true e among rest = refl
@@ -93,12 +93,12 @@ value_there (p ∷ points) point among = by (int_eq point.time p.time) refl amon
 
 -- an entry of a content, and a value at its place
 
-record EntryAt (points : List (Place × Value)) (place : Place) : Type 0 where
-  pub entry : Place × Value
+record EntryAt (points : List (PointPlace × Value)) (place : PointPlace) : Type 0 where
+  pub entry : PointPlace × Value
   pub among : Among entry points
   pub is : entry.0 ≡ place
 
-entry_at : (points : List (Place × Value)) (place : Place) → IsSome (find place_cmp place points)
+entry_at : (points : List (PointPlace × Value)) (place : PointPlace) → IsSome (find place_cmp place points)
     → EntryAt points place
 entry_at [] place some = absurd (false≢true some)
 entry_at (p ∷ points) place some = by (is_eq (place_cmp place p.0)) refl some (λ h. entry_at points place h)
@@ -110,7 +110,7 @@ entry_at (p ∷ points) place some = by (is_eq (place_cmp place p.0)) refl some 
         let there = rest some in
         record { entry = there.entry; among = inr there.among; is = there.is }
 
-entry_there : (points : List (Place × Value)) (entry : Place × Value) → Among entry points
+entry_there : (points : List (PointPlace × Value)) (entry : PointPlace × Value) → Among entry points
     → IsSome (find place_cmp entry.0 points)
 entry_there [] entry among = absurd among
 entry_there (p ∷ points) entry among = by (is_eq (place_cmp entry.0 p.0)) refl among (λ h. entry_there points entry h)
@@ -119,23 +119,23 @@ entry_there (p ∷ points) entry among = by (is_eq (place_cmp entry.0 p.0)) refl
         → (Among entry points → IsSome (find place_cmp entry.0 points))
         → IsSome (cond b (Some p.1) (find place_cmp entry.0 points))
     by true e among rest = refl
-    by false e (inl is) rest = absurd (false≢true (sym e ∙ ap (λ (q : Place × Value). is_eq (place_cmp entry.0 q.0)) is
+    by false e (inl is) rest = absurd (false≢true (sym e ∙ ap (λ (q : PointPlace × Value). is_eq (place_cmp entry.0 q.0)) is
         ∙ place_itself entry.0))
     by false e (inr among) rest = rest among
 
 -- the times of a device, in the pair and in its content
 
-record FoundAt (series : List Schema) (pair : Pair) (place : Place) : Type 0 where
+record FoundAt (series : List Schema) (pair : Pair) (place : PointPlace) : Type 0 where
   pub number : ℕ
   pub numbered : number_of series place.path ≡ Some number
-  pub some : IsSome (value_at place.time (points_of Sequence number pair))
+  pub some : IsSome (point_value_at place.time (points_of Sequence number pair))
 
-found_at : (series : List Schema) (pair : Pair) (place : Place) → IsSome (value_found series Sequence pair place)
+found_at : (series : List Schema) (pair : Pair) (place : PointPlace) → IsSome (value_found series Sequence pair place)
     → FoundAt series pair place
 found_at series pair place some = by (number_of series place.path) refl some
   where
     by : (o : Option ℕ) → number_of series place.path ≡ o
-        → IsSome (option_and_then (λ number. value_at place.time (points_of Sequence number pair)) o)
+        → IsSome (option_and_then (λ number. point_value_at place.time (points_of Sequence number pair)) o)
         → FoundAt series pair place
     by None e some = absurd (false≢true some)
     by (Some n) e some = record { number = n; numbered = e; some = some }
@@ -145,9 +145,9 @@ HasNumbers series = (number : ℕ) (schema : Schema) → slice_get series number
     → number_of series schema.path ≡ Some number
 
 module _ (series : List Schema) (pair : Pair) (content : Content) (once : HasNumbers series)
-    (is : IsContentOf series Sequence pair content) where
-  time_of_entry : (entry : Place × Value) → Among entry (entries content)
-      → HasTime series pair (device_of entry.0.path) entry.0.time
+    (is : IsPairContent series Sequence pair content) where
+  time_of_entry : (entry : PointPlace × Value) → Among entry (entries content)
+      → HasPairTime series pair (device_of entry.0.path) entry.0.time
   time_of_entry entry among =
       let there : IsSome (value_found series Sequence pair entry.0) =
       subst IsSome (sym (get-entries content entry.0) ∙ is entry.0) (entry_there (entries content) entry among) in
@@ -164,18 +164,18 @@ module _ (series : List Schema) (pair : Pair) (content : Content) (once : HasNum
         is = point.is;
       }
 
-  entry_of_time : (device : List ℕ) (time : ℤ) → HasTime series pair device time
+  entry_of_time : (device : List ℕ) (time : ℤ) → HasPairTime series pair device time
       → Among (device, time) (map rise_of (entries content))
   entry_of_time device time has =
-      let place : Place = record { path = has.schema.path; time = has.point.time } in
+      let place : PointPlace = record { path = has.schema.path; time = has.point.time } in
       let numbered = once has.number has.schema has.at in
       let value : IsSome (value_found series Sequence pair place) =
-      subst (λ o. IsSome (option_and_then (λ number. value_at has.point.time
+      subst (λ o. IsSome (option_and_then (λ number. point_value_at has.point.time
       (points_of Sequence number pair)) o)) (sym numbered)
       (value_there (points_of Sequence has.number pair) has.point has.among) in
       let entry = entry_at (entries content) place (subst IsSome (sym (is place) ∙ get-entries content place) value) in
       let same : rise_of entry.entry ≡ (device, time) =
-      ap (λ (p : Place). let rise : Rise = (device_of p.path, p.time) in rise) entry.is
+      ap (λ (p : PointPlace). let rise : Rise = (device_of p.path, p.time) in rise) entry.is
       ∙ (λ i. (has.of_device i, has.is i)) in
       subst (λ (r : Rise). Among r (map rise_of (entries content))) same
       (among_map rise_of (entries content) entry.entry entry.among)
@@ -198,8 +198,8 @@ has_some None a b h k = k
 has_some (Some last) a b h k = through a b last h k
 
 module _ (series : List Schema) (pair : Pair) (device : List ℕ) (last : Option ℤ) where
-  state_raised : (content : Content) → HasNumbers series → IsContentOf series Sequence pair content
-      → IsRaisedTo (HasTime series pair device) last (risen device (map rise_of (entries content)) last)
+  state_raised : (content : Content) → HasNumbers series → IsPairContent series Sequence pair content
+      → IsRaisedTo (HasPairTime series pair device) last (risen device (map rise_of (entries content)) last)
   state_raised content once is =
       let raised = rises_raise device (map rise_of (entries content)) last in
       record {
@@ -208,13 +208,13 @@ module _ (series : List Schema) (pair : Pair) (device : List ℕ) (last : Option
         one = λ time e. ⊎_elim (λ before. inl before)
             (λ among.
             let image = image_of rise_of (entries content) (device, time) among in
-            inr (subst (λ (r : Rise). HasTime series pair r.0 r.1) image.is
+            inr (subst (λ (r : Rise). HasPairTime series pair r.0 r.1) image.is
             (time_of_entry series pair content once is image.element image.among)))
             (raised.one time e);
       }
 
   code_raised : (raises : List Raise) → AreRaises series pair raises
-      → IsRaisedTo (HasTime series pair device) last (risen device (map rise_in raises) last)
+      → IsRaisedTo (HasPairTime series pair device) last (risen device (map rise_in raises) last)
   code_raised raises are =
       let raised = rises_raise device (map rise_in raises) last in
       record {
@@ -228,7 +228,7 @@ module _ (series : List Schema) (pair : Pair) (device : List ℕ) (last : Option
         one = λ time e. ⊎_elim (λ before. inl before)
             (λ among.
             let image = image_of rise_in raises (device, time) among in
-            inr (subst (λ (r : Rise). HasTime series pair r.0 r.1) image.is (are.had image.element image.among)))
+            inr (subst (λ (r : Rise). HasPairTime series pair r.0 r.1) image.is (are.had image.element image.among)))
             (raised.one time e);
       }
 
@@ -241,11 +241,11 @@ zip_push R [] (z ∷ ys) x y all one = absurd all
 zip_push R (z ∷ xs) [] x y all one = absurd all
 zip_push R (z ∷ xs) (w ∷ ys) x y all one = (all.0, zip_push R xs ys x y all.1 one)
 
-nothing_found : (series : List Schema) (space : Space) (place : Place) → value_found series space [] place ≡ None
+nothing_found : (series : List Schema) (space : Space) (place : PointPlace) → value_found series space [] place ≡ None
 nothing_found series space place = by (number_of series place.path) space
   where
     by : (o : Option ℕ) (space : Space)
-        → option_and_then (λ number. value_at place.time (points_of space number [])) o ≡ None
+        → option_and_then (λ number. point_value_at place.time (points_of space number [])) o ≡ None
     by None space = refl
     by (Some n) Sequence = refl
     by (Some n) Unsequence = refl
@@ -262,12 +262,12 @@ nothing_rising : HasRisingPoints []
 nothing_rising Sequence n = nothing_rises
 nothing_rising Unsequence n = nothing_rises
 
-module _ (store : Store) (raises : List Raise) (watermarks : Watermarks) (frozen : List FrozenPair) (places : Places)
+module _ (store : MemoryState) (raises : List Raise) (watermarks : Watermarks) (frozen : List FrozenPair) (places : SparePlaces)
     (pushed : frozen ≡ store.frozen ++ record { born = store.stamp; pair = store.working } ∷ []) where
-  abbrev pub frozen_store : Store
+  abbrev pub frozen_store : MemoryState
   frozen_store = record store { watermarks = watermarks; frozen = frozen; working = []; places = places }
 
-  pub froze_shown : (shown : StoreState) → IsSound store → IsMemoryOf store shown
+  pub froze_shown : (shown : StoreState) → IsSoundMemory store → IsMemoryOf store shown
       → AreRaises store.series store.working raises
       → ((device : List ℕ) → watermark watermarks device ≡ raised_by device raises (watermark store.watermarks device))
       → IsMemoryOf frozen_store (froze shown)
@@ -278,7 +278,7 @@ module _ (store : Store) (raises : List Raise) (watermarks : Watermarks) (frozen
         let last = watermark store.watermarks device in
         state_risen (entries shown.working.sequence) shown.watermarks device
         ∙ ap (risen device (map rise_of (entries shown.working.sequence))) (is.watermarks device)
-        ∙ one_raised (HasTime store.series store.working device) last
+        ∙ one_raised (HasPairTime store.series store.working device) last
         (risen device (map rise_of (entries shown.working.sequence)) last) (risen device (map rise_in raises) last)
         (state_raised store.series store.working device last shown.working.sequence sound.once is.working.sequence)
         (code_raised store.series store.working device last raises are)
@@ -294,8 +294,8 @@ module _ (store : Store) (raises : List Raise) (watermarks : Watermarks) (frozen
     };
   }
 
-  pub froze_sound : length store.frozen < max_frozen → ¬ HasNoPoint store.working → IsSound store
-      → IsSound frozen_store
+  pub froze_sound : length store.frozen < max_frozen → ¬ HasNoPairPoint store.working → IsSoundMemory store
+      → IsSoundMemory frozen_store
   froze_sound room some sound = record {
     formed = sound.formed;
     once = sound.once;

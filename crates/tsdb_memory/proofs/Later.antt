@@ -9,8 +9,8 @@ use Rattle.tsdb_marks.specs.Lists.{Marks, purge_list}
 use Rattle.tsdb_marks.specs.declared.marks.Mark.{Mark}
 use Rattle.tsdb_memory.proofs.Effects.{cut_shown, cut_sound, cut_store, map_same, purged_shown, purged_sound}
 use Rattle.tsdb_memory.proofs.Numbers.{some_same}
-use Rattle.tsdb_memory.specs.Least.{IsLeastOf, least_with, lesser}
-use Rattle.tsdb_memory.specs.Model.{IsSound, frozen_in}
+use Rattle.tsdb_memory.specs.Least.{IsLeastOf, least_with, lesser_born}
+use Rattle.tsdb_memory.specs.Model.{IsSoundMemory, frozen_in}
 use Rattle.tsdb_memory.specs.Shown.{IsMemoryOf, file_borns, number_of}
 use Rattle.tsdb_memory.specs.Store as value
 use Rattle.tsdb_memory.specs.declared.store.FrozenPair.{FrozenPair}
@@ -26,7 +26,7 @@ pub borns_kept : (listed : Option Stamp) (items : List FrozenPair)
 borns_kept listed items =
     ap (least_with listed) (sym (map_same frozen_in (λ (pair : value.FrozenPair). pair.born) items))
 
-module _ (store : value.Store) (n : ℕ) (path : List ℕ) (range : Range) (added marks : Marks) (working : Pair)
+module _ (store : value.MemoryState) (n : ℕ) (path : List ℕ) (range : Range) (added marks : Marks) (working : Pair)
     (least : Option Stamp) (is_cut : working ≡ change_points n (without_range range) store.working)
     (is_added : added.marks ≡ add_mark path range (store.stamp + 1) store.marks.marks)
     (is_purged : marks.marks ≡ purge_list least added.marks) where
@@ -45,10 +45,10 @@ module _ (store : value.Store) (n : ℕ) (path : List ℕ) (range : Range) (adde
       }) marks listed (cut_shown store n path range added shown is number is_added) low
       (is_purged ∙ ap (λ o. purge_list o added.marks) least_is))
 
-  pub deleted_sound : IsSound store → store.stamp < end_of_numbers
-      → IsSound (record store { stamp = store.stamp + 1; marks = marks; working = working })
+  pub deleted_sound : IsSoundMemory store → store.stamp < end_of_numbers
+      → IsSoundMemory (record store { stamp = store.stamp + 1; marks = marks; working = working })
   deleted_sound sound stamp =
-      subst (λ w. IsSound (record store { stamp = store.stamp + 1; marks = marks; working = w })) (sym is_cut)
+      subst (λ w. IsSoundMemory (record store { stamp = store.stamp + 1; marks = marks; working = w })) (sym is_cut)
       (purged_sound (cut_store store n path range added) marks least
       (cut_sound store n path range added sound stamp is_added) is_purged)
 
@@ -74,7 +74,7 @@ first_of (x ∷ items) rest some e = record {
 pub at_next : (frozen : List FrozenPair) (i : ℕ) (pair : FrozenPair) (least : Option Stamp) → i < length frozen
     → pair ≡ get_or frozen i pair
     → least_with least (map (λ (p : FrozenPair). p.born.0) (drop i frozen))
-    ≡ least_with (Some (lesser least pair.born.0)) (map (λ (p : FrozenPair). p.born.0) (drop (i + 1) frozen))
+    ≡ least_with (Some (lesser_born least pair.born.0)) (map (λ (p : FrozenPair). p.born.0) (drop (i + 1) frozen))
 at_next frozen i pair least within is =
     ap (λ l. least_with least (map (λ (p : FrozenPair). p.born.0) l))
     (drop_more frozen i pair within ∙ ap (λ (x : FrozenPair). x ∷ drop (i + 1) frozen) (sym is))

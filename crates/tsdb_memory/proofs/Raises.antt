@@ -22,7 +22,7 @@ use Rattle.tsdb_model.specs.declared.command.Schema.{Schema}
 use Rattle.tsdb_memory.proofs.Frozen.{image_of}
 use Rattle.tsdb_memory.proofs.Numbers.{some_same}
 use Rattle.tsdb_memory.proofs.Series.{one_number}
-use Rattle.tsdb_memory.specs.Freezing.{AreRaises, HasPlaces, HasTime, IsRaiseOf, IsReached, raised_by}
+use Rattle.tsdb_memory.specs.Freezing.{AreRaises, HaveWatermarkPlaces, HasPairTime, IsRaiseOf, IsReachedByRaise, raised_by}
 use Rattle.tsdb_memory.specs.declared.freezing.Raise.{Raise}
 use Rattle.tsdb_memtable.specs.Pairs.{Pair, SeriesPoints, blank, is_series, points_in, points_of, table}
 use Rattle.tsdb_base.specs.Points.{IsRising}
@@ -95,17 +95,17 @@ if_ok (Err e) P Q f h = tt
 -- the raises of some of the series
 
 pub record AreRaisesOf (series : List Schema) (pair : Pair) (ids : List SeriesId) (raises : List Raise) : Type 0 where
-  pub had : (raise : Raise) → Among raise raises → HasTime series pair raise.device raise.time
+  pub had : (raise : Raise) → Among raise raises → HasPairTime series pair raise.device raise.time
   pub reaches : (id : SeriesId) (schema : Schema) (point : Point) → Among id ids
       → slice_get series id.0 ≡ Some schema → Among point (points_of Sequence id.0 pair)
-      → IsReached raises (device_of schema.path) point.time
+      → IsReachedByRaise raises (device_of schema.path) point.time
 
 pub no_raises : (series : List Schema) (pair : Pair) (raises : List Raise) → raises ≡ [] → AreRaisesOf series pair [] raises
 no_raises series pair raises none = subst (AreRaisesOf series pair []) (sym none)
     (record { had = λ raise among. absurd among; reaches = λ id schema point among at has. absurd among })
 
-push_reaches : (raises : List Raise) (raise : Raise) (device : List ℕ) (time : ℤ) → IsReached raises device time
-    → IsReached (raises ++ raise ∷ []) device time
+push_reaches : (raises : List Raise) (raise : Raise) (device : List ℕ) (time : ℤ) → IsReachedByRaise raises device time
+    → IsReachedByRaise (raises ++ raise ∷ []) device time
 push_reaches raises raise device time r = record {
   raise = r.raise;
   among = among_left raises (raise ∷ []) r.raise r.among;
@@ -131,7 +131,7 @@ module _ (series : List Schema) (pair : Pair) (ids : List SeriesId) (i : ℕ) (i
       → AreRaisesOf series pair (take (i + 1) ids) next
   raise_joins raise next r added = subst (AreRaisesOf series pair (take (i + 1) ids)) (sym added) (record {
     had = λ other among. ⊎_elim (λ k. before.had other k)
-        (λ e. subst (λ (x : Raise). HasTime series pair x.device x.time) e r.had)
+        (λ e. subst (λ (x : Raise). HasPairTime series pair x.device x.time) e r.had)
         (among_cases raises raise other among);
     reaches = λ other schema point among at has.
         ⊎_elim (λ k. push_reaches raises raise (device_of schema.path) point.time
@@ -172,8 +172,8 @@ all_raises series pair ids i raises end are all = record {
       let id : SeriesId = record { 0 = has.number } in
       let among : Among id (take i ids) =
       subst (λ l. Among id l) (sym (take_all i ids end)) (all has.number has.point has.among) in
-      subst (λ time. IsReached raises device time) has.is
-      (subst (λ d. IsReached raises d has.point.time) has.of_device
+      subst (λ time. IsReachedByRaise raises device time) has.is
+      (subst (λ d. IsReachedByRaise raises d has.point.time) has.of_device
       (are.reaches id has.schema has.point among has.at has.among));
 }
 
@@ -271,9 +271,9 @@ all_at P (y ∷ xs) (suc n) x all e = all_at P xs n x (All-tail P y xs all) e
 
 -- more places
 pub place_more : (raises : List Raise) (i : ℕ) (raise : Raise) (old new : Watermarks) → i < length raises
-    → raise ≡ get_or raises i raise → HasPlaces old (take i raises)
+    → raise ≡ get_or raises i raise → HaveWatermarkPlaces old (take i raises)
     → HasPlace new raise.device → ((device : List ℕ) → HasPlace old device → HasPlace new device)
-    → HasPlaces new (take (i + 1) raises)
+    → HaveWatermarkPlaces new (take (i + 1) raises)
 place_more raises i raise old new within is placed here keeps =
     All-more (λ (r : Raise). HasPlace new r.device) raises i raise within
     (All-weaker (λ (r : Raise). HasPlace old r.device) (λ (r : Raise). HasPlace new r.device)

@@ -9,8 +9,8 @@ use Rattle.std.proofs.lemmas.Int.{ints}
 use Rattle.tsdb_base.specs.declared.value.Value.{Value}
 use Rattle.tsdb_state.proofs.LayerLemmas.Places.{is_path_same, path_itself}
 use Rattle.tsdb_base.specs.Lists.{Among}
-use Rattle.tsdb_state.specs.LayerOrder.{Watermarks}
-use Rattle.tsdb_state.specs.Places.{Place, is_path}
+use Rattle.tsdb_state.specs.LayerOrder.{WatermarkMap}
+use Rattle.tsdb_state.specs.Places.{PointPlace, is_path}
 use Rattle.tsdb_memory.specs.Freezing.{raised_by}
 use Rattle.tsdb_memory.specs.declared.freezing.Raise.{Raise}
 use Rattle.tsdb_memtable.specs.Watermarks.{later_time}
@@ -144,7 +144,7 @@ rises_raise device rises o = record {
 
 -- those of the state
 
-abbrev pub rise_of : Place × Value → Rise
+abbrev pub rise_of : PointPlace × Value → Rise
 rise_of point = (device_of point.0.path, point.0.time)
 
 raised_some : (o : Option ℤ) (time : ℤ) → Some (unwrap_or (later_time o time) time) ≡ later_time o time
@@ -166,7 +166,7 @@ other_way a b = by (is_path a b) (is_path b a) refl refl
         sym es ∙ ap (λ x. is_path x b) (sym (is_path_same b a et)) ∙ path_itself b
     by false false es et = refl
 
-raised_at : (place : Place) (watermarks : Watermarks) (device : List ℕ)
+raised_at : (place : PointPlace) (watermarks : WatermarkMap) (device : List ℕ)
     → get (raise_to place watermarks) device
     ≡ cond (is_path (device_of place.path) device) (later_time (get watermarks device) place.time)
     (get watermarks device)
@@ -185,7 +185,7 @@ raised_at place watermarks device =
     by true e = ap (λ d. later_time (get watermarks d) place.time) (sym (is_path_same device (device_of place.path) e))
     by false e = refl
 
-pub state_risen : (points : List (Place × Value)) (watermarks : Watermarks) (device : List ℕ)
+pub state_risen : (points : List (PointPlace × Value)) (watermarks : WatermarkMap) (device : List ℕ)
     → get (raise_all points watermarks) device ≡ risen device (map rise_of points) (get watermarks device)
 state_risen [] watermarks device = refl
 state_risen (point ∷ points) watermarks device =

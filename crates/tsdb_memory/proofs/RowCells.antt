@@ -9,24 +9,24 @@ use Rattle.std.specs.Option.{IsSomeAnd, option_map, unwrap_or}
 use Rattle.std.proofs.lemmas.List.Elements.{All-cons, All-from_get_or, All-head, All-more, All-nil, All-tail, All-weaker}
 use Rattle.tsdb_base.specs.declared.ids.Space.{Space}
 use Rattle.tsdb_base.specs.declared.point.Point.{Point}
-use Rattle.tsdb_state.specs.LayerOrder.{Watermarks}
+use Rattle.tsdb_state.specs.LayerOrder.{WatermarkMap}
 use Rattle.tsdb_log.specs.declared.record.CellRecord.{CellRecord}
 use Rattle.tsdb_model.specs.declared.command.Schema.{Schema}
 use Rattle.tsdb_memory.proofs.InTurn.{later_in_turn}
 use Rattle.tsdb_memory.proofs.Putting.{in_pair, pair_put, put_here, put_there, rising_put}
 use Rattle.tsdb_memory.proofs.Series.{changed_there, itself, one_number}
 use Rattle.tsdb_memory.specs.Changes.{is_space, points_with_row}
-use Rattle.tsdb_memory.specs.Model.{HasKnownSeries, HasRisingPoints, HasTypedPoints, IsFitting, IsSound}
-use Rattle.tsdb_memory.specs.Rows.{put_all}
-use Rattle.tsdb_memory.specs.Shown.{IsMemoryOf, IsPairOf, entry_of, number_of}
-use Rattle.tsdb_memory.specs.Store.{Store}
+use Rattle.tsdb_memory.specs.Model.{HasKnownSeries, HasRisingPoints, HasTypedPoints, IsFitting, IsSoundMemory}
+use Rattle.tsdb_memory.specs.Rows.{put_row_cells}
+use Rattle.tsdb_memory.specs.Shown.{IsMemoryOf, IsPairOf, series_entry, number_of}
+use Rattle.tsdb_memory.specs.Store.{MemoryState}
 use Rattle.tsdb_memtable.specs.Pairs.{Pair, SeriesPoints, UsesSpareRoom, change_points, is_series, points_in, points_of}
 use Rattle.tsdb_memtable.specs.Pairs.{put_in, spare_of}
 use Rattle.tsdb_memtable.specs.Points.{with_point}
 use Rattle.tsdb_memtable.specs.Watermarks.{space_by, watermark}
 use Rattle.tsdb_path.specs.Nodes.{device_of}
 use Rattle.tsdb_base.specs.Limits.{end_of_numbers}
-use Rattle.tsdb_state.specs.Records.{inserted, path_of, put_cells, put_in_space}
+use Rattle.tsdb_state.specs.Records.{inserted, path_of, put_record_cells, put_in_space}
 use Rattle.tsdb_state.specs.State as state
 
 abbrev pub HasRoom : Pair → CellRecord → Type 0
@@ -62,7 +62,7 @@ room_left space point n pair room (cell ∷ cells) differ all =
 -- the points of each series after a row, where there is room for its cells
 pub row_points : (into : Space) (time : ℤ) (cells : List CellRecord) (pair : Pair) → All (HasRoom pair) cells
     → AllPairs Differs cells → (space : Space) (number : ℕ)
-    → points_of space number (put_all into time cells pair)
+    → points_of space number (put_row_cells into time cells pair)
     ≡ points_with_row into time cells space number (points_of space number pair)
 row_points into time [] pair room differ space number = refl
 row_points into time (cell ∷ cells) pair room differ space number =
@@ -105,7 +105,7 @@ at_number series n P h = by (slice_get series n) refl h
     by (Some s) e k = record { schema = s; at = e; holds = k }
 
 pub path_at : (series : List Schema) (n : ℕ) (schema : Schema) → slice_get series n ≡ Some schema
-    → path_of (map entry_of series) n ≡ schema.path
+    → path_of (map series_entry series) n ≡ schema.path
 path_at [] n schema e = absurd (none e)
   where
     none : None ≡ Some schema → ⊥
@@ -113,34 +113,34 @@ path_at [] n schema e = absurd (none e)
 path_at (s ∷ series) zero schema e = ap (λ (o : Option Schema). unwrap_or (option_map (λ (x : Schema). x.path) o) []) e
 path_at (s ∷ series) (suc n) schema e = path_at series n schema e
 
-module _ (series : List Schema) (watermarks : Watermarks) (space : Space) (device : List ℕ) (time : ℤ)
+module _ (series : List Schema) (watermarks : WatermarkMap) (space : Space) (device : List ℕ) (time : ℤ)
     (once : (number : ℕ) (schema : Schema) → slice_get series number ≡ Some schema
     → number_of series schema.path ≡ Some number)
     (is_space : space ≡ space_by (get watermarks device) time) where
   put_first : (cell : CellRecord) (pair : Pair) (shown : state.PairContent) → IsThere series device cell
       → HasRoom pair cell → IsPairOf series pair shown
       → IsPairOf series (change_points cell.series.0 (put_in space (record { time = time; value = cell.value })) pair)
-      (put_cells (map entry_of series) watermarks time (cell ∷ []) shown)
+      (put_record_cells (map series_entry series) watermarks time (cell ∷ []) shown)
   put_first cell pair shown there room is =
       let at = at_number series cell.series.0 (IsFitting device cell) there in
       let path = path_at series cell.series.0 at.schema at.at in
-      let same : space ≡ space_by (get watermarks (device_of (path_of (map entry_of series) cell.series.0))) time =
+      let same : space ≡ space_by (get watermarks (device_of (path_of (map series_entry series) cell.series.0))) time =
       is_space ∙ ap (λ d. space_by (get watermarks d) time) (sym (ap device_of path ∙ at.holds.of_device)) in
       subst (λ s. IsPairOf series
       (change_points cell.series.0 (put_in space (record { time = time; value = cell.value })) pair)
-      (put_in_space s (record { path = path_of (map entry_of series) cell.series.0; time = time }) cell.value shown)) same
-      (pair_put series space pair shown cell.series.0 (path_of (map entry_of series) cell.series.0)
+      (put_in_space s (record { path = path_of (map series_entry series) cell.series.0; time = time }) cell.value shown)) same
+      (pair_put series space pair shown cell.series.0 (path_of (map series_entry series) cell.series.0)
       (record { time = time; value = cell.value }) room
       (ap (number_of series) path ∙ once cell.series.0 at.schema at.at) is)
 
   pub put_row : (cells : List CellRecord) (pair : Pair) (shown : state.PairContent) → All (IsThere series device) cells
       → AllPairs Differs cells → All (HasRoom pair) cells → IsPairOf series pair shown
-      → IsPairOf series (put_all space time cells pair) (put_cells (map entry_of series) watermarks time cells shown)
+      → IsPairOf series (put_row_cells space time cells pair) (put_record_cells (map series_entry series) watermarks time cells shown)
   put_row [] pair shown there differ room is = is
   put_row (cell ∷ cells) pair shown there differ room is =
       let here = All-head (HasRoom pair) cell cells room in
       put_row cells (change_points cell.series.0 (put_in space (record { time = time; value = cell.value })) pair)
-      (put_cells (map entry_of series) watermarks time (cell ∷ []) shown)
+      (put_record_cells (map series_entry series) watermarks time (cell ∷ []) shown)
       (All-tail (IsThere series device) cell cells there) (pairs_rest Differs cell cells differ)
       (room_left space (record { time = time; value = cell.value }) cell.series.0 pair here cells
       (pairs_first Differs cell cells differ) (All-tail (HasRoom pair) cell cells room))
@@ -159,7 +159,7 @@ within (suc n) (suc m) (x ∷ series) s e h = λ same. within n m series s e (om
 
 pub known_row : (series : List Schema) (device : List ℕ) (space : Space) (time : ℤ) (cells : List CellRecord) (pair : Pair)
     → All (IsThere series device) cells → AllPairs Differs cells → All (HasRoom pair) cells → HasKnownSeries series pair
-    → HasKnownSeries series (put_all space time cells pair)
+    → HasKnownSeries series (put_row_cells space time cells pair)
 known_row series device space time [] pair there differ room known = known
 known_row series device space time (cell ∷ cells) pair there differ room known =
     let here = All-head (HasRoom pair) cell cells room in
@@ -175,7 +175,7 @@ known_row series device space time (cell ∷ cells) pair there differ room known
     ∙ known s n beyond)
 
 rising_row : (space : Space) (time : ℤ) (cells : List CellRecord) (pair : Pair) → AllPairs Differs cells
-    → All (HasRoom pair) cells → HasRisingPoints pair → HasRisingPoints (put_all space time cells pair)
+    → All (HasRoom pair) cells → HasRisingPoints pair → HasRisingPoints (put_row_cells space time cells pair)
 rising_row space time [] pair differ room rising = rising
 rising_row space time (cell ∷ cells) pair differ room rising =
     let here = All-head (HasRoom pair) cell cells room in
@@ -192,12 +192,12 @@ next_within n h = omega (arith, h)
 at_most_next : (a n : ℕ) → a ≤ n → a ≤ n + 1
 at_most_next a n h = omega (arith, h)
 
-module _ (store : Store) (device : List ℕ) (space : Space) (time : ℤ) (cells : List CellRecord)
+module _ (store : MemoryState) (device : List ℕ) (space : Space) (time : ℤ) (cells : List CellRecord)
     (there : All (IsThere store.series device) cells) (differ : AllPairs Differs cells)
-    (room : All (HasRoom store.working) cells) (sound : IsSound store) where
+    (room : All (HasRoom store.working) cells) (sound : IsSoundMemory store) where
   pub inserted_shown : (shown : state.StoreState) → space ≡ space_by (watermark store.watermarks device) time
       → IsMemoryOf store shown
-      → IsMemoryOf (record store { stamp = store.stamp + 1; working = put_all space time cells store.working })
+      → IsMemoryOf (record store { stamp = store.stamp + 1; working = put_row_cells space time cells store.working })
       (inserted time cells shown)
   inserted_shown shown rule is = record {
     schemas = is.schemas;
@@ -205,16 +205,16 @@ module _ (store : Store) (device : List ℕ) (space : Space) (time : ℤ) (cells
     watermarks = is.watermarks;
     marks = is.marks;
     frozen = is.frozen;
-    working = subst (λ schemas. IsPairOf store.series (put_all space time cells store.working)
-        (put_cells schemas shown.watermarks time cells shown.working)) (sym is.schemas)
+    working = subst (λ schemas. IsPairOf store.series (put_row_cells space time cells store.working)
+        (put_record_cells schemas shown.watermarks time cells shown.working)) (sym is.schemas)
         (put_row store.series shown.watermarks space device time sound.once
         (rule ∙ ap (λ o. space_by o time) (sym (is.watermarks device))) cells store.working shown.working
         there differ room is.working);
   }
 
   pub inserted_sound : store.stamp < end_of_numbers
-      → HasTypedPoints store.series (put_all space time cells store.working)
-      → IsSound (record store { stamp = store.stamp + 1; working = put_all space time cells store.working })
+      → HasTypedPoints store.series (put_row_cells space time cells store.working)
+      → IsSoundMemory (record store { stamp = store.stamp + 1; working = put_row_cells space time cells store.working })
   inserted_sound stamp typed = record {
     formed = sound.formed;
     once = sound.once;

@@ -19,7 +19,7 @@ use Rattle.tsdb_memory.specs.Changes.{is_space}
 use Rattle.tsdb_memory.proofs.RowCells.{Differs, HasRoom, IsThere, at_number, pairs_first, pairs_rest, room_left}
 use Rattle.tsdb_memory.proofs.Series.{erased_here, erased_there, itself, one_number}
 use Rattle.tsdb_memory.specs.Model.{HasKnownSeries, HasTypedPoints, IsFitting}
-use Rattle.tsdb_memory.specs.Rows.{put_all}
+use Rattle.tsdb_memory.specs.Rows.{put_row_cells}
 use Rattle.tsdb_memtable.specs.Pairs.{Pair, change_points, points_of, put_in, spare_of, without_range}
 use Rattle.tsdb_memtable.specs.Points.{is_after, is_before, is_outside, with_point}
 
@@ -99,7 +99,7 @@ typed_put series space n point pair schema room there one typed other number fou
 -- after a row
 pub typed_row : (series : List Schema) (device : List ℕ) (space : Space) (time : ℤ) (cells : List CellRecord) (pair : Pair)
     → All (IsThere series device) cells → AllPairs Differs cells → All (HasRoom pair) cells → HasTypedPoints series pair
-    → HasTypedPoints series (put_all space time cells pair)
+    → HasTypedPoints series (put_row_cells space time cells pair)
 typed_row series device space time [] pair there differ room typed = typed
 typed_row series device space time (cell ∷ cells) pair there differ room typed =
     let here = All-head (HasRoom pair) cell cells room in

@@ -4,7 +4,7 @@ use Rattle.std.specs.declared.result.Result.TheVariants.{Ok, Err}
 use Rattle.tsdb_base.specs.declared.answers.Answer.{Answer}
 use Rattle.tsdb_base.specs.declared.answers.Answer.TheVariants.{Done, NoPath, WrongType, Exists, Device, Memory, Full}
 use Rattle.tsdb_memory.specs.Shown.{number_of}
-use Rattle.tsdb_memory.specs.Store.{Store}
+use Rattle.tsdb_memory.specs.Store.{MemoryState}
 use Rattle.tsdb_outside.specs.declared.faults.StoreFault.{StoreFault}
 use Rattle.tsdb_outside.specs.declared.faults.StoreFault.TheVariants as store
 use Rattle.tsdb_base.specs.Limits.{end_of_numbers}
@@ -20,7 +20,7 @@ IsAccepted stamp WrongType = ⊥
 IsAccepted stamp Exists = ⊥
 
 -- what a creation answers: a series of the path is there, or it is accepted
-abbrev pub IsCreateAnswer : Store → List ℕ → Answer → Type 0
+abbrev pub IsCreateAnswer : MemoryState → List ℕ → Answer → Type 0
 IsCreateAnswer store path Exists = IsSome (number_of store.series path)
 IsCreateAnswer store path Done = (number_of store.series path ≡ None) × IsAccepted store.stamp Done
 IsCreateAnswer store path Device = (number_of store.series path ≡ None) × IsAccepted store.stamp Device
@@ -30,7 +30,7 @@ IsCreateAnswer store path NoPath = ⊥
 IsCreateAnswer store path WrongType = ⊥
 
 -- what a deletion answers: no series of the path is there, or it is accepted
-abbrev pub IsDeleteAnswer : Store → List ℕ → Answer → Type 0
+abbrev pub IsDeleteAnswer : MemoryState → List ℕ → Answer → Type 0
 IsDeleteAnswer store path NoPath = number_of store.series path ≡ None
 IsDeleteAnswer store path Done = IsSome (number_of store.series path) × IsAccepted store.stamp Done
 IsDeleteAnswer store path Device = IsSome (number_of store.series path) × IsAccepted store.stamp Device

@@ -12,7 +12,7 @@ use Rattle.tsdb_marks.specs.Lists.{purge_list}
 use Rattle.tsdb_memory.specs.Least.{least_with}
 use Rattle.tsdb_memory.specs.Rows.{ChangesRoom}
 use Rattle.tsdb_memory.specs.Shown.{number_of}
-use Rattle.tsdb_memory.specs.Store.{Store, frozen_with_working}
+use Rattle.tsdb_memory.specs.Store.{MemoryState, frozen_with_working}
 use Rattle.tsdb_memtable.specs.Pairs.{Pair, change_points, is_series, points_of, without_range}
 use Rattle.tsdb_memtable.specs.Points.{with_point}
 use Rattle.tsdb_memtable.specs.Watermarks.{space_by, watermark}
@@ -20,7 +20,7 @@ use Rattle.tsdb_model.specs.declared.command.Schema.{Schema}
 use Rattle.tsdb_state.specs.Records.{add_mark}
 
 -- one series more, with the next number, and one change more is counted
-abbrev pub with_series : Schema → Store → Store
+abbrev pub with_series : Schema → MemoryState → MemoryState
 with_series schema store = record store { series = store.series ++ schema ∷ []; stamp = store.stamp + 1 }
 
 -- the space is this one
@@ -44,7 +44,7 @@ cut_series (Some number) range pair = change_points number (without_range range)
 
 -- The points of the series in the range left the working pair, a mark covers those elsewhere, and marks that cover
 -- nothing went; one change more is counted. `listed` is the least born of the listed files.
-abbrev pub without_points : List ℕ → Range → Option Stamp → Store → Store
+abbrev pub without_points : List ℕ → Range → Option Stamp → MemoryState → MemoryState
 without_points path range listed store = record store {
   stamp = store.stamp + 1;
   marks = record store.marks {
@@ -55,16 +55,16 @@ without_points path range listed store = record store {
 }
 
 -- the series was created, and else only room has changed
-abbrev pub HasCreated : Schema → Store → Store → Type 0
+abbrev pub HasCreated : Schema → MemoryState → MemoryState → Type 0
 HasCreated schema old new = ChangesRoom (with_series schema old) new
 
 -- the points were deleted, and else only room has changed
-abbrev pub HasDeleted : List ℕ → Range → Option Stamp → Store → Store → Type 0
+abbrev pub HasDeleted : List ℕ → Range → Option Stamp → MemoryState → MemoryState → Type 0
 HasDeleted path range listed old new = ChangesRoom (without_points path range listed old) new
 
 -- The cells of a row of the device are in the space that its watermark names, and one change more is counted; the rest
 -- is as before.
-pub record HasInserted (device : List ℕ) (time : ℤ) (cells : List CellRecord) (old new : Store) : Type 0 where
+pub record HasInserted (device : List ℕ) (time : ℤ) (cells : List CellRecord) (old new : MemoryState) : Type 0 where
   pub series : new.series ≡ old.series
   pub stamp : new.stamp ≡ old.stamp + 1
   pub watermarks : (other : List ℕ) → watermark new.watermarks other ≡ watermark old.watermarks other
@@ -75,7 +75,7 @@ pub record HasInserted (device : List ℕ) (time : ℤ) (cells : List CellRecord
       (points_of space number old.working)
 
 -- the working pair stands behind the frozen ones, with the stamp as its born, and the new one has no point
-pub record HasFrozen (old new : Store) : Type 0 where
+pub record HasFrozen (old new : MemoryState) : Type 0 where
   pub series : new.series ≡ old.series
   pub stamp : new.stamp ≡ old.stamp
   pub marks : new.marks.marks ≡ old.marks.marks
@@ -84,7 +84,7 @@ pub record HasFrozen (old new : Store) : Type 0 where
 
 -- What is in memory after a change, by its answer: what the change makes of it where it is done, and else what it was,
 -- but for room.
-abbrev pub MemoryAfter : (Store → Store → Type 0) → Store → Store → Answer → Type 0
+abbrev pub MemoryAfter : (MemoryState → MemoryState → Type 0) → MemoryState → MemoryState → Answer → Type 0
 MemoryAfter Has old new Done = Has old new
 MemoryAfter Has old new NoPath = ChangesRoom old new
 MemoryAfter Has old new WrongType = ChangesRoom old new
@@ -95,7 +95,7 @@ MemoryAfter Has old new (Full counter) = ChangesRoom old new
 
 -- The series, the stamp, the watermarks and the working pair are as before: files came or went, and with them a frozen
 -- pair or marks may have left.
-pub record KeepsSeries (old new : Store) : Type 0 where
+pub record KeepsSeries (old new : MemoryState) : Type 0 where
   pub series : new.series ≡ old.series
   pub stamp : new.stamp ≡ old.stamp
   pub watermarks : (device : List ℕ) → watermark new.watermarks device ≡ watermark old.watermarks device

@@ -5,8 +5,8 @@ use Rattle.tsdb_frames.specs.Slots.{HasRecords}
 use Rattle.tsdb_state.specs.Stored.{LeadsTo, LeavesOneOf}
 use Rattle.tsdb_log.specs.Spelling.{spelling}
 use Rattle.tsdb_log.specs.declared.record.LogRecord.{LogRecord}
-use Rattle.tsdb_memory.specs.Logged.{IsSound, Outside, log_of}
-use Rattle.tsdb_memory.specs.declared.logged.Logged.{Logged}
+use Rattle.tsdb_memory.specs.Logged.{IsSoundLogged, Outside, log_of}
+use Rattle.tsdb_memory.specs.declared.logged.LoggedMemory.{LoggedMemory}
 use Rattle.tsdb_model.specs.State as plain
 use Rattle.tsdb_base.specs.Causes.{Rose}
 use Rattle.tsdb_outside.specs.Disk.{Image, DiskState, in_slot}
@@ -26,19 +26,19 @@ module _ {J : Type 0} {means : disk.Ghosts J} {counts : counted.Ghosts J} where
   -- A stop at any moment of the closing leaves the state, or that of the record in doubt. Unless the journal
   -- failed, it leaves a sound store, and exactly the acknowledged records; where no record is in doubt it leaves these
   -- even so.
-  pub record IsClosed (logged : Logged J means counts) (disk : DiskState) (faults : ℕ) : Type 0 where
+  pub record IsClosed (logged : LoggedMemory J means counts) (disk : DiskState) (faults : ℕ) : Type 0 where
     pub moments : (outside : Outside) (state : EngineState) (at : plain.State) (next : Option plain.State)
-        → IsSound logged outside state → store.IsStateOf outside.told state.store at
+        → IsSoundLogged logged outside state → store.IsStateOf outside.told state.store at
         → LeadsTo outside.told state.store state.doubt next
         → LeavesOnly (disk_of (log_of logged)) disk
         (LeavesOneOf outside.kept (slot_of (log_of logged)) at next)
     pub sound : ¬ Rose (faults_of (log_of logged)) faults → (outside : Outside) (state : EngineState) (at : plain.State)
-        (files : store.Files) → IsSound logged outside state → store.IsStateOf outside.told state.store at
+        (files : store.BytesByNumber) → IsSoundLogged logged outside state → store.IsStateOf outside.told state.store at
         → store.HoldsKept outside.kept files → store.IsSound (slot_of (log_of logged)) disk files at
-    pub undoubted : (outside : Outside) (state : EngineState) (at : plain.State) (files : store.Files)
-        → state.doubt ≡ None → IsSound logged outside state → store.IsStateOf outside.told state.store at
+    pub undoubted : (outside : Outside) (state : EngineState) (at : plain.State) (files : store.BytesByNumber)
+        → state.doubt ≡ None → IsSoundLogged logged outside state → store.IsStateOf outside.told state.store at
         → store.HoldsKept outside.kept files → store.IsSound (slot_of (log_of logged)) disk files at
-    pub records : (outside : Outside) (state : EngineState) → IsSound logged outside state
+    pub records : (outside : Outside) (state : EngineState) → IsSoundLogged logged outside state
         → (¬ Rose (faults_of (log_of logged)) faults) ⊎ (state.doubt ≡ None)
         → LeavesRecords (slot_of (log_of logged)) disk outside.items
     pub later : faults_of (log_of logged) ≤ faults

@@ -13,8 +13,9 @@ use Rattle.tsdb_log.specs.declared.record.LogRecord.{LogRecord}
 use Rattle.tsdb_log.specs.declared.record.LogRecord.TheVariants.{Create, Delete, Insert}
 use Rattle.tsdb_memory.specs.Answers.{IsRefusal}
 use Rattle.tsdb_memory.specs.Appends.{IsLogKept}
-use Rattle.tsdb_memory.specs.Logged.{IsFaulted, IsSound, LeavesStates, Outside, log_of, memory_of, room_of, with_record}
-use Rattle.tsdb_memory.specs.declared.logged.Logged.{Logged}
+use Rattle.tsdb_memory.specs.Logged.{IsFaulted, IsSoundLogged, LeavesStates, Outside, log_of, memory_of, framed_room}
+use Rattle.tsdb_memory.specs.Logged.{with_record}
+use Rattle.tsdb_memory.specs.declared.logged.LoggedMemory.{LoggedMemory}
 use Rattle.tsdb_model.specs.declared.command.Schema.{Schema}
 use Rattle.tsdb_memory.specs.Rows.{ChangesRoom}
 use Rattle.tsdb_memory.specs.Shown.{IsMemoryOf, file_borns}
@@ -25,8 +26,8 @@ use Rattle.tsdb_state.specs.State.{EngineState, StoreState}
 use Rattle.tsdb_state.specs.Steps.{wrote}
 
 -- nothing more is asked of a state
-abbrev pub IsAny : EngineState → Type 0
-IsAny state = ⊤
+abbrev pub NeedsNothing : EngineState → Type 0
+NeedsNothing state = ⊤
 
 -- this is the least stamp at which a listed file was frozen
 abbrev pub HasLeast : Option Stamp → EngineState → Type 0
@@ -41,11 +42,11 @@ abbrev pub CanStop : EngineState → Type 0
 CanStop state = CanFreeze state.store
 
 -- the record creates a series; deletes points; inserts a row
-abbrev pub IsCreation : LogRecord → Type 0
-IsCreation item = (schema : Schema) × (item ≡ Create schema.path schema.data_type schema.encoding)
+abbrev pub IsCreateRecord : LogRecord → Type 0
+IsCreateRecord item = (schema : Schema) × (item ≡ Create schema.path schema.data_type schema.encoding)
 
-abbrev pub IsDeletion : LogRecord → Type 0
-IsDeletion item = (path : List ℕ) × (range : Range) × (item ≡ Delete path range)
+abbrev pub IsDeleteRecord : LogRecord → Type 0
+IsDeleteRecord item = (path : List ℕ) × (range : Range) × (item ≡ Delete path range)
 
 abbrev pub IsInsertion : LogRecord → Type 0
 IsInsertion item = (time : ℤ) × (cells : List CellRecord) × (item ≡ Insert time cells)
@@ -57,34 +58,34 @@ create_record schema = Create schema.path schema.data_type schema.encoding
 module _ {J : Type 0} {means : disk.Ghosts J} {counts : counted.Ghosts J} where
   -- The state after a command: done, the record took effect; the device failed, the record may be in doubt; else the
   -- state is as it was.
-  abbrev pub IsAfter : Logged J means counts → Outside → EngineState → LogRecord → Answer → Type 0
-  IsAfter new outside state item Done = IsSound new (with_record item outside) (wrote item state)
-  IsAfter new outside state item NoPath = IsSound new outside state
-  IsAfter new outside state item WrongType = IsSound new outside state
-  IsAfter new outside state item Exists = IsSound new outside state
+  abbrev pub IsAfter : LoggedMemory J means counts → Outside → EngineState → LogRecord → Answer → Type 0
+  IsAfter new outside state item Done = IsSoundLogged new (with_record item outside) (wrote item state)
+  IsAfter new outside state item NoPath = IsSoundLogged new outside state
+  IsAfter new outside state item WrongType = IsSoundLogged new outside state
+  IsAfter new outside state item Exists = IsSoundLogged new outside state
   IsAfter new outside state item Device = IsFaulted new outside state item
-  IsAfter new outside state item Memory = IsSound new outside state
-  IsAfter new outside state item (Full counter) = IsSound new outside state
+  IsAfter new outside state item Memory = IsSoundLogged new outside state
+  IsAfter new outside state item (Full counter) = IsSoundLogged new outside state
 
   -- What a command leaves of every sound state that has what it needs. A refusal changes nothing, and the log is
   -- touched only where the command is done or the device fails.
-  pub record IsCommand (old new : Logged J means counts) (item : LogRecord) (Needs : EngineState → Type 0)
+  pub record HasCommandEffect (old new : LoggedMemory J means counts) (item : LogRecord) (Needs : EngineState → Type 0)
       (answer : Answer)
       : Type 0 where
-    pub step : (outside : Outside) (state : EngineState) → IsSound old outside state → Needs state
+    pub step : (outside : Outside) (state : EngineState) → IsSoundLogged old outside state → Needs state
         → IsAfter new outside state item answer
-    pub moments : (outside : Outside) (state : EngineState) → IsSound old outside state → Needs state
+    pub moments : (outside : Outside) (state : EngineState) → IsSoundLogged old outside state → Needs state
         → LeavesStates old new outside state item
     pub refused : IsRefusal answer → new ≡ old
     pub memory : answer ≡ Memory → IsLogKept old new
-    pub room : room_of old ≤ room_of new
+    pub room : framed_room old ≤ framed_room new
     pub slot : slot_of (log_of new) ≡ slot_of (log_of old)
     pub cause : answer ≡ Device → Rose (faults_of (log_of old)) (faults_of (log_of new))
     pub later : faults_of (log_of old) ≤ faults_of (log_of new)
 
   -- memory was taken, and nothing else has changed
-  pub record IsPrepared (old new : Logged J means counts) : Type 0 where
+  pub record IsPrepared (old new : LoggedMemory J means counts) : Type 0 where
     pub log : IsLogKept old new
-    pub record_room : room_of old ≤ room_of new
+    pub record_room : framed_room old ≤ framed_room new
     pub room : ChangesRoom (memory_of old) (memory_of new)
     pub same : (state : StoreState) → IsMemoryOf (memory_of old) state → IsMemoryOf (memory_of new) state

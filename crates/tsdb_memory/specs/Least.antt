@@ -10,11 +10,11 @@ IsLeastOf None borns = borns ≡ []
 IsLeastOf (Some least) borns = Among least.0 borns × Each (λ born. least.0 ≤ born) borns
 
 -- the lesser of the least so far and one born more
-abbrev pub lesser : Option Stamp → ℕ → Stamp
-lesser None born = record { 0 = born }
-lesser (Some least) born = cond (nat_lt born least.0) (record { 0 = born }) least
+abbrev pub lesser_born : Option Stamp → ℕ → Stamp
+lesser_born None born = record { 0 = born }
+lesser_born (Some least) born = cond (nat_lt born least.0) (record { 0 = born }) least
 
 -- the least of those so far and these
 abbrev pub least_with : Option Stamp → List ℕ → Option Stamp
 least_with least [] = least
-least_with least (born ∷ borns) = least_with (Some (lesser least born)) borns
+least_with least (born ∷ borns) = least_with (Some (lesser_born least born)) borns

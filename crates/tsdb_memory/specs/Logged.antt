@@ -9,17 +9,17 @@ use Rattle.tsdb_state.specs.Stored.{IsStored, LeadsTo, LeavesOneOf}
 use Rattle.tsdb_base.specs.Lists.{if_some}
 use Rattle.tsdb_log.specs.Spelling.{spelling}
 use Rattle.tsdb_log.specs.declared.record.LogRecord.{LogRecord}
-use Rattle.tsdb_memory.specs.declared.logged.Logged.{Logged}
+use Rattle.tsdb_memory.specs.declared.logged.LoggedMemory.{LoggedMemory}
 use Rattle.tsdb_model.specs.State as plain
 use Rattle.tsdb_memory.specs.Shown.{IsMemoryOf}
-use Rattle.tsdb_memory.specs.Store.{Store}
+use Rattle.tsdb_memory.specs.Store.{MemoryState}
 use Rattle.tsdb_outside.specs.Files.{StoredFile}
 use Rattle.tsdb_outside.specs.Moments.{LeavesOnly}
 use Rattle.tsdb_outside.specs.declared.disk.Disk as disk
 use Rattle.tsdb_outside.specs.declared.faults.Counted as counted
 use Rattle.tsdb_state.specs.Stores.{IsStateOf}
 use Rattle.tsdb_state.specs.Records.{names}
-use Rattle.tsdb_state.specs.State.{EngineState, Entries, Told}
+use Rattle.tsdb_state.specs.State.{EngineState, KnownFiles, ToldContents}
 use Rattle.tsdb_state.specs.Steps.{failed, settled}
 
 -- what an engine has outside of its memory: the acknowledged records of its log, and the files that are kept, with what
@@ -27,8 +27,8 @@ use Rattle.tsdb_state.specs.Steps.{failed, settled}
 pub record Outside : Type 0 where
   pub items : List LogRecord
   pub kept : List StoredFile
-  pub told : Told
-  pub known : Entries
+  pub told : ToldContents
+  pub known : KnownFiles
 
 -- one more record is acknowledged
 abbrev pub with_record : LogRecord → Outside → Outside
@@ -44,37 +44,40 @@ two_numbers files = map (λ (file : FileNumber). file.0) (if_some files.0 ++ if_
 
 module _ {J : Type 0} {means : disk.Ghosts J} {counts : counted.Ghosts J} where
   -- the log
-  abbrev pub log_of : Logged J means counts → Frames J means counts
+  abbrev pub log_of : LoggedMemory J means counts → Frames J means counts
   log_of logged = logged.frames
 
   -- what is in memory
-  abbrev pub memory_of : Logged J means counts → Store
+  abbrev pub memory_of : LoggedMemory J means counts → MemoryState
   memory_of logged = logged.memory
 
   -- how many bytes of a record have room
-  abbrev pub room_of : Logged J means counts → ℕ
-  room_of logged = vec_capacity logged.framed
+  abbrev pub framed_room : LoggedMemory J means counts → ℕ
+  framed_room logged = vec_capacity logged.framed
 
   -- The log has these acknowledged records, with this one in doubt; and it is known which files that one names.
-  pub record HasLog (logged : Logged J means counts) (items : List LogRecord) (doubt : Option LogRecord) : Type 0 where
+  pub record HasLog (logged : LoggedMemory J means counts) (items : List LogRecord)
+      (doubt : Option LogRecord) : Type 0 where
     pub log : IsLog (log_of logged) (map spelling items) (option_map spelling doubt)
     pub named : IfSome doubt (λ item. two_numbers logged.doubted ≡ names item)
 
   -- The log has the acknowledged records with the one in doubt, memory has its part of the state, and the state is
   -- stored.
-  pub record IsSound (logged : Logged J means counts) (outside : Outside) (state : EngineState) : Type 0 where
+  pub record IsSoundLogged (logged : LoggedMemory J means counts) (outside : Outside)
+      (state : EngineState) : Type 0 where
     pub memory : IsMemoryOf (memory_of logged) state.store
     pub log : HasLog logged outside.items state.doubt
     pub stored : IsStoredIn outside state
 
   -- The append of a record failed: none is in doubt, or the one that was, or this one.
-  abbrev pub IsFaulted : Logged J means counts → Outside → EngineState → LogRecord → Type 0
-  IsFaulted logged outside state item = IsSound logged outside (settled state)
-      ⊎ (IsSound logged outside state ⊎ IsSound logged outside (failed item state))
+  abbrev pub IsFaulted : LoggedMemory J means counts → Outside → EngineState → LogRecord → Type 0
+  IsFaulted logged outside state item = IsSoundLogged logged outside (settled state)
+      ⊎ (IsSoundLogged logged outside state ⊎ IsSoundLogged logged outside (failed item state))
 
   -- A stop at any moment of the call leaves the state, or that of the record that was in doubt, or that of the record
   -- of the call.
-  abbrev pub LeavesStates : Logged J means counts → Logged J means counts → Outside → EngineState → LogRecord → Type 0
+  abbrev pub LeavesStates : LoggedMemory J means counts → LoggedMemory J means counts → Outside → EngineState
+      → LogRecord → Type 0
   LeavesStates old new outside state item = (at after : plain.State) (next : Option plain.State)
       → IsStateOf outside.told state.store at → LeadsTo outside.told state.store state.doubt next
       → LeadsTo outside.told state.store (Some item) (Some after)

@@ -10,12 +10,12 @@ use Rattle.tsdb_model.specs.World.{World}
 use Rattle.tsdb_model.specs.declared.command.Cell.{Cell}
 use Rattle.tsdb_model.specs.declared.command.Command.{Command}
 use Rattle.tsdb_model.specs.declared.reply.Reply.TheVariants.{Plain}
-use Rattle.tsdb_memory.specs.Shown.{entry_of}
-use Rattle.tsdb_memory.specs.Store.{Store}
-use Rattle.tsdb_memory.specs.RowReading.{IsRefused}
+use Rattle.tsdb_memory.specs.Shown.{series_entry}
+use Rattle.tsdb_memory.specs.Store.{MemoryState}
+use Rattle.tsdb_memory.specs.RowReading.{IsRowRefused}
 use Rattle.tsdb_state.specs.Commands.{AreCells}
 use Rattle.tsdb_state.specs.Records.{after}
-use Rattle.tsdb_state.specs.State.{StoreState, Told}
+use Rattle.tsdb_state.specs.State.{StoreState, ToldContents}
 use Rattle.tsdb_state.specs.Worlds.{StandsFor}
 
 -- the answers after which the record is in the log, or may be
@@ -40,21 +40,22 @@ IsMapAnswer world command (Full counter) = reply_of world command ≡ Plain Done
 
 -- Of each world that the state stands for: the answer is the map's, and where the record was tried, the state after it
 -- stands for the map's world after the command.
-pub record FollowsMap (told : Told) (state : StoreState) (command : Command) (item : LogRecord) (answer : Answer)
+pub record FollowsMap (told : ToldContents) (state : StoreState) (command : Command) (item : LogRecord)
+    (answer : Answer)
     : Type 0 where
   pub answers : (world : World) → StandsFor told state world → IsMapAnswer world command answer
   pub leads : IsTried answer → (world : World) → StandsFor told state world
       → StandsFor told (after item state) (accepted world command)
 
 -- the cells of the row can be read: their series are there, and their literals fit
-abbrev pub IsReadable : Store → List ℕ → List Cell → Type 0
-IsReadable store device cells = (items : List CellRecord) × AreCells (map entry_of store.series) device cells items
+abbrev pub IsReadable : MemoryState → List ℕ → List Cell → Type 0
+IsReadable store device cells = (items : List CellRecord) × AreCells (map series_entry store.series) device cells items
 
 -- what an insert answers: it is refused, or accepted
-abbrev pub IsInsertAnswer : Store → List ℕ → List Cell → Answer → Type 0
+abbrev pub IsInsertAnswer : MemoryState → List ℕ → List Cell → Answer → Type 0
 IsInsertAnswer store device cells Done = IsReadable store device cells × IsAccepted store.stamp Done
-IsInsertAnswer store device cells NoPath = IsRefused (map entry_of store.series) device cells NoPath
-IsInsertAnswer store device cells WrongType = IsRefused (map entry_of store.series) device cells WrongType
+IsInsertAnswer store device cells NoPath = IsRowRefused (map series_entry store.series) device cells NoPath
+IsInsertAnswer store device cells WrongType = IsRowRefused (map series_entry store.series) device cells WrongType
 IsInsertAnswer store device cells Exists = ⊥
 IsInsertAnswer store device cells Device = IsReadable store device cells × IsAccepted store.stamp Device
 IsInsertAnswer store device cells Memory = Unit {0}

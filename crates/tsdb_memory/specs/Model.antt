@@ -10,7 +10,7 @@ use Rattle.tsdb_base.specs.declared.value.Encoding.{Encoding}
 use Rattle.tsdb_log.specs.declared.record.CellRecord.{CellRecord}
 use Rattle.tsdb_model.specs.Commands.{IsSchema}
 use Rattle.tsdb_model.specs.declared.command.Schema.{Schema}
-use Rattle.tsdb_memory.specs.Fits.{HasNoPoint}
+use Rattle.tsdb_memory.specs.Fits.{HasNoPairPoint}
 use Rattle.tsdb_memory.specs.Shared.{pair_in}
 use Rattle.tsdb_memory.specs.Shown.{number_of}
 use Rattle.tsdb_memory.specs.Store as value
@@ -28,8 +28,8 @@ schema_of entry = record { path = entry.0; data_type = entry.1.0; encoding = ent
 abbrev pub frozen_in : FrozenPair → value.FrozenPair
 frozen_in frozen = record { born = frozen.born.0; pair = pair_in frozen.pair }
 
-abbrev pub store_in : Inside → value.Store
-store_in inside = record {
+abbrev pub memory_view : Inside → value.MemoryState
+memory_view inside = record {
   series = map schema_of inside.series.entries;
   stamp = inside.stamp;
   watermarks = inside.watermarks;
@@ -64,13 +64,13 @@ pub record IsFormed (schema : Schema) : Type 0 where
 
 -- each frozen pair has a point; the stamps at their freezes do not fall, and none is above this one
 pub record AreFrozenInTurn (stamp : ℕ) (frozen : List value.FrozenPair) : Type 0 where
-  pub filled : Each (λ pair. ¬ HasNoPoint pair.pair) frozen
+  pub filled : Each (λ pair. ¬ HasNoPairPoint pair.pair) frozen
   pub rising : EachPair (λ a b. a.born ≤ b.born) frozen
   pub reached : Each (λ pair. pair.born ≤ stamp) frozen
 
 -- series are well-formed, and each has its path alone; points are of series that are there, and of their types, and
 -- rise in time; frozen pairs were frozen one after another; versions and the stamp are within their bounds
-pub record IsSound (store : value.Store) : Type 0 where
+pub record IsSoundMemory (store : value.MemoryState) : Type 0 where
   pub formed : All IsFormed store.series
   pub once : (number : ℕ) (schema : Schema) → slice_get store.series number ≡ Some schema
       → number_of store.series schema.path ≡ Some number
@@ -86,4 +86,4 @@ pub record IsSound (store : value.Store) : Type 0 where
   pub ends : store.stamp ≤ end_of_numbers
 
 abbrev pub IsMemoryKept : Inside → Type 0
-IsMemoryKept inside = IsSound (store_in inside)
+IsMemoryKept inside = IsSoundMemory (memory_view inside)

@@ -8,8 +8,9 @@ use Rattle.tsdb_log.specs.declared.record.LogRecord.{LogRecord}
 use Rattle.tsdb_log.specs.declared.record.LogRecord.TheVariants.{Create, Delete, Flushed, Freeze, Insert, Replaced}
 use Rattle.tsdb_log.specs.declared.record.LogRecord.TheVariants.{Snapshot}
 use Rattle.tsdb_memory.specs.Changes.{KeepsSeries}
-use Rattle.tsdb_memory.specs.Logged.{IsFaulted, IsSound, LeavesStates, Outside, log_of, memory_of, room_of, with_record}
-use Rattle.tsdb_memory.specs.declared.logged.Logged.{Logged}
+use Rattle.tsdb_memory.specs.Logged.{IsFaulted, IsSoundLogged, LeavesStates, Outside, log_of, memory_of, framed_room}
+use Rattle.tsdb_memory.specs.Logged.{with_record}
+use Rattle.tsdb_memory.specs.declared.logged.LoggedMemory.{LoggedMemory}
 use Rattle.tsdb_memory.specs.Least.{IsLeastOf}
 use Rattle.tsdb_memory.specs.Shown.{file_borns}
 use Rattle.tsdb_outside.specs.Causes.{HasCause}
@@ -36,7 +37,7 @@ IsReplacement room (Snapshot snapshot) = ⊥
 
 -- The job can be committed with this record and this output, which is kept; and this is the least stamp at which a file
 -- was frozen that is listed then.
-pub record CanReplace (item : LogRecord) (listed : Option Stamp) (outside : Outside) (state : EngineState)
+pub record CanCommitReplacement (item : LogRecord) (listed : Option Stamp) (outside : Outside) (state : EngineState)
     (job : Compaction) (others : List Compaction) (output : List File) (place : ℕ)
     : Type 0 where
   pub commits : CommitsCompaction outside.told outside.known job others output place state
@@ -47,25 +48,25 @@ pub record CanReplace (item : LogRecord) (listed : Option Stamp) (outside : Outs
 module _ {J : Type 0} {means : disk.Ghosts J} {counts : counted.Ghosts J} where
   -- The output of a job that can be committed stands at its place, and its inputs are on their way out. Where the
   -- append failed the output is, the lists are as before, and the record may be in doubt.
-  pub record IsReplaced (old new : Logged J means counts) (item : LogRecord) (listed : Option Stamp)
+  pub record IsReplaced (old new : LoggedMemory J means counts) (item : LogRecord) (listed : Option Stamp)
       (outcome : Result (Unit {0}) Failed)
       : Type 0 where
     pub done : OnOk outcome ((outside : Outside) (state : EngineState) (job : Compaction) (others : List Compaction)
         (output : List File) (place : ℕ)
-        → IsSound old outside state → CanReplace item listed outside state job others output place
-        → IsSound new (with_record item outside) (committed job others output place state))
+        → IsSoundLogged old outside state → CanCommitReplacement item listed outside state job others output place
+        → IsSoundLogged new (with_record item outside) (committed job others output place state))
     pub failed : OnErr outcome ((outside : Outside) (state : EngineState) (job : Compaction) (others : List Compaction)
         (output : List File) (place : ℕ)
-        → IsSound old outside state → CanReplace item listed outside state job others output place
+        → IsSoundLogged old outside state → CanCommitReplacement item listed outside state job others output place
         → IsFaulted new outside (ended job others output state) item)
     pub memory : OnErr outcome (memory_of new ≡ memory_of old)
     pub moments : (outside : Outside) (state : EngineState) (job : Compaction) (others : List Compaction)
         (output : List File) (place : ℕ)
-        → IsSound old outside state → CanReplace item listed outside state job others output place
+        → IsSoundLogged old outside state → CanCommitReplacement item listed outside state job others output place
         → LeavesStates old new outside state item
     pub frozen : (memory_of new).frozen ≡ (memory_of old).frozen
     pub working : (memory_of new).working ≡ (memory_of old).working
     pub kept : KeepsSeries (memory_of old) (memory_of new)
-    pub room : room_of old ≤ room_of new
+    pub room : framed_room old ≤ framed_room new
     pub slot : slot_of (log_of new) ≡ slot_of (log_of old)
     pub cause : HasCause (faults_of (log_of old)) (faults_of (log_of new)) outcome

@@ -2,9 +2,9 @@
 ghost use Rattle.std.specs.Prelude.{◌≤◌, IfOk, length, map};
 ghost use Rattle.tsdb_model.specs.Commands.{IsRow};
 ghost use Rattle.tsdb_base.specs.Limits.{max_names};
-ghost use Rattle.tsdb_memory.specs.Shown.{entry_of};
-ghost use Rattle.tsdb_memory.specs.Model.{IsSound};
-ghost use Rattle.tsdb_memory.specs.RowReading.{AreApart, AreOfDevice, IfRead, IsRead};
+ghost use Rattle.tsdb_memory.specs.Shown.{series_entry};
+ghost use Rattle.tsdb_memory.specs.Model.{IsSoundMemory};
+ghost use Rattle.tsdb_memory.specs.RowReading.{AreOfDifferentSeries, AreOfDevice, IfRead, IsRowRead};
 ghost use Rattle.tsdb_memory.specs.RowSteps.{IsCellFound};
 
 use crate::store::MemoryStore;
@@ -35,9 +35,9 @@ pub fn cells_of(
     row: &Row,
 ) -> Result<Result<List<CellRecord>, Answer>, Memory>
     requires { IsRow row.now }
-    ensures read { IfOk result (IsRead (map entry_of memory.now.series) device.now row.now.cells) }
+    ensures read { IfOk result (IsRowRead (map series_entry memory.now.series) device.now row.now.cells) }
     ensures few { IfRead result (λ cells. length cells ≤ max_names) }
-    ensures differ { IfRead result AreApart }
+    ensures differ { IfRead result AreOfDifferentSeries }
     ensures there { IfRead result (AreOfDevice memory.now.series device.now) }
 {
     // (it tells that the paths of all series are such, so that one which is too long is of none)
@@ -61,7 +61,7 @@ pub fn cells_of(
 
 /// The cell as a record has it, if its series is there and its literal fits.
 fn cell_of(memory: &MemoryStore, device: &Path, cell: &Cell) -> Result<CellFound, Memory>
-    requires { IsSound memory.now }
+    requires { IsSoundMemory memory.now }
     ensures { IfOk result (IsCellFound memory.now.series device.now cell.now) }
 {
     // (a call of the name tells that it is one)

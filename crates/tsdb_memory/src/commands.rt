@@ -6,14 +6,14 @@ ghost use Rattle.tsdb_memory.specs.Answers.{IsAccepted, IsCreateAnswer, IsDelete
 ghost use Rattle.tsdb_base.specs.declared.point.Range.{Range as RangeOf};
 ghost use Rattle.tsdb_log.specs.declared.record.CellRecord.{CellRecord as CellOf};
 ghost use Rattle.tsdb_memory.specs.Changes.{HasCreated, HasDeleted, HasInserted, MemoryAfter};
-ghost use Rattle.tsdb_memory.specs.Commands.{IsCreation, IsDeletion, IsInsertion, create_record as record_of};
+ghost use Rattle.tsdb_memory.specs.Commands.{IsCreateRecord, IsDeleteRecord, IsInsertion, create_record as record_of};
 ghost use Rattle.tsdb_model.specs.Commands.{IsSchema};
 ghost use Rattle.tsdb_memory.specs.Model.{IsFitting};
 ghost use Rattle.tsdb_memory.specs.Shown.{number_of};
 ghost use Rattle.tsdb_memtable.specs.Pairs.{spare_of};
 ghost use Rattle.tsdb_base.specs.Limits.{end_of_numbers};
 
-use crate::logged::{Logged, answer_of};
+use crate::logged::{LoggedMemory, answer_of};
 use tsdb_base::limits::END_OF_NUMBERS;
 use tsdb_base::{Answer, List, Memory, Range, Stamp, Time};
 use tsdb_log::{CellRecord, LogRecord};
@@ -24,15 +24,15 @@ use tsdb_path::Path;
 /// The last stamp.
 const LAST_STAMP: u64 = END_OF_NUMBERS;
 
-impl<J: Journal> Logged<J> {
-    ghost use Rattle.tsdb_memory.specs.Commands.{IsAny, IsCommand, IsPrepared, create_record};
+impl<J: Journal> LoggedMemory<J> {
+    ghost use Rattle.tsdb_memory.specs.Commands.{NeedsNothing, HasCommandEffect, IsPrepared, create_record};
     ghost use Rattle.tsdb_memory.specs.Logged.{memory_of};
 
     /// Creates a series, which is numbered behind the others.
     pub fn create(&mut self, schema: &Schema) -> Answer
         requires { IsSchema schema.now }
         ensures answer { IsCreateAnswer (memory_of self.old) schema.now.path result }
-        ensures command { IsCommand self.old self.new (create_record schema.now) IsAny result }
+        ensures command { HasCommandEffect self.old self.new (create_record schema.now) NeedsNothing result }
         ensures memory { MemoryAfter (HasCreated schema.now) (memory_of self.old) (memory_of self.new) result }
     {
         let counter = self.memory.stamp();
@@ -49,7 +49,7 @@ impl<J: Journal> Logged<J> {
         requires formed { IsSchema schema.now }
         requires free { number_of (memory_of self.old).series schema.now.path ≡ None }
         requires stamp { (memory_of self.old).stamp < end_of_numbers }
-        ensures command { IsCommand self.old self.new (create_record schema.now) IsAny (answer_by result) }
+        ensures command { HasCommandEffect self.old self.new (create_record schema.now) NeedsNothing (answer_by result) }
         ensures memory { MemoryAfter (HasCreated schema.now) (memory_of self.old) (memory_of self.new)
             (answer_by result) }
     {
@@ -74,14 +74,15 @@ impl<J: Journal> Logged<J> {
     }
 }
 
-impl<J: Journal> Logged<J> {
-    ghost use Rattle.tsdb_memory.specs.Commands.{HasLeast, IsCommand, IsPrepared};
+impl<J: Journal> LoggedMemory<J> {
+    ghost use Rattle.tsdb_memory.specs.Commands.{HasLeast, HasCommandEffect, IsPrepared};
     ghost use Rattle.tsdb_memory.specs.Logged.{memory_of};
 
     /// Deletes the points of a series in a range. `listed` is the least stamp at which a listed file was frozen.
     pub fn delete(&mut self, series: &Path, range: &Range, listed: Option<Stamp>) -> Answer
         ensures answer { IsDeleteAnswer (memory_of self.old) series.now result }
-        ensures command { IsCommand self.old self.new (LogRecord.Delete series.now range.now) (HasLeast listed) result }
+        ensures command { HasCommandEffect self.old self.new (LogRecord.Delete series.now range.now)
+            (HasLeast listed) result }
         ensures memory { MemoryAfter (HasDeleted series.now range.now listed) (memory_of self.old) (memory_of self.new)
             result }
     {
@@ -103,7 +104,7 @@ impl<J: Journal> Logged<J> {
     ) -> Result<(), StoreFault>
         requires there { IsSome (number_of (memory_of self.old).series series.now) }
         requires stamp { (memory_of self.old).stamp < end_of_numbers }
-        ensures command { IsCommand self.old self.new (LogRecord.Delete series.now range.now) (HasLeast listed)
+        ensures command { HasCommandEffect self.old self.new (LogRecord.Delete series.now range.now) (HasLeast listed)
             (answer_by result) }
         ensures memory { MemoryAfter (HasDeleted series.now range.now listed) (memory_of self.old) (memory_of self.new)
             (answer_by result) }
@@ -128,8 +129,8 @@ impl<J: Journal> Logged<J> {
     }
 }
 
-impl<J: Journal> Logged<J> {
-    ghost use Rattle.tsdb_memory.specs.Commands.{CanPut, IsCommand, IsPrepared};
+impl<J: Journal> LoggedMemory<J> {
+    ghost use Rattle.tsdb_memory.specs.Commands.{CanPut, HasCommandEffect, IsPrepared};
     ghost use Rattle.tsdb_memory.specs.Logged.{memory_of};
 
     /// Inserts the cells of a row, which are of different series of the device.
@@ -139,7 +140,7 @@ impl<J: Journal> Logged<J> {
         requires there { All (λ cell. IsSomeAnd (slice_get (memory_of self.old).series cell.series.0)
             (IsFitting device.now cell)) cells }
         ensures answer { IsAccepted (memory_of self.old).stamp result }
-        ensures command { IsCommand self.old self.new (LogRecord.Insert time cells) (CanPut time cells) result }
+        ensures command { HasCommandEffect self.old self.new (LogRecord.Insert time cells) (CanPut time cells) result }
         ensures memory { MemoryAfter (HasInserted device.now time cells) (memory_of self.old) (memory_of self.new) result }
     {
         let counter = self.memory.stamp();
@@ -160,7 +161,7 @@ impl<J: Journal> Logged<J> {
         requires there { All (λ cell. IsSomeAnd (slice_get (memory_of self.old).series cell.series.0)
             (IsFitting device.now cell)) cells }
         requires stamp { (memory_of self.old).stamp < end_of_numbers }
-        ensures command { IsCommand self.old self.new (LogRecord.Insert time cells) (CanPut time cells)
+        ensures command { HasCommandEffect self.old self.new (LogRecord.Insert time cells) (CanPut time cells)
             (answer_by result) }
         ensures memory { MemoryAfter (HasInserted device.now time cells) (memory_of self.old) (memory_of self.new)
             (answer_by result) }
@@ -184,7 +185,7 @@ impl<J: Journal> Logged<J> {
 
 /// The series that a record creates.
 fn created_by(item: LogRecord) -> Schema
-    requires { IsCreation item }
+    requires { IsCreateRecord item }
     ensures { record_of result ≡ item }
 {
     match item {
@@ -203,7 +204,7 @@ fn created_by(item: LogRecord) -> Schema
 
 /// The path of the series of which a record deletes points.
 fn deleted_by(item: LogRecord) -> Path
-    requires { IsDeletion item }
+    requires { IsDeleteRecord item }
     ensures { (range : RangeOf) (path : ListOf ℕ) → item ≡ LogRecord.Delete path range → result ≡ path }
 {
     match item {

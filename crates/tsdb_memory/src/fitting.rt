@@ -3,7 +3,7 @@ ghost use Rattle.std.specs.Prelude.{◌≡◌, ◌⊎◌, ◌+◌, ◌≤◌, �
 ghost use Rattle.tsdb_model.specs.Commands.{IsRow};
 ghost use Rattle.tsdb_memory.specs.Shown.{IsMemoryOf};
 ghost use Rattle.tsdb_memtable.specs.Pairs.{HasRisingSeries, byte_count};
-ghost use Rattle.tsdb_memory.specs.Fits.{FitsPair, HasCounts, HasNoPoint, point_count};
+ghost use Rattle.tsdb_memory.specs.Fits.{FitsPair, HasCounts, HasNoPairPoint, pair_point_count};
 ghost use Rattle.tsdb_memory.specs.Fits as bytes;
 ghost use Rattle.tsdb_base.specs.Limits.{max_pair_bytes};
 ghost use Rattle.tsdb_state.specs.State.{StoreState};
@@ -16,7 +16,7 @@ use tsdb_model::{Cell, Literal, Row};
 
 /// Whether the row fits the working pair, with this limit of points: the pair has no point, or its points and the row's
 /// cells are at most the limit, and their bytes at most 67,108,864. A row that does not fit waits for a freeze.
-pub fn fits(memory: &MemoryStore, row: &Row, limit: u64) -> bool
+pub fn fits_pair(memory: &MemoryStore, row: &Row, limit: u64) -> bool
     requires { IsRow row.now }
     ensures fits { IsTrue result ↔ FitsPair limit row.now memory.now.working }
     ensures counts { (state : StoreState) → IsMemoryOf memory.now state
@@ -36,7 +36,7 @@ pub fn fits(memory: &MemoryStore, row: &Row, limit: u64) -> bool
 /// Whether the pair has no point, or stays within its limits with so many cells and bytes more.
 fn has_place(pair: &Pair, limit: u64, cells: u64, bytes: u64) -> bool
     ensures rising { HasRisingSeries pair.now }
-    ensures place { IsTrue result ↔ (HasNoPoint pair.now ⊎ ((point_count pair.now + cells ≤ limit)
+    ensures place { IsTrue result ↔ (HasNoPairPoint pair.now ⊎ ((pair_point_count pair.now + cells ≤ limit)
         × (byte_count pair.now + bytes ≤ max_pair_bytes))) }
 {
     let points = u128::from(pair.points(Space::Sequence))

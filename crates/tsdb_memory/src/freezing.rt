@@ -4,8 +4,8 @@ ghost use Rattle.tsdb_base.specs.declared.ids.Space.TheVariants.{Sequence};
 ghost use Rattle.tsdb_base.specs.declared.point.Point.{Point as PointOf};
 ghost use Rattle.tsdb_base.specs.Lists.{Among};
 ghost use Rattle.tsdb_memory.specs.Changes.{HasFrozen};
-ghost use Rattle.tsdb_memory.specs.Fits.{HasNoPoint};
-ghost use Rattle.tsdb_memory.specs.Freezing.{AreRaises, HasPlaces, IsFreezeOf, IsRaiseOf, raised_by};
+ghost use Rattle.tsdb_memory.specs.Fits.{HasNoPairPoint};
+ghost use Rattle.tsdb_memory.specs.Freezing.{AreRaises, HaveWatermarkPlaces, IsFreezeOf, IsRaiseOf, raised_by};
 ghost use Rattle.tsdb_memory.specs.Rows.{ChangesRoom};
 ghost use Rattle.tsdb_memory.specs.Shown.{IsMemoryOf};
 ghost use Rattle.tsdb_memory.specs.Store.{frozen_with_working};
@@ -59,7 +59,7 @@ impl MemoryStore {
     pub fn finish_freeze(&mut self, freezing: Freezing)
         requires place { 0 < self.old.places.frozen }
         requires room { length self.old.frozen < max_frozen }
-        requires some { ¬ HasNoPoint self.old.working }
+        requires some { ¬ HasNoPairPoint self.old.working }
         requires freezing { IsFreezeOf self.old freezing }
         ensures effect { (state : StoreState) → IsMemoryOf self.old state → IsMemoryOf self.new (froze state) }
         ensures series { self.new.series ≡ self.old.series }
@@ -133,7 +133,7 @@ fn device_in(path: &Path) -> Result<Path, Memory>
 /// Gives each device a place.
 fn reserve_places(watermarks: &mut Watermarks, raises: &[Raise]) -> Result<(), Memory>
     ensures watermarks { (device : List ℕ) → watermark watermarks.new device ≡ watermark watermarks.old device }
-    ensures places { OnOk result (HasPlaces watermarks.new raises.now) }
+    ensures places { OnOk result (HaveWatermarkPlaces watermarks.new raises.now) }
 {
     for raise in raises {
         watermarks.reserve(&raise.device)?;
@@ -143,7 +143,7 @@ fn reserve_places(watermarks: &mut Watermarks, raises: &[Raise]) -> Result<(), M
 
 /// Raises the watermark of each device to its times, where it is less. It takes no memory.
 fn raise_all(watermarks: &mut Watermarks, raises: &[Raise])
-    requires { HasPlaces watermarks.old raises.now }
+    requires { HaveWatermarkPlaces watermarks.old raises.now }
     ensures { (device : List ℕ) → watermark watermarks.new device
         ≡ raised_by device raises.now (watermark watermarks.old device) }
 {

@@ -5,7 +5,7 @@ ghost use Rattle.tsdb_base.specs.declared.ids.Space.{Space as SpaceOf};
 ghost use Rattle.tsdb_memory.specs.Changes.{HasInserted};
 ghost use Rattle.tsdb_memory.specs.Model.{IsFitting};
 ghost use Rattle.tsdb_memory.specs.Shown.{IsMemoryOf};
-ghost use Rattle.tsdb_memory.specs.Rows.{ChangesRoom, put_all};
+ghost use Rattle.tsdb_memory.specs.Rows.{ChangesRoom, put_row_cells};
 ghost use Rattle.tsdb_memtable.specs.Pairs.{UsesSpareRoom, points_of, spare_of};
 ghost use Rattle.tsdb_base.specs.Limits.{end_of_numbers};
 ghost use Rattle.tsdb_state.specs.Records.{inserted};
@@ -62,7 +62,7 @@ fn reserve_cells(pair: &mut Pair, cells: &[CellRecord]) -> Result<(), Memory>
 fn put_cells(pair: &mut Pair, space: Space, time: Time, cells: List<CellRecord>)
     requires room { All (λ cell. 0 < spare_of cell.series.0 pair.old) cells }
     requires differ { AllPairs (λ cell other. cell.series.0 ≢ other.series.0) cells }
-    ensures { pair.new ≡ put_all space time cells pair.old }
+    ensures { pair.new ≡ put_row_cells space time cells pair.old }
 {
     for cell in cells.into_vec() {
         let point = Point {

@@ -50,15 +50,15 @@ mod shared;
 mod store;
 
 pub use cells::cells_of;
-pub use fitting::fits;
+pub use fitting::fits_pair;
 pub use freezing::Freezing;
-pub use logged::Logged;
+pub use logged::LoggedMemory;
 pub use map_laws::{
     a_creation_follows_the_map, a_deletion_follows_the_map, a_freeze_keeps_the_world,
     a_row_follows_the_map,
 };
 pub use purging::lesser;
-pub use reading::Numbered;
+pub use reading::NumberedSeries;
 pub use row_laws::{
     a_pair_without_points_is_empty, a_row_can_be_put, counts_of_a_state, reading_follows_the_map,
 };

@@ -18,7 +18,7 @@ use tsdb_outside::{Journal, StoreFault};
 
 /// A log, and what is in memory of its records.
 #[derive(Drop)]
-pub struct Logged<J: Journal> {
+pub struct LoggedMemory<J: Journal> {
     pub(crate) frames: Frames<J>,
     pub(crate) memory: MemoryStore,
     // The bytes of one record, with room that the next one uses.
@@ -27,18 +27,18 @@ pub struct Logged<J: Journal> {
     pub(crate) doubted: (Option<FileNumber>, Option<FileNumber>),
 }
 
-impl<J: Journal> Logged<J> {
+impl<J: Journal> LoggedMemory<J> {
     ghost use Rattle.tsdb_memory.specs.Closing.{IsClosed};
     ghost use Rattle.tsdb_frames.specs.Frames.{is_in_doubt};
     ghost use Rattle.tsdb_memory.specs.Appends.{HasEnded};
-    ghost use Rattle.tsdb_memory.specs.Logged.{HasLog, log_of, memory_of, room_of};
+    ghost use Rattle.tsdb_memory.specs.Logged.{HasLog, log_of, memory_of, framed_room};
 
     /// The log with what is in memory of it.
-    pub fn new(alloc: Global, frames: Frames<J>, memory: MemoryStore) -> Logged<J>
+    pub fn new(alloc: Global, frames: Frames<J>, memory: MemoryStore) -> LoggedMemory<J>
         ensures log { log_of result ≡ frames }
         ensures memory { memory_of result ≡ memory }
     {
-        Logged {
+        LoggedMemory {
             frames,
             memory,
             framed: Vec::new(alloc),
@@ -85,7 +85,7 @@ impl<J: Journal> Logged<J> {
         ensures memory { memory_of self.new ≡ memory_of self.old }
         ensures end { HasEnded self.old self.new item result }
         ensures item { IfOk result (λ back. back ≡ item) }
-        ensures capacity { room_of self.old ≤ room_of self.new }
+        ensures capacity { framed_room self.old ≤ framed_room self.new }
     {
         self.append(&item)?;
         Ok(item)
@@ -97,7 +97,7 @@ impl<J: Journal> Logged<J> {
         requires fits { FitsFrame item.now }
         ensures memory { memory_of self.new ≡ memory_of self.old }
         ensures end { HasEnded self.old self.new item.now result }
-        ensures capacity { room_of self.old ≤ room_of self.new }
+        ensures capacity { framed_room self.old ≤ framed_room self.new }
     {
         frame_record(item, &mut self.framed)?;
         self.frames.settle()?;

@@ -12,15 +12,15 @@ ghost use Rattle.tsdb_model.specs.declared.command.Command.{Command};
 ghost use Rattle.tsdb_model.specs.declared.command.Row.{Row};
 ghost use Rattle.tsdb_model.specs.declared.command.Schema.{Schema};
 ghost use Rattle.tsdb_memory.specs.Shown.{IsMemoryOf};
-ghost use Rattle.tsdb_memory.specs.Store.{Store};
+ghost use Rattle.tsdb_memory.specs.Store.{MemoryState};
 ghost use Rattle.tsdb_state.specs.Records.{CanFreeze, froze};
-ghost use Rattle.tsdb_state.specs.State.{StoreState, Told};
+ghost use Rattle.tsdb_state.specs.State.{StoreState, ToldContents};
 ghost use Rattle.tsdb_state.specs.StoreOrder.{StoreInOrder};
 ghost use Rattle.tsdb_state.specs.Worlds.{StandsFor};
 
 /// A creation that is answered by what is in memory is answered as the map does, and leads to the map's world.
 pub fn a_creation_follows_the_map()
-    ensures { (told : Told) (store : Store) (state : StoreState) (schema : Schema) (answer : Answer)
+    ensures { (told : ToldContents) (store : MemoryState) (state : StoreState) (schema : Schema) (answer : Answer)
         → IsMemoryOf store state → StoreInOrder told state → IsSchema schema
         → IsCreateAnswer store schema.path answer
         → FollowsMap told state (Command.Create schema) (create_record schema) answer }
@@ -28,7 +28,8 @@ pub fn a_creation_follows_the_map()
 
 /// So is a deletion.
 pub fn a_deletion_follows_the_map()
-    ensures { (told : Told) (store : Store) (state : StoreState) (path : List ℕ) (range : Range) (answer : Answer)
+    ensures { (told : ToldContents) (store : MemoryState) (state : StoreState) (path : List ℕ) (range : Range)
+        (answer : Answer)
         → IsMemoryOf store state → StoreInOrder told state → IsDeleteAnswer store path answer
         → FollowsMap told state (Command.Delete path range) (LogRecord.Delete path range) answer }
 {}
@@ -36,7 +37,8 @@ pub fn a_deletion_follows_the_map()
 /// A row that is answered by what is in memory is answered as the map does. To what world its record leads is a law of the
 /// state.
 pub fn a_row_follows_the_map()
-    ensures { (told : Told) (store : Store) (state : StoreState) (world : World) (device : List ℕ) (row : Row)
+    ensures { (told : ToldContents) (store : MemoryState) (state : StoreState) (world : World) (device : List ℕ)
+        (row : Row)
         (answer : Answer)
         → IsMemoryOf store state → StoreInOrder told state → StandsFor told state world
         → IsInsertAnswer store device row.cells answer → IsMapAnswer world (Command.Insert device row) answer }
@@ -44,6 +46,6 @@ pub fn a_row_follows_the_map()
 
 /// A freeze keeps the world.
 pub fn a_freeze_keeps_the_world()
-    ensures { (told : Told) (state : StoreState) (world : World) → StoreInOrder told state → CanFreeze state
+    ensures { (told : ToldContents) (state : StoreState) (world : World) → StoreInOrder told state → CanFreeze state
         → StandsFor told state world → StandsFor told (froze state) world }
 {}

@@ -1,6 +1,6 @@
 //! The least stamp at which something that marks may cover was frozen. Depends on the store's fields.
 ghost use Rattle.std.specs.Prelude.{◌≡◌, Some, map};
-ghost use Rattle.tsdb_memory.specs.Least.{least_with, lesser as lesser_of};
+ghost use Rattle.tsdb_memory.specs.Least.{least_with, lesser_born as lesser_of};
 
 use crate::store::FrozenPair;
 use tsdb_base::Stamp;

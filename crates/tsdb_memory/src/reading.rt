@@ -4,12 +4,12 @@ ghost use Rattle.std.specs.Prelude.{slice_get};
 ghost use Rattle.std.specs.FinMap.{empty, len};
 ghost use Rattle.std.specs.Arc.{arc_value};
 ghost use Rattle.std.specs.Option.{option_map};
-ghost use Rattle.tsdb_memory.specs.Fits.{HasNoPoint};
-ghost use Rattle.tsdb_memory.specs.Model.{IsSound, frozen_in};
-ghost use Rattle.tsdb_memory.specs.Shown.{IsFilled, IsMemoryOf, number_of, part_of};
+ghost use Rattle.tsdb_memory.specs.Fits.{HasNoPairPoint};
+ghost use Rattle.tsdb_memory.specs.Model.{IsSoundMemory, frozen_in};
+ghost use Rattle.tsdb_memory.specs.Shown.{TellsSpaceFilled, IsMemoryOf, number_of, part_of};
 ghost use Rattle.tsdb_state.specs.Limit.{IsEmptyPair};
 ghost use Rattle.tsdb_base.specs.Limits.{max_frozen};
-ghost use Rattle.tsdb_state.specs.State.{FrozenPair as FrozenState, StoreState};
+ghost use Rattle.tsdb_state.specs.State.{FrozenContent as FrozenState, StoreState};
 
 use crate::store::{FrozenPair, MemoryStore};
 use std::sync::Arc;
@@ -20,7 +20,7 @@ use tsdb_path::Path;
 
 /// A series that is there: its number, its type and its encoding.
 #[derive(Clone, Copy)]
-pub struct Numbered {
+pub struct NumberedSeries {
     pub id: SeriesId,
     pub data_type: DataType,
     pub encoding: Encoding,
@@ -29,7 +29,7 @@ pub struct Numbered {
 impl MemoryStore {
     /// It does nothing, and tells what always holds of what is in memory.
     pub fn sound(&self)
-        ensures { IsSound self.now }
+        ensures { IsSoundMemory self.now }
     {
         let _ = &self.series;
     }
@@ -74,7 +74,7 @@ impl MemoryStore {
     /// Whether the working pair has no point.
     pub fn is_idle(&self) -> bool
         ensures state { (state : StoreState) → IsMemoryOf self.now state → (IsTrue result ↔ IsEmptyPair state.working) }
-        ensures some { result ≡ false → ¬ HasNoPoint self.now.working }
+        ensures some { result ≡ false → ¬ HasNoPairPoint self.now.working }
     {
         if has_points(&self.working, Space::Sequence) {
             return false;
@@ -108,7 +108,7 @@ impl MemoryStore {
     }
 
     /// The series with this path, where it is there.
-    pub fn series(&self, path: &Path) -> Option<Numbered>
+    pub fn series(&self, path: &Path) -> Option<NumberedSeries>
         ensures number { option_map (λ series. series.id.0) result ≡ number_of self.now.series path.now }
         ensures schema { IfSome result (λ series. slice_get self.now.series series.id.0 ≡ Some (record {
           path = path.now;
@@ -119,7 +119,7 @@ impl MemoryStore {
         let Some((number, _, kind)) = self.series.get_full(path) else {
             return None;
         };
-        Some(Numbered {
+        Some(NumberedSeries {
             id: SeriesId(number as u64),
             data_type: kind.0,
             encoding: kind.1,
@@ -129,7 +129,7 @@ impl MemoryStore {
 
 /// Whether a pair has a point in the space.
 fn has_points(pair: &Pair, space: Space) -> bool
-    ensures { IsFilled result space pair.now }
+    ensures { TellsSpaceFilled result space pair.now }
 {
     pair.points(space) > 0
 }

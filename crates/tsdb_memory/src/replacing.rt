@@ -2,7 +2,7 @@
 ghost use Rattle.std.specs.Prelude.{◌≤◌, OnOk};
 ghost use Rattle.tsdb_memory.specs.Replacing.{IsReplacement, replacement_bytes};
 
-use crate::logged::Logged;
+use crate::logged::LoggedMemory;
 use tsdb_base::{Memory, Stamp};
 use tsdb_log::LogRecord;
 use tsdb_outside::{Failed, Journal, StoreFault};
@@ -13,15 +13,15 @@ const REPLACED_BYTES: usize = 39;
 /// How many bytes the number of an input has.
 const INPUT_BYTES: usize = 8;
 
-impl<J: Journal> Logged<J> {
+impl<J: Journal> LoggedMemory<J> {
     ghost use Rattle.tsdb_memory.specs.Commands.{IsPrepared};
-    ghost use Rattle.tsdb_memory.specs.Logged.{room_of};
+    ghost use Rattle.tsdb_memory.specs.Logged.{framed_room};
     ghost use Rattle.tsdb_memory.specs.Replacing.{IsReplaced};
 
     /// Makes room for the record of a replacement of so many files.
     pub fn reserve_replaced(&mut self, inputs: usize) -> Result<(), Memory>
         ensures kept { IsPrepared self.old self.new }
-        ensures room { OnOk result (replacement_bytes inputs ≤ room_of self.new) }
+        ensures room { OnOk result (replacement_bytes inputs ≤ framed_room self.new) }
     {
         let Some(bytes) = inputs.checked_mul(INPUT_BYTES) else {
             return Err(Memory);
@@ -35,7 +35,7 @@ impl<J: Journal> Logged<J> {
     /// The files that the record names are replaced by its output, if it has one. `listed` is the least stamp at
     /// which a file was frozen that is listed then. It takes no memory.
     pub fn replaced(&mut self, item: &LogRecord, listed: Option<Stamp>) -> Result<(), Failed>
-        requires { IsReplacement (room_of self.old) item.now }
+        requires { IsReplacement (framed_room self.old) item.now }
         ensures { IsReplaced self.old self.new item.now listed result }
     {
         match self.append(item) {

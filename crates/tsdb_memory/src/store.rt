@@ -22,7 +22,7 @@ pub struct FrozenPair {
 }
 
 /// What is in memory. The series are numbered from 0 in the order of their creation, each with its type and its
-/// encoding; frozen pairs stand from the oldest on. A contract sees a `Store`.
+/// encoding; frozen pairs stand from the oldest on. A contract sees a `MemoryState`.
 #[derive(Drop)]
 pub struct MemoryStore {
     pub(crate) alloc: Global,
@@ -35,13 +35,13 @@ pub struct MemoryStore {
 }
 
 impl Model for MemoryStore {
-    ghost use Rattle.tsdb_memory.specs.Store.{Store};
+    ghost use Rattle.tsdb_memory.specs.Store.{MemoryState};
 
-    ghost Value = { Store };
+    ghost Value = { MemoryState };
 
-    ghost use Rattle.tsdb_memory.specs.Model.{IsMemoryKept, store_in};
+    ghost use Rattle.tsdb_memory.specs.Model.{IsMemoryKept, memory_view};
 
-    ghost view = { store_in };
+    ghost view = { memory_view };
 
     ghost invariant = { IsMemoryKept };
 }

@@ -24,7 +24,7 @@ use Rattle.tsdb_memtable.specs.Limits.{max_bytes}
 use Rattle.tsdb_memtable.specs.Points.{point_bytes, counted_bytes}
 use Rattle.tsdb_memtable.specs.Pairs.{IsProvided, Pair, SeriesPoints, blank, byte_count, is_series, points_in, series_bytes, spare_of, table}
 use Rattle.tsdb_memtable.proofs.PlaceLemmas.{is_eq-equal}
-use Rattle.tsdb_memtable.specs.PairModel.{AreTotals, CanSwap, IsPart, IsSwap, most_of}
+use Rattle.tsdb_memtable.specs.PairModel.{AreTotals, CanSwap, IsPartOfTotals, IsSwap, most_of}
 
 -- a point counts a byte at least
 
@@ -43,7 +43,7 @@ some-none v h = false≢true (sym (ap is_some h))
 
 -- one series becomes another
 
-is-part : (pair : Pair) (series : ℕ) (v : SeriesPoints) (totals : Totals) → lookup (is_series series) pair ≡ Some v → AreTotals pair totals → IsPart (totals_of v) totals
+is-part : (pair : Pair) (series : ℕ) (v : SeriesPoints) (totals : Totals) → lookup (is_series series) pair ≡ Some v → AreTotals pair totals → IsPartOfTotals (totals_of v) totals
 is-part pair series v totals found are =
     let gone : (f : SeriesPoints → ℕ) → sum_by f (values_of (set_value (is_series series) pair blank)) + f v ≡ sum_by f (values_of pair) + f blank = λ f. sum_by-set_value f (is_series series) pair v blank found in
     record {

@@ -11,7 +11,7 @@ use Rattle.std.proofs.lemmas.List.Kept.{AllPairs-filter, AllPairs-cons}
 use Rattle.tsdb_base.specs.declared.point.Point.{Point}
 use Rattle.tsdb_base.specs.declared.point.Range.{Range}
 use Rattle.tsdb_base.specs.Points.{IsRising}
-use Rattle.tsdb_memtable.specs.Points.{is_before, is_after, is_within, is_outside, with_point}
+use Rattle.tsdb_memtable.specs.Points.{is_before, is_after, is_point_within, is_outside, with_point}
 use Rattle.tsdb_memtable.specs.Steps.{is_from, is_until}
 
 -- times
@@ -173,7 +173,7 @@ with_point-replaced point xs i rising lt front back same =
 le-lt : (a b : ℤ) → int_le b a ≡ not (int_lt a b)
 le-lt a b = grind (arith, ints)
 
-within-tests : (range : Range) (x : Point) → is_within range x ≡ (is_from range.from x && is_until range.to x)
+within-tests : (range : Range) (x : Point) → is_point_within range x ≡ (is_from range.from x && is_until range.to x)
 within-tests range x = ap (λ b. b && int_le x.time range.to) (le-lt x.time range.from) ∙ ap (λ b. is_from range.from x && b) (le-lt range.to x.time)
 
 filter-both : (p q : Point → Bool) (xs : List Point) → filter q (filter p xs) ≡ filter (λ x. p x && q x) xs
@@ -186,13 +186,13 @@ filter-both p q (x ∷ xs) =
     ]
 
 -- where no point is in the range, all are outside
-pub none-within : (range : Range) (xs : List Point) → length (filter (is_within range) xs) ≡ 0 → filter (is_outside range) xs ≡ xs
+pub none-within : (range : Range) (xs : List Point) → length (filter (is_point_within range) xs) ≡ 0 → filter (is_outside range) xs ≡ xs
 none-within range [] none = refl
 none-within range (x ∷ xs) none =
-    elim (is_within range x) as (λ b. length (cond b (x ∷ filter (is_within range) xs) (filter (is_within range) xs)) ≡ 0 → cond (not b) (x ∷ filter (is_outside range) xs) (filter (is_outside range) xs) ≡ x ∷ xs) [
+    elim (is_point_within range x) as (λ b. length (cond b (x ∷ filter (is_point_within range) xs) (filter (is_point_within range) xs)) ≡ 0 → cond (not b) (x ∷ filter (is_outside range) xs) (filter (is_outside range) xs) ≡ x ∷ xs) [
       | true ↦ λ h. absurd (omega (arith, h))
       | false ↦ λ h. ap (λ r. x ∷ r) (none-within range xs h)
     ] none
 
-pub within-both : (range : Range) (xs : List Point) → filter (is_until range.to) (filter (is_from range.from) xs) ≡ filter (is_within range) xs
-within-both range xs = filter-both (is_from range.from) (is_until range.to) xs ∙ sym (filter_agree (is_within range) (λ x. is_from range.from x && is_until range.to x) (within-tests range) xs)
+pub within-both : (range : Range) (xs : List Point) → filter (is_until range.to) (filter (is_from range.from) xs) ≡ filter (is_point_within range) xs
+within-both range xs = filter-both (is_from range.from) (is_until range.to) xs ∙ sym (filter_agree (is_point_within range) (λ x. is_from range.from x && is_until range.to x) (within-tests range) xs)

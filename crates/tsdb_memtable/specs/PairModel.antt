@@ -7,7 +7,7 @@ use Rattle.tsdb_memtable.specs.declared.pair.Pair.TheInside.{Inside}
 use Rattle.tsdb_memtable.specs.declared.series.Totals.{Totals}
 use Rattle.tsdb_base.specs.Limits.{max_point_bytes}
 use Rattle.tsdb_memtable.specs.Limits.{max_bytes}
-use Rattle.tsdb_memtable.specs.Pairs.{Pair, byte_count, count}
+use Rattle.tsdb_memtable.specs.Pairs.{Pair, byte_count, space_count}
 
 -- for how many points there is room in all
 abbrev pub spare_count : Pair → ℕ
@@ -21,7 +21,7 @@ abbrev pub HasRoomFor : Totals → ℕ → Type 0
 HasRoomFor totals cells = most_of totals + cells * max_point_bytes ≤ max_bytes
 
 -- no number of the part is greater than that of the whole
-pub record IsPart (part whole : Totals) : Type 0 where
+pub record IsPartOfTotals (part whole : Totals) : Type 0 where
   pub sequence : part.sequence ≤ whole.sequence
   pub unsequence : part.unsequence ≤ whole.unsequence
   pub bytes : part.bytes ≤ whole.bytes
@@ -29,7 +29,7 @@ pub record IsPart (part whole : Totals) : Type 0 where
 
 -- the totals of a part can become others without passing what is counted
 pub record CanSwap (old before after : Totals) : Type 0 where
-  pub part : IsPart before old
+  pub part : IsPartOfTotals before old
   pub sequence : old.sequence + after.sequence ≤ max_bytes + before.sequence
   pub unsequence : old.unsequence + after.unsequence ≤ max_bytes + before.unsequence
   pub most : most_of old + most_of after ≤ max_bytes + most_of before
@@ -43,8 +43,8 @@ pub record IsSwap (old before after new : Totals) : Type 0 where
 
 -- the totals are those of the pair
 pub record AreTotals (pair : Pair) (totals : Totals) : Type 0 where
-  pub sequence : totals.sequence ≡ count Sequence pair
-  pub unsequence : totals.unsequence ≡ count Unsequence pair
+  pub sequence : totals.sequence ≡ space_count Sequence pair
+  pub unsequence : totals.unsequence ≡ space_count Unsequence pair
   pub bytes : totals.bytes ≡ byte_count pair
   pub spare : totals.spare ≡ spare_count pair
 

@@ -79,8 +79,8 @@ abbrev pub table : Space → Pair → List (ℕ × List Point)
 table space pair = filter (λ entry. not (length entry.1 == 0)) (map (λ entry. (entry.0, points_in space entry.1)) pair)
 
 -- how many points are in the space
-abbrev pub count : Space → Pair → ℕ
-count space pair = sum_by (λ series. length (points_in space series)) (values_of pair)
+abbrev pub space_count : Space → Pair → ℕ
+space_count space pair = sum_by (λ series. length (points_in space series)) (values_of pair)
 
 -- how many bytes a series' points count
 abbrev pub series_bytes : SeriesPoints → ℕ

@@ -15,12 +15,12 @@ abbrev pub is_after : ℤ → Point → Bool
 is_after time point = int_lt time point.time
 
 -- in the range
-abbrev pub is_within : Range → Point → Bool
-is_within range point = int_le range.from point.time && int_le point.time range.to
+abbrev pub is_point_within : Range → Point → Bool
+is_point_within range point = int_le range.from point.time && int_le point.time range.to
 
 -- not in the range
 abbrev pub is_outside : Range → Point → Bool
-is_outside range point = not (is_within range point)
+is_outside range point = not (is_point_within range point)
 
 -- the points before its time, the point, and those after its time
 abbrev pub with_point : Point → List Point → List Point

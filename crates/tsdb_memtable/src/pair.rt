@@ -3,9 +3,9 @@ ghost use Rattle.std.specs.Prelude.{◌≡◌, ◌≢◌, ℕ, ◌+◌, ◌<◌,
 ghost use Rattle.std.specs.List.{filter};
 ghost use Rattle.tsdb_base.specs.declared.ids.Space.{Space as SpaceOf};
 ghost use Rattle.tsdb_base.specs.Points.{IsRising};
-ghost use Rattle.tsdb_memtable.specs.Points.{is_within};
+ghost use Rattle.tsdb_memtable.specs.Points.{is_point_within};
 ghost use Rattle.tsdb_memtable.specs.Watermarks.{watermark, space_by};
-ghost use Rattle.tsdb_memtable.specs.Pairs.{byte_count, change_points, count, HasRisingSeries, without_range};
+ghost use Rattle.tsdb_memtable.specs.Pairs.{byte_count, change_points, space_count, HasRisingSeries, without_range};
 ghost use Rattle.tsdb_memtable.specs.Pairs.{UsesSpareRoom, points_of, put_in, spare_of, table};
 ghost use Rattle.tsdb_memtable.specs.PairModel.{CanSwap, IsSwap, HasRoomFor};
 
@@ -81,7 +81,7 @@ impl Pair {
 
     /// How many points are in the space.
     pub fn points(&self, space: Space) -> u64
-        ensures count { result ≡ count space self.now }
+        ensures count { result ≡ space_count space self.now }
         ensures rising { HasRisingSeries self.now }
     {
         // (a call of the map tells that its keys rise)
@@ -221,7 +221,7 @@ impl Pair {
 
     /// The points of the series in the space and the range, in order of time. It takes no memory.
     pub fn slice(&self, space: Space, series: SeriesId, range: &Range) -> &[Point]
-        ensures points { result.now ≡ filter (is_within range.now) (points_of space series.0 self.now) }
+        ensures points { result.now ≡ filter (is_point_within range.now) (points_of space series.0 self.now) }
         ensures rising { IsRising (points_of space series.0 self.now) }
     {
         points::slice(self.points_of(space, series), range)

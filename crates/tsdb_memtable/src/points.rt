@@ -4,7 +4,7 @@ ghost use Rattle.std.specs.List.{filter};
 ghost use Rattle.tsdb_base.specs.Limits.{max_point_bytes};
 ghost use Rattle.tsdb_memtable.specs.Limits.{max_bytes};
 ghost use Rattle.tsdb_base.specs.Points.{IsRising};
-ghost use Rattle.tsdb_memtable.specs.Points.{is_before, is_after, is_outside, is_within, with_point};
+ghost use Rattle.tsdb_memtable.specs.Points.{is_before, is_after, is_outside, is_point_within, with_point};
 ghost use Rattle.tsdb_memtable.specs.Points.{point_bytes as bytes_of_point, counted_bytes as bytes_of_points};
 ghost use Rattle.tsdb_memtable.specs.Steps.{is_from, is_until};
 
@@ -142,7 +142,7 @@ pub(crate) fn erase(points: &mut Vec<Point>, range: &Range) -> u64
 /// The points in the range.
 pub(crate) fn slice<'a>(points: &'a [Point], range: &Range) -> &'a [Point]
     requires { IsRising points.now }
-    ensures { result.now ≡ filter (is_within range.now) points.now }
+    ensures { result.now ≡ filter (is_point_within range.now) points.now }
 {
     until_time(from_time(points, range.from), range.to)
 }

@@ -6,7 +6,7 @@ use Rattle.std.specs.declared.vec.Vec.{Vec}
 use Rattle.std.proofs.lemmas.Bool.{false≢true}
 use Rattle.std.proofs.lemmas.List.{reverse-append, length-append, length-reverse}
 use Rattle.tsdb_base.specs.declared.point.Point.{Point}
-use Rattle.tsdb_merge.specs.Steps.{IsNextOf, IsPopped, IsRead, behind, told_with}
+use Rattle.tsdb_merge.specs.Steps.{IsNextOf, IsPopped, IsPointRead, behind, told_with}
 use Rattle.tsdb_merge.specs.Supplies.{IsFilled, KeepsOthers, Moves, left_at}
 use Rattle.tsdb_merge.specs.declared.head.Head.{Head}
 use Rattle.tsdb_merge.specs.declared.head.Head.TheVariants.{Unread, End, Next}
@@ -53,7 +53,7 @@ behind_popped buffer rest p (Some left) points e h = ap (λ s. Some (s ++ left))
 
 read_popped : (source : ℕ) (start buffer after : List Point) (lists lists_now : Lists) (most most_now : ℕ) (head : Head)
     → ((points : List Point) → behind start (left_at lists source) ≡ Some points → behind buffer (left_at lists_now source) ≡ Some points)
-    → length buffer + most_now ≤ length start + most → KeepsOthers source lists lists_now → 1 ≤ length buffer → length buffer ≤ 1000 → IsPopped buffer after head → IsRead source start lists most head after lists_now most_now
+    → length buffer + most_now ≤ length start + most → KeepsOthers source lists lists_now → 1 ≤ length buffer → length buffer ≤ 1000 → IsPopped buffer after head → IsPointRead source start lists most head after lists_now most_now
 read_popped source start buffer after lists lists_now most most_now Unread kept fewer others some top p = absurd p
 read_popped source start buffer after lists lists_now most most_now End kept fewer others some top p = absurd (let none : length buffer ≡ 0 = ap length p.0 in omega (arith, none, some))
 read_popped source start buffer after lists lists_now most most_now (Next x) kept fewer others some top p =
@@ -70,12 +70,12 @@ others_same : (source : ℕ) (lists : Lists) → KeepsOthers source lists lists
 others_same source lists = record { sources = refl; others = λ other apart. refl }
 
 -- from a buffer that has a point
-pub read_buffered : (source : ℕ) (start after : List Point) (lists : Lists) (most : ℕ) (head : Head) → 1 ≤ length start → length start ≤ 1000 → IsPopped start after head → IsRead source start lists most head after lists most
+pub read_buffered : (source : ℕ) (start after : List Point) (lists : Lists) (most : ℕ) (head : Head) → 1 ≤ length start → length start ≤ 1000 → IsPopped start after head → IsPointRead source start lists most head after lists most
 read_buffered source start after lists most head some top p = read_popped source start start after lists lists most most head (λ points h. h) (omega arith) (others_same source lists) some top p
 
 -- from a buffer that was filled
 pub read_refilled : (source : ℕ) (start buffer after : List Point) (lists lists_now : Lists) (most most_now : ℕ) (more : Bool) (head : Head) → start ≡ [] → more ≡ true → Moves (left_at lists source) more (reverse buffer) (left_at lists_now source) → IsFilled more (reverse buffer)
-    → length buffer + most_now ≤ most → KeepsOthers source lists lists_now → IsPopped buffer after head → IsRead source start lists most head after lists_now most_now
+    → length buffer + most_now ≤ most → KeepsOthers source lists lists_now → IsPopped buffer after head → IsPointRead source start lists most head after lists_now most_now
 read_refilled source start buffer after lists lists_now most most_now more head none true_is m filled fewer others p =
     let ok : IsFilled true (reverse buffer) = subst (λ b. IsFilled b (reverse buffer)) true_is filled in
     let move : Moves (left_at lists source) true (reverse buffer) (left_at lists_now source) = subst (λ b. Moves (left_at lists source) b (reverse buffer) (left_at lists_now source)) true_is m in
@@ -94,7 +94,7 @@ ended (Some before) (Some after) start buffer points e m h =
 
 -- the source has ended
 pub read_ended : (source : ℕ) (start buffer : List Point) (lists lists_now : Lists) (most most_now : ℕ) (more : Bool) → start ≡ [] → more ≡ false → Moves (left_at lists source) more (reverse buffer) (left_at lists_now source) → IsFilled more (reverse buffer)
-    → length buffer + most_now ≤ most → KeepsOthers source lists lists_now → IsRead source start lists most End buffer lists_now most_now
+    → length buffer + most_now ≤ most → KeepsOthers source lists lists_now → IsPointRead source start lists most End buffer lists_now most_now
 read_ended source start buffer lists lists_now most most_now more none false_is m filled fewer others =
     let ok : reverse buffer ≡ [] = subst (λ b. IsFilled b (reverse buffer)) false_is filled in
     let move : Moves (left_at lists source) false (reverse buffer) (left_at lists_now source) = subst (λ b. Moves (left_at lists source) b (reverse buffer) (left_at lists_now source)) false_is m in

@@ -10,7 +10,7 @@ use Rattle.std.proofs.lemmas.List.Sums.{sum_by-set}
 use Rattle.tsdb_base.specs.declared.point.Point.{Point}
 use Rattle.tsdb_base.specs.Causes.{Rose}
 use Rattle.tsdb_merge.specs.Causes.{HasPullCause, HasRisen, HasSomeCause, NoneFell, SomeHasRisen, SomeRose}
-use Rattle.tsdb_merge.specs.Steps.{IsPut}
+use Rattle.tsdb_merge.specs.Steps.{IsPointPut}
 use Rattle.tsdb_merge.specs.Supplies.{IsFilled, KeepsOthers, Moves, left_at}
 use Rattle.tsdb_base.specs.Points.{IsRising}
 use Rattle.tsdb_merge.specs.Winners.{TakesTold}
@@ -18,22 +18,22 @@ use Rattle.tsdb_merge.specs.declared.points.PullFault.{PullFault}
 use Rattle.tsdb_merge.specs.declared.points.PullFault.TheVariants.{Failed, Damaged, Memory}
 use Rattle.tsdb_merge.proofs.Pulls.{none_fell}
 
-moves_one : (before after : Option (List Point)) (point : Option Point) (more : Bool) (points : List Point) → TakesTold before point after → IsPut point more points → Moves before more points after
+moves_one : (before after : Option (List Point)) (point : Option Point) (more : Bool) (points : List Point) → TakesTold before point after → IsPointPut point more points → Moves before more points after
 moves_one None after point more points takes put = tt
 moves_one (Some before) None point more points takes put = absurd takes
 moves_one (Some before) (Some after) None more points takes put = rw put.0 takes
 moves_one (Some before) (Some after) (Some point) more points takes put = rw (put.0, put.1) takes
 
-pub filled_one : (point : Option Point) (more : Bool) (points : List Point) → IsPut point more points → IsFilled more points
+pub filled_one : (point : Option Point) (more : Bool) (points : List Point) → IsPointPut point more points → IsFilled more points
 filled_one None more points put = rw (put.0, put.1) refl
 filled_one (Some point) more points put = rw (put.0, put.1) (omega arith, omega arith)
 
-one_point : (point : Option Point) (more : Bool) (points : List Point) → IsPut point more points → length points ≡ length (option_to_list point)
+one_point : (point : Option Point) (more : Bool) (points : List Point) → IsPointPut point more points → length points ≡ length (option_to_list point)
 one_point None more points put = ap length put.1
 one_point (Some point) more points put = ap length put.1
 
 module _ {P : Type 0} (sources : List P) (k : ℕ) (before after : P) (l : k < length sources) (is : before ≡ get_or sources k before) where
-  pub moved_one : (left : P → Option (List Point)) (point : Option Point) (more : Bool) (points : List Point) → TakesTold (left before) point (left after) → IsPut point more points
+  pub moved_one : (left : P → Option (List Point)) (point : Option Point) (more : Bool) (points : List Point) → TakesTold (left before) point (left after) → IsPointPut point more points
       → Moves (left_at (map left sources) k) more points (left_at (map left (set sources k after)) k)
   moved_one left point more points takes put =
       let old : left_at (map left sources) k ≡ left before = get_or-map left sources k before None l ∙ ap left (sym is) in
@@ -47,7 +47,7 @@ module _ {P : Type 0} (sources : List P) (k : ℕ) (before after : P) (l : k < l
     others = λ other apart. ap (λ xs. get_or xs other None) (map-set left sources k after) ∙ get_or-set_other (map left sources) k other (left after) None apart;
   }
 
-  pub most_one : (most : P → ℕ) (point : Option Point) (more : Bool) (points : List Point) → length (option_to_list point) + most after ≤ most before → IsPut point more points
+  pub most_one : (most : P → ℕ) (point : Option Point) (more : Bool) (points : List Point) → length (option_to_list point) + most after ≤ most before → IsPointPut point more points
       → length points + sum_by most (set sources k after) ≤ sum_by most sources
   most_one most point more points fewer put =
       let sum = sum_by-set most sources k after before l in

@@ -9,7 +9,7 @@ use Rattle.tsdb_base.specs.declared.point.Point.{Point}
 use Rattle.tsdb_base.specs.Points.{IsRising}
 use Rattle.tsdb_merge.specs.Winners.{HasNoneAt, IsMergeOf, IsToldMergeOf, IsWinner, TakesTold}
 use Rattle.tsdb_merge.proofs.MergeLemmas.{All-from_contains, AllPairs-nil, merge_of_both}
-use Rattle.tsdb_merge.specs.Steps.{IsFresh, IsHeadOf, IsNextOf, IsPulled, IsRoot, IsAhead, left_behind, root_left, IsTree, IsWithin, KeepsOutside, behind, count_of, first_of, head_held, merge_told, merge_two, node_left, told_with, with_head}
+use Rattle.tsdb_merge.specs.Steps.{IsUnreadNode, IsHeadOf, IsNextOf, IsPulled, IsRootNode, IsAhead, left_behind, root_left, IsMergeTree, IsWithinBound, KeepsOutside, behind, count_of, first_source, head_held, merge_told, merge_two, node_left, told_with, with_head}
 use Rattle.tsdb_merge.specs.Supplies.{left_at}
 use Rattle.tsdb_merge.specs.declared.head.Head.{Head}
 use Rattle.tsdb_merge.specs.declared.head.Head.TheVariants.{Unread}
@@ -33,7 +33,7 @@ outside_same first count lists = record { sources = refl; below = λ s l. refl; 
 
 -- ---- where a head is there already
 
-pub ahead_already : (head : Head) (node : Node) (lists : Lists) (most : ℕ) → head ≢ Unread → IsTree node → IsWithin head node → IsAhead head node lists most head node lists most
+pub ahead_already : (head : Head) (node : Node) (lists : Lists) (most : ℕ) → head ≢ Unread → IsMergeTree node → IsWithinBound head node → IsAhead head node lists most head node lists most
 ahead_already head node lists most ready tree within = record {
   left = λ points h. h;
   ready = ready;
@@ -42,7 +42,7 @@ ahead_already head node lists most ready tree within = record {
   first = refl;
   count = refl;
   fewer = omega arith;
-  outside = outside_same (first_of node) (count_of node) lists;
+  outside = outside_same (first_source node) (count_of node) lists;
 }
 
 -- ---- two trees
@@ -52,8 +52,8 @@ some_source (Leaf source buffer) = omega arith
 some_source (Pair' p low q high low_head high_head) = let l = some_source low in omega (arith, l)
 
 -- what a tree has left depends on its own sources alone
-pub same_left : (node : Node) (at other : ℕ → Option (List Point)) → IsTree node
-    → ((source : ℕ) → first_of node ≤ source → source < first_of node + count_of node → at source ≡ other source) → node_left node at ≡ node_left node other
+pub same_left : (node : Node) (at other : ℕ → Option (List Point)) → IsMergeTree node
+    → ((source : ℕ) → first_source node ≤ source → source < first_source node + count_of node → at source ≡ other source) → node_left node at ≡ node_left node other
 same_left (Leaf source buffer) at other tree same = ap (behind buffer.items) (same source (omega arith) (omega arith))
 same_left (Pair' p low q high low_head high_head) at other tree same =
     let side = tree.2 in
@@ -85,7 +85,7 @@ is_behind head None points h = absurd (none_some points h)
 is_behind head (Some rest) points h = record { rest = rest; told = refl; points_are = sym (some_is (with_head head rest) points h) }
 
 module _ (low high low_one high_two : Node) (low_head high_head low_head_one high_head_two low_head_now high_head_now before head : Head) (lists lists_one lists_two : Lists) (most most_one most_two : ℕ)
-    (unread : before ≡ Unread) (tree_low : IsTree low) (tree_high : IsTree high) (side : first_of high ≡ first_of low + count_of low)
+    (unread : before ≡ Unread) (tree_low : IsMergeTree low) (tree_high : IsMergeTree high) (side : first_source high ≡ first_source low + count_of low)
     (a : IsAhead low_head low lists most low_head_one low_one lists_one most_one) (b : IsAhead high_head high lists_one most_one high_head_two high_two lists_two most_two)
     (next : IsNextOf low_head_one high_head_two low_head_now high_head_now head) where
   high_kept : node_left high (left_at lists) ≡ node_left high (left_at lists_one)
@@ -136,10 +136,10 @@ module _ (low high low_one high_two : Node) (low_head high_head low_head_one hig
       }
 
 pub ahead_of_pair : (node low high low_one high_two : Node) (low_head high_head low_head_one high_head_two low_head_now high_head_now before head : Head) (lists lists_one lists_two : Lists) (most most_one most_two : ℕ) (p q p_now q_now : Box (Unit {0}) Global)
-    → node ≡ Pair' p low q high low_head high_head → before ≡ Unread → IsTree node → IsAhead low_head low lists most low_head_one low_one lists_one most_one → IsAhead high_head high lists_one most_one high_head_two high_two lists_two most_two
+    → node ≡ Pair' p low q high low_head high_head → before ≡ Unread → IsMergeTree node → IsAhead low_head low lists most low_head_one low_one lists_one most_one → IsAhead high_head high lists_one most_one high_head_two high_two lists_two most_two
     → IsNextOf low_head_one high_head_two low_head_now high_head_now head → IsAhead before node lists most head (Pair' p_now low_one q_now high_two low_head_now high_head_now) lists_two most_two
 ahead_of_pair node low high low_one high_two low_head high_head low_head_one high_head_two low_head_now high_head_now before head lists lists_one lists_two most most_one most_two p q p_now q_now is unread tree a b next =
-    let parts : IsTree (Pair' p low q high low_head high_head) = subst IsTree is tree in
+    let parts : IsMergeTree (Pair' p low q high low_head high_head) = subst IsMergeTree is tree in
     subst (λ n. IsAhead before n lists most head (Pair' p_now low_one q_now high_two low_head_now high_head_now) lists_two most_two) (sym is)
     (ahead_pair low high low_one high_two low_head high_head low_head_one high_head_two low_head_now high_head_now before head lists lists_one lists_two most most_one most_two unread parts.0 parts.1 parts.2 a b next p q p_now q_now)
 
@@ -205,8 +205,8 @@ behind_nothing buffer (Some points) e = ap (λ b. behind b (Some points)) e
 fresh_heads : (low_head high_head : Head) (a b : Option (List Point)) (lists : List (List Point)) → low_head ≡ Unread → high_head ≡ Unread → IsToldMergeOf lists (merge_told (told_with Unread a) (told_with Unread b)) → IsToldMergeOf lists (merge_told (told_with low_head a) (told_with high_head b))
 fresh_heads low_head high_head a b lists el eh h = rw (el, eh) h
 
-pub fresh_merges : (node : Node) (at : ℕ → Option (List Point)) (lists : List (List Point)) → IsTree node → IsFresh node → length lists ≡ count_of node → All IsRising lists
-    → ((k : ℕ) → k < count_of node → at (first_of node + k) ≡ Some (get_or lists k [])) → IsToldMergeOf lists (node_left node at)
+pub fresh_merges : (node : Node) (at : ℕ → Option (List Point)) (lists : List (List Point)) → IsMergeTree node → IsUnreadNode node → length lists ≡ count_of node → All IsRising lists
+    → ((k : ℕ) → k < count_of node → at (first_source node + k) ≡ Some (get_or lists k [])) → IsToldMergeOf lists (node_left node at)
 fresh_merges (Leaf source buffer) at lists tree fresh long rising told =
     one_list lists (behind buffer.items (at source)) long rising (behind_nothing buffer.items (at source) fresh ∙ ap at (let e : source ≡ source + 0 = omega arith in e) ∙ told 0 (omega arith))
 fresh_merges (Pair' p low q high low_head high_head) at lists tree fresh long rising told =
@@ -219,17 +219,17 @@ fresh_merges (Pair' p low q high low_head high_head) at lists tree fresh long ri
     let a = fresh_merges low at (take m lists) tree.0 fresh.0 low_long (All-take IsRising m lists rising)
     (λ k l. told k (omega (arith, l)) ∙ ap (λ x. Some x) (sym (get_or-take m lists k [] l))) in
     let b = fresh_merges high at (drop m lists) tree.1 fresh.1 (omega (arith, high_long, long)) (All-drop IsRising m lists rising)
-    (λ k l. let place : first_of high + k ≡ first_of low + (m + k) = omega (arith, side) in ap at place ∙ told (m + k) (omega (arith, l)) ∙ ap (λ x. Some x) (sym (get_or-drop m lists k []))) in
+    (λ k l. let place : first_source high + k ≡ first_source low + (m + k) = omega (arith, side) in ap at place ∙ told (m + k) (omega (arith, l)) ∙ ap (λ x. Some x) (sym (get_or-drop m lists k []))) in
     fresh_heads low_head high_head (node_left low at) (node_left high at) lists fresh.2 fresh.3
     (subst (λ ls. IsToldMergeOf ls (merge_told (told_with Unread (node_left low at)) (told_with Unread (node_left high at)))) (take-append-drop m lists) (told_of_both (take m lists) (drop m lists) (node_left low at) (node_left high at) a b))
 
 told_at : (lists : List (List Point)) (k : ℕ) → k < length lists → left_at (map Some lists) k ≡ Some (get_or lists k [])
 told_at lists k l = get_or-map Some lists k [] None l
 
-pub new_merges : (node : Node) (lists : List (List Point)) (sources : ℕ) → IsTree node → IsFresh node → first_of node ≡ 0 → count_of node ≡ sources → length lists ≡ sources → All IsRising lists → IsToldMergeOf lists (root_left (Some node) (map Some lists))
+pub new_merges : (node : Node) (lists : List (List Point)) (sources : ℕ) → IsMergeTree node → IsUnreadNode node → first_source node ≡ 0 → count_of node ≡ sources → length lists ≡ sources → All IsRising lists → IsToldMergeOf lists (root_left (Some node) (map Some lists))
 new_merges node lists sources tree fresh first count long rising =
     fresh_merges node (left_at (map Some lists)) lists tree fresh (long ∙ sym count) rising
-    (λ k l. let place : first_of node + k ≡ k = omega (arith, first) in ap (left_at (map Some lists)) place ∙ told_at lists k (omega (arith, l, count, long)))
+    (λ k l. let place : first_source node + k ≡ k = omega (arith, first) in ap (left_at (map Some lists)) place ∙ told_at lists k (omega (arith, l, count, long)))
 
 pub none_merges : (lists : List (List Point)) (sources : ℕ) → sources ≡ 0 → length lists ≡ sources → IsToldMergeOf lists (root_left None (map Some lists))
 none_merges [] sources none long = merge_of_none
@@ -237,7 +237,7 @@ none_merges (points ∷ more) sources none long = absurd (omega (arith, none, lo
 
 -- ---- the state of a lazy merge
 
-pub root_kept : (sources : ℕ) (node node_now : Node) (lists lists_now : Lists) (most most_now : ℕ) (point : Option Point) → IsRoot sources (Some node) → IsPulled node lists most point node_now lists_now most_now → IsRoot sources (Some node_now)
+pub root_kept : (sources : ℕ) (node node_now : Node) (lists lists_now : Lists) (most most_now : ℕ) (point : Option Point) → IsRootNode sources (Some node) → IsPulled node lists most point node_now lists_now most_now → IsRootNode sources (Some node_now)
 root_kept sources node node_now lists lists_now most most_now point root p =
     let f = p.first in
     let k = p.count in

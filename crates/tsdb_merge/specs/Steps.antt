@@ -65,25 +65,25 @@ abbrev pub count_of : Node → ℕ
 count_of (Leaf source buffer) = 1
 count_of (Pair' p low q high low_head high_head) = count_of low + count_of high
 
-abbrev pub first_of : Node → ℕ
-first_of (Leaf source buffer) = source
-first_of (Pair' p low q high low_head high_head) = first_of low
+abbrev pub first_source : Node → ℕ
+first_source (Leaf source buffer) = source
+first_source (Pair' p low q high low_head high_head) = first_source low
 
 -- a tree, with what was read ahead of it, has at most 1,000 points for each source
-abbrev pub IsWithin : Head → Node → Type 0
-IsWithin head node = head_held head + node_held node ≤ 1000 * count_of node
+abbrev pub IsWithinBound : Head → Node → Type 0
+IsWithinBound head node = head_held head + node_held node ≤ 1000 * count_of node
 
 -- the sources of a tree stand side by side, and each part of it is within its bound
-abbrev pub IsTree : Node → Type 0
-IsTree (Leaf source buffer) = Unit {0}
-IsTree (Pair' p low q high low_head high_head) = IsTree low × IsTree high
-    × (first_of high ≡ first_of low + count_of low) × IsWithin low_head low × IsWithin high_head high
+abbrev pub IsMergeTree : Node → Type 0
+IsMergeTree (Leaf source buffer) = Unit {0}
+IsMergeTree (Pair' p low q high low_head high_head) = IsMergeTree low × IsMergeTree high
+    × (first_source high ≡ first_source low + count_of low) × IsWithinBound low_head low × IsWithinBound high_head high
 
 -- nothing was read yet
-abbrev pub IsFresh : Node → Type 0
-IsFresh (Leaf source buffer) = buffer.items ≡ []
-IsFresh (Pair' p low q high low_head high_head) =
-    IsFresh low × IsFresh high × (low_head ≡ Unread) × (high_head ≡ Unread)
+abbrev pub IsUnreadNode : Node → Type 0
+IsUnreadNode (Leaf source buffer) = buffer.items ≡ []
+IsUnreadNode (Pair' p low q high low_head high_head) =
+    IsUnreadNode low × IsUnreadNode high × (low_head ≡ Unread) × (high_head ≡ Unread)
 
 -- sources outside of a part of the list have left what they had
 pub record KeepsOutside (first count : ℕ) (before after : List (Option (List Point))) : Type 0 where
@@ -97,12 +97,12 @@ pub record IsAhead (head : Head) (node : Node) (lists : List (Option (List Point
   pub left : (points : List Point) → told_with head (node_left node (left_at lists)) ≡ Some points
       → told_with head_now (node_left node_now (left_at lists_now)) ≡ Some points
   pub ready : head_now ≢ Unread
-  pub tree : IsTree node_now
-  pub within : IsWithin head_now node_now
-  pub first : first_of node_now ≡ first_of node
+  pub tree : IsMergeTree node_now
+  pub within : IsWithinBound head_now node_now
+  pub first : first_source node_now ≡ first_source node
   pub count : count_of node_now ≡ count_of node
   pub fewer : head_held head_now + node_held node_now + most_now ≤ head_held head + node_held node + most
-  pub outside : KeepsOutside (first_of node) (count_of node) lists lists_now
+  pub outside : KeepsOutside (first_source node) (count_of node) lists lists_now
 
 -- the next point of two heads was taken
 pub record IsNextOf (low high low_now high_now next : Head) : Type 0 where
@@ -122,9 +122,9 @@ abbrev pub root_held : Option Node → ℕ
 root_held None = 0
 root_held (Some node) = node_held node
 
-abbrev pub IsRoot : ℕ → Option Node → Type 0
-IsRoot sources None = Unit {0}
-IsRoot sources (Some node) = IsTree node × (first_of node ≡ 0) × (count_of node ≡ sources)
+abbrev pub IsRootNode : ℕ → Option Node → Type 0
+IsRootNode sources None = Unit {0}
+IsRootNode sources (Some node) = IsMergeTree node × (first_source node ≡ 0) × (count_of node ≡ sources)
     × (node_held node ≤ 1000 * sources)
 
 -- the last point of a buffer was taken
@@ -134,7 +134,7 @@ IsPopped before after End = (before ≡ []) × (after ≡ [])
 IsPopped before after (Next point) = before ≡ after ++ point ∷ []
 
 -- the next point of a source was read: nothing is lost, and the other sources have left what they had
-pub record IsRead (source : ℕ) (buffer : List Point) (lists : List (Option (List Point))) (most : ℕ)
+pub record IsPointRead (source : ℕ) (buffer : List Point) (lists : List (Option (List Point))) (most : ℕ)
     (head : Head) (buffer_now : List Point) (lists_now : List (Option (List Point))) (most_now : ℕ) : Type 0 where
   pub left : (points : List Point) → behind buffer (left_at lists source) ≡ Some points
       → told_with head (behind buffer_now (left_at lists_now source)) ≡ Some points
@@ -158,13 +158,13 @@ pub record IsPulled (node : Node) (lists : List (Option (List Point))) (most : �
     (node_now : Node) (lists_now : List (Option (List Point))) (most_now : ℕ) : Type 0 where
   pub takes : TakesTold (node_left node (left_at lists)) point
       (left_behind point (node_left node_now (left_at lists_now)))
-  pub tree : IsTree node_now
+  pub tree : IsMergeTree node_now
   pub within : node_held node_now ≤ 1000 * count_of node_now
-  pub first : first_of node_now ≡ first_of node
+  pub first : first_source node_now ≡ first_source node
   pub count : count_of node_now ≡ count_of node
   pub fewer : length (option_to_list point) + (node_held node_now + most_now) ≤ node_held node + most
 
 -- a point was put into an empty list, or there was none
-abbrev pub IsPut : Option Point → Bool → List Point → Type 0
-IsPut None more points = (more ≡ false) × (points ≡ [])
-IsPut (Some point) more points = (more ≡ true) × (points ≡ point ∷ [])
+abbrev pub IsPointPut : Option Point → Bool → List Point → Type 0
+IsPointPut None more points = (more ≡ false) × (points ≡ [])
+IsPointPut (Some point) more points = (more ≡ true) × (points ≡ point ∷ [])

@@ -5,7 +5,7 @@ ghost use Rattle.std.specs.Option.{option_to_list};
 ghost use Rattle.tsdb_base.specs.declared.point.Point.{Point};
 ghost use Rattle.tsdb_merge.specs.Causes.{HasSomeCause, NoneFell, SomeHasRisen};
 ghost use Rattle.tsdb_merge.specs.Merging.{lazy_held, lazy_left};
-ghost use Rattle.tsdb_merge.specs.Steps.{IsPulled, IsRoot, IsTree, count_of, first_of, node_held};
+ghost use Rattle.tsdb_merge.specs.Steps.{IsPulled, IsRootNode, IsMergeTree, count_of, first_source, node_held};
 ghost use Rattle.tsdb_base.specs.Points.{IsRising};
 ghost use Rattle.tsdb_merge.specs.Winners.{IsToldMergeOf, TakesTold};
 ghost use Rattle.tsdb_merge.specs.declared.points.PullFault.{PullFault};
@@ -34,7 +34,7 @@ pub struct LazyMerge {
 impl Model for LazyMerge {
     ghost use Rattle.std.specs.Prelude.{◌<◌, ◌^◌};
     ghost use Rattle.tsdb_merge.specs.Merging.{LazyMerging};
-    ghost use Rattle.tsdb_merge.specs.Steps.{IsRoot};
+    ghost use Rattle.tsdb_merge.specs.Steps.{IsRootNode};
     ghost use Rattle.tsdb_merge.specs.contracts.tree.Node as node;
     ghost use Rattle.std.specs.Coded.{codes};
 
@@ -44,14 +44,14 @@ impl Model for LazyMerge {
 
     ghost view = { λ merge. record { sources = merge.sources; root = merge.root; fault = merge.fault } };
 
-    ghost invariant = { λ merge. IsRoot merge.sources merge.root × (merge.sources < 2 ^ 32) };
+    ghost invariant = { λ merge. IsRootNode merge.sources merge.root × (merge.sources < 2 ^ 32) };
 }
 
 /// Takes the next point of a whole tree.
 fn pull_root<Q: Supply>(root: &mut Node, supply: &mut Q) -> Result<Option<Point>, PullFault>
-    requires tree { IsTree root.old }
+    requires tree { IsMergeTree root.old }
     requires within { node_held root.old ≤ 1000 * count_of root.old }
-    requires sources { first_of root.old + count_of root.old ≤ length (Q.left supply.old) }
+    requires sources { first_source root.old + count_of root.old ≤ length (Q.left supply.old) }
     ensures pulled { IfOk result (λ point.
         IsPulled root.old (Q.left supply.old) (Q.most supply.old)
         point root.new (Q.left supply.new) (Q.most supply.new)) }
@@ -134,7 +134,7 @@ impl LazyMerge {
     /// The tree of the merge, for a caller that walks it by itself.
     pub fn into_root(self) -> Option<Node>
         ensures root { result ≡ self.root }
-        ensures tree { IsRoot self.sources result }
+        ensures tree { IsRootNode self.sources result }
         ensures few { self.sources < 2 ^ 32 }
     {
         self.root

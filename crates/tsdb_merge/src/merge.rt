@@ -4,7 +4,7 @@ ghost use Rattle.std.specs.Prelude.{IfOk, OnOk, IfErr, Some, None, Err};
 ghost use Rattle.std.specs.Option.{option_to_list};
 ghost use Rattle.tsdb_base.specs.declared.point.Point.{Point};
 ghost use Rattle.tsdb_merge.specs.Causes.{HasSomeCause, NoneFell, SomeHasRisen};
-ghost use Rattle.tsdb_merge.specs.Steps.{IsPut};
+ghost use Rattle.tsdb_merge.specs.Steps.{IsPointPut};
 ghost use Rattle.tsdb_merge.specs.Supplies.{IsFilled, KeepsOthers, Moves, left_at};
 ghost use Rattle.tsdb_merge.specs.Winners.{HasNoneAt, IsMergeOf, IsToldMergeOf, TakesTold};
 ghost use Rattle.tsdb_merge.specs.declared.points.PullFault.{PullFault};
@@ -25,7 +25,7 @@ struct Sources<P> {
 /// Puts a point into an empty list.
 fn put(point: Option<Point>, into: &mut Vec<Point>) -> Result<bool, PullFault>
     requires empty { into.old.items ≡ [] }
-    ensures put { IfOk result (λ more. IsPut point more into.new.items) }
+    ensures put { IfOk result (λ more. IsPointPut point more into.new.items) }
     ensures memory { IfErr result (λ fault. fault ≡ PullFault.Memory) }
 {
     match point {

@@ -2,9 +2,9 @@
 ghost use Rattle.std.specs.Prelude.{◌≡◌, ◌≢◌, ◌+◌, ◌*◌, ◌<◌, ◌≤◌, ◌^◌, [], IfOk, length, reverse};
 ghost use Rattle.tsdb_merge.specs.Causes.{HasSomeCause};
 ghost use Rattle.tsdb_merge.specs.declared.head.Head.TheVariants.{Unread};
-ghost use Rattle.tsdb_merge.specs.Steps.{IsAhead, IsFresh, IsPopped, IsRead, IsTree, IsWithin};
+ghost use Rattle.tsdb_merge.specs.Steps.{IsAhead, IsUnreadNode, IsPopped, IsPointRead, IsMergeTree, IsWithinBound};
 ghost use Rattle.tsdb_merge.specs.Supplies.{IsFilled, KeepsOthers, Moves, left_at};
-ghost use Rattle.tsdb_merge.specs.Steps.{count_of, first_of, head_held, node_held};
+ghost use Rattle.tsdb_merge.specs.Steps.{count_of, first_source, head_held, node_held};
 
 use crate::head::{Head, take_next};
 use crate::points::PullFault;
@@ -70,7 +70,7 @@ fn next_of<Q: Supply>(
     requires source { source < length (Q.left supply.old) }
     requires within { length buffer.old.items ≤ 1000 }
     ensures read { IfOk result (λ head.
-        IsRead source buffer.old.items (Q.left supply.old) (Q.most supply.old)
+        IsPointRead source buffer.old.items (Q.left supply.old) (Q.most supply.old)
         head buffer.new.items (Q.left supply.new) (Q.most supply.new)) }
     ensures sources { length (Q.left supply.new) ≡ length (Q.left supply.old) }
     ensures kept { Q.keeps supply.old supply.new }
@@ -92,9 +92,9 @@ pub fn read_ahead<Q: Supply>(
     head: &mut Head,
     supply: &mut Q,
 ) -> Result<(), PullFault>
-    requires tree { IsTree node.old }
-    requires within { IsWithin head.old node.old }
-    requires sources { first_of node.old + count_of node.old ≤ length (Q.left supply.old) }
+    requires tree { IsMergeTree node.old }
+    requires within { IsWithinBound head.old node.old }
+    requires sources { first_source node.old + count_of node.old ≤ length (Q.left supply.old) }
     ensures ahead { IfOk result (λ _.
         IsAhead head.old node.old (Q.left supply.old) (Q.most supply.old)
         head.new node.new (Q.left supply.new) (Q.most supply.new)) }
@@ -128,9 +128,9 @@ pub fn read_ahead<Q: Supply>(
 pub fn tree(alloc: Global, first: usize, count: usize) -> Result<Node, Memory>
     requires some { 0 < count }
     requires last { first + count < 2 ^ 64 }
-    ensures tree { IfOk result (λ node. IsTree node) }
-    ensures fresh { IfOk result (λ node. IsFresh node) }
-    ensures first { IfOk result (λ node. first_of node ≡ first) }
+    ensures tree { IfOk result (λ node. IsMergeTree node) }
+    ensures fresh { IfOk result (λ node. IsUnreadNode node) }
+    ensures first { IfOk result (λ node. first_source node ≡ first) }
     ensures count { IfOk result (λ node. count_of node ≡ count) }
     ensures held { IfOk result (λ node. node_held node ≡ 0) }
 {

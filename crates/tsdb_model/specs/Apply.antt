@@ -21,7 +21,7 @@ use Rattle.tsdb_model.specs.declared.command.Literal.TheVariants as literal
 use Rattle.tsdb_model.specs.declared.reply.Reply.{Reply}
 use Rattle.tsdb_model.specs.declared.reply.Reply.TheVariants.{Plain, Lines, Values}
 use Rattle.tsdb_model.specs.Folds.{aggregate_of, in_order, rows, within}
-use Rattle.tsdb_model.specs.World.{World, Series, Points, change, cut, new_series, points_of, put}
+use Rattle.tsdb_model.specs.World.{World, Series, PointMap, change, cut, new_series, points_of_series, put}
 use Rattle.tsdb_path.specs.Nodes.{child_of}
 
 -- a number of 32 bits
@@ -73,18 +73,18 @@ put_cells world device time (cell ∷ cells) =
     put_cells (change world (child_of device cell.measurement) (put_literal time cell.value)) device time cells
 
 -- SELECT: the points in the range of the items' series, in the order of the items
-abbrev pub columns_of : World → List ℕ → List Item → Range → List Points
+abbrev pub columns_of : World → List ℕ → List Item → Range → List PointMap
 columns_of world device items range =
-    map (λ item. within range (points_of (series_of world device item.measurement))) items
+    map (λ item. within range (points_of_series (series_of world device item.measurement))) items
 
 -- the aggregate that an item asks for, over the points in the range
-abbrev pub item_value : Option Aggregate → Points → Option Value
+abbrev pub item_value : Option Aggregate → PointMap → Option Value
 item_value None points = None
 item_value (Some aggregate) points = aggregate_of aggregate (in_order points)
 
 abbrev pub item_values : World → List ℕ → List Item → Range → List (Option Value)
 item_values world device items range =
-    map (λ item. item_value item.aggregate (within range (points_of (series_of world device item.measurement)))) items
+    map (λ item. item_value item.aggregate (within range (points_of_series (series_of world device item.measurement)))) items
 
 -- values of this type are not in the order of numbers
 abbrev pub is_unordered : DataType → Bool

@@ -12,33 +12,33 @@ use Rattle.tsdb_base.specs.declared.point.Range.{Range}
 use Rattle.tsdb_base.specs.declared.value.Value.{Value}
 use Rattle.tsdb_base.specs.declared.value.Value.TheVariants as value
 use Rattle.tsdb_model.specs.declared.reply.Line.{Line}
-use Rattle.tsdb_model.specs.World.{Points, is_in}
+use Rattle.tsdb_model.specs.World.{PointMap, is_in}
 
 -- the points in a range
-abbrev pub within : Range → Points → Points
+abbrev pub within : Range → PointMap → PointMap
 within range points = retain_keys points (is_in range)
 
 -- the points, in order of time
-abbrev pub in_order : Points → List Point
+abbrev pub in_order : PointMap → List Point
 in_order points = map (λ entry. record { time = entry.0; value = entry.1 }) (entries points)
 
 -- each time at which a column has a value, once, in order
-abbrev pub times_of : List Points → List ℤ
-times_of columns = keys (from_entries {R = int_cmp} (flat_map entries columns))
+abbrev pub line_times : List PointMap → List ℤ
+line_times columns = keys (from_entries {R = int_cmp} (flat_map entries columns))
 
 -- what the columns have at a time
-abbrev pub line_at : List Points → ℤ → Line
+abbrev pub line_at : List PointMap → ℤ → Line
 line_at columns time = record { time = time; values = map (λ points. get points time) columns }
 
 -- a line for each time at which a column has a value, in order of time
-abbrev pub rows : List Points → List Line
-rows columns = map (line_at columns) (times_of columns)
+abbrev pub rows : List PointMap → List Line
+rows columns = map (line_at columns) (line_times columns)
 
 -- the number that a value is; a boolean and a text are none
-abbrev pub number_of : Value → Option ℤ
-number_of (value.I32 number) = Some number
-number_of (value.I64 number) = Some number
-number_of value = None
+abbrev pub as_number : Value → Option ℤ
+as_number (value.I32 number) = Some number
+as_number (value.I64 number) = Some number
+as_number value = None
 
 abbrev pub is_number_below : Option ℤ → Option ℤ → Bool
 is_number_below (Some a) (Some b) = int_lt a b
@@ -46,7 +46,7 @@ is_number_below a b = false
 
 -- both are numbers, and the first is less than the second
 abbrev pub is_less : Value → Value → Bool
-is_less a b = is_number_below (number_of a) (number_of b)
+is_less a b = is_number_below (as_number a) (as_number b)
 
 -- the value itself, where it is a number
 abbrev pub if_number : Option ℤ → Value → Option Value
@@ -55,10 +55,10 @@ if_number (Some number) value = Some value
 
 -- those of the points' values that are numbers
 abbrev pub numbers : List Point → List Value
-numbers points = filter_map (λ point. if_number (number_of point.value) point.value) points
+numbers points = filter_map (λ point. if_number (as_number point.value) point.value) points
 
-abbrev pub lesser : Value → Value → Value
-lesser a b = if is_less b a then b else a
+abbrev pub lesser_value : Value → Value → Value
+lesser_value a b = if is_less b a then b else a
 
 abbrev pub greater : Value → Value → Value
 greater a b = if is_less a b then b else a
@@ -69,7 +69,7 @@ abbrev pub aggregate_of : Aggregate → List Point → Option Value
 aggregate_of Count points = Some (value.I64 (pos (length points)))
 aggregate_of FirstValue points = option_map (λ point. point.value) (slice_get points 0)
 aggregate_of LastValue points = option_map (λ point. point.value) (slice_get points (length points - 1))
-aggregate_of MinValue points = reduce lesser (numbers points)
+aggregate_of MinValue points = reduce lesser_value (numbers points)
 aggregate_of MaxValue points = reduce greater (numbers points)
 aggregate_of MinTime points = option_map (λ point. value.I64 point.time) (slice_get points 0)
 aggregate_of MaxTime points = option_map (λ point. value.I64 point.time) (slice_get points (length points - 1))

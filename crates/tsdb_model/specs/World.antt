@@ -8,13 +8,13 @@ use Rattle.tsdb_base.specs.declared.value.DataType.{DataType}
 use Rattle.tsdb_base.specs.declared.value.Value.{Value}
 
 -- values by their times
-abbrev pub Points : Type 0
-Points = FinMap int_cmp Value
+abbrev pub PointMap : Type 0
+PointMap = FinMap int_cmp Value
 
 -- a series: the type of its values, and its points
 pub record Series : Type 0 where
   pub data_type : DataType
-  pub points : Points
+  pub points : PointMap
 
 -- the series that are there, by the bytes of their paths
 abbrev pub World : Type 0
@@ -48,13 +48,13 @@ abbrev pub change : World → List ℕ → (Series → Series) → World
 change world path f = change_series world path f (get world path)
 
 -- the points of a series, and none where it is not there
-abbrev pub points_of : Option Series → Points
-points_of None = empty
-points_of (Some series) = series.points
+abbrev pub points_of_series : Option Series → PointMap
+points_of_series None = empty
+points_of_series (Some series) = series.points
 
 -- the value that a series has at a time, if there is one
 abbrev pub value_at : World → List ℕ → ℤ → Option Value
-value_at world path time = get (points_of (get world path)) time
+value_at world path time = get (points_of_series (get world path)) time
 
 -- no series has a point
 abbrev pub HasNoPoint : World → Type 0

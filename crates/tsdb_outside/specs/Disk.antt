@@ -72,8 +72,8 @@ WhereTold relation (Some old) None = ⊥
 WhereTold relation (Some old) (Some new) = relation old new
 
 -- what a stop may leave after a step is what it might have left before it, after that step
-abbrev pub Follows : {X : Type 0} → (X → X → Type 0) → (X → Type 0) → (X → Type 0) → Type 0
-Follows {X} step old new = (image : X) → new image → (before : X) × old before × step before image
+abbrev pub FollowsStep : {X : Type 0} → (X → X → Type 0) → (X → Type 0) → (X → Type 0) → Type 0
+FollowsStep {X} step old new = (image : X) → new image → (before : X) × old before × step before image
 
 -- a stop leaves nothing that it could not have left before
 abbrev pub NothingNew : {X : Type 0} → (X → Type 0) → (X → Type 0) → Type 0
@@ -99,5 +99,5 @@ pub record Keeps (old new : DiskState) : Type 0 where
 -- What a write of n bytes may do, whether it succeeds or fails.
 pub record MayWrite (slot : Slot) (at n : ℕ) (old new : DiskState) : Type 0 where
   pub torn : WhereTold (TornIn slot at n) old.seen new.seen
-  pub crash : Follows (TornIn slot at n) old.may_leave new.may_leave
+  pub crash : FollowsStep (TornIn slot at n) old.may_leave new.may_leave
   pub time : Elapses old new new.may_leave

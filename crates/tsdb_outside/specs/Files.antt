@@ -34,8 +34,8 @@ abbrev pub is_number : ℕ → Bool
 is_number n = nat_le 1 n && nat_lt n (2 ^ 63)
 
 -- the numbers of these files
-abbrev pub numbers_of : List StoredFile → List ℕ
-numbers_of files = map (λ (file : StoredFile). file.number) files
+abbrev pub stored_file_numbers : List StoredFile → List ℕ
+stored_file_numbers files = map (λ (file : StoredFile). file.number) files
 
 -- the same of a list of numbers, as plain numbers
 abbrev pub plain_numbers : List FileNumber → List ℕ

@@ -26,7 +26,8 @@ ghost use Rattle.std.specs.List.Sorted.{IsStrictlyIncreasing};
 ghost use Rattle.tsdb_base.specs.Causes.{Rose};
 ghost use Rattle.tsdb_outside.specs.Causes.{HasCause, HasStoreCause};
 ghost use Rattle.tsdb_outside.specs.Disk.{WhereTold};
-ghost use Rattle.tsdb_outside.specs.Files.{Store, NamedFile, StoredFile, IsFileNumber, is_number, Names, numbers_of};
+ghost use Rattle.tsdb_outside.specs.Files.{Store, NamedFile, StoredFile, IsFileNumber, is_number, Names};
+ghost use Rattle.tsdb_outside.specs.Files.{stored_file_numbers};
 ghost use Rattle.tsdb_outside.specs.Files.{plain_numbers, TakesOut, PutsBack, Tells};
 ghost use Rattle.tsdb_outside.specs.Limits.{FitsSlot};
 
@@ -141,7 +142,7 @@ pub trait Files: Counted + Send {
         ensures numbers { IfOk result (λ list. All IsFileNumber (plain_numbers list.items)) }
         ensures rising { IfOk result (λ list. IsStrictlyIncreasing (plain_numbers list.items)) }
         ensures exact { IfOk result (λ list. IfSome (Self.at_rest self.old) (λ files. (n : ℕ) → IsFileNumber n
-            → (Contains (plain_numbers list.items) n ↔ Contains (numbers_of files) n))) }
+            → (Contains (plain_numbers list.items) n ↔ Contains (stored_file_numbers files) n))) }
         ensures same { Self.at_rest self.new ≡ Self.at_rest self.old }
         ensures same_store { store self.new ≡ store self.old }
         ensures cause { HasStoreCause (Self.faults self.old) (Self.faults self.new) result };
@@ -150,7 +151,7 @@ pub trait Files: Counted + Send {
     /// not there.
     fn fetch(&mut self, number: FileNumber) -> Result<Option<Self::Sealed>, StoreFault>
         ensures none { IfOk result (λ found. MatchOption found
-            (IfSome (Self.at_rest self.old) (λ files. ¬ Contains (numbers_of files) number.0))
+            (IfSome (Self.at_rest self.old) (λ files. ¬ Contains (stored_file_numbers files) number.0))
             (λ sealed. WhereTold (TakesOut (Self.Sealed.file sealed)) (Self.at_rest self.old) (Self.at_rest self.new))) }
         ensures number { IfOk result (λ found. IfSome found (λ sealed.
             (Self.Sealed.file sealed).number ≡ number.0 × Self.Sealed.rights sealed ≡ 0)) }

@@ -9,7 +9,7 @@ use Rattle.tsdb_index.specs.declared.index.PageEntry.{PageEntry}
 use Rattle.tsdb_pages.specs.declared.tree.Page.{Page}
 use Rattle.tsdb_pages.specs.declared.tree.Chunk.{Chunk}
 use Rattle.tsdb_pages.specs.declared.tree.Group.{Group}
-use Rattle.tsdb_pages.specs.File.{AreEntries, AreEntriesOf, ArePageEntries, IsEntry, IsPageEntry, chunk_field, group_field, group_head, page_field}
+use Rattle.tsdb_pages.specs.File.{AreEntries, AreEntriesOf, ArePageEntries, IsChunkEntry, IsPageEntry, chunk_field, group_field, group_head, page_field}
 use Rattle.tsdb_pages.specs.Trees.{chunks_of}
 
 -- ---- one more at the end
@@ -35,12 +35,12 @@ pages_push encoding place (p ∷ ps) (e ∷ es) page entry are is =
     (are.0, pages_push encoding (place + length (page_field encoding p)) ps es page entry are.1 (subst (λ n. IsPageEntry n page entry) (behind (page_field encoding) place p ps) is))
 
 pub chunks_push : (device : List ℕ) (place : ℕ) (chunks : List Chunk) (entries : List IndexEntry) (chunk : Chunk) (entry : IndexEntry) → AreEntries device place chunks entries
-    → IsEntry device (place + length (flat_map chunk_field chunks)) chunk entry → AreEntries device place (chunks ++ chunk ∷ []) (entries ++ entry ∷ [])
-chunks_push device place [] [] chunk entry are is = (subst (λ n. IsEntry device n chunk entry) (no_more place) is, tt)
+    → IsChunkEntry device (place + length (flat_map chunk_field chunks)) chunk entry → AreEntries device place (chunks ++ chunk ∷ []) (entries ++ entry ∷ [])
+chunks_push device place [] [] chunk entry are is = (subst (λ n. IsChunkEntry device n chunk entry) (no_more place) is, tt)
 chunks_push device place [] (e ∷ es) chunk entry are is = absurd are
 chunks_push device place (c ∷ cs) [] chunk entry are is = absurd are
 chunks_push device place (c ∷ cs) (e ∷ es) chunk entry are is =
-    (are.0, chunks_push device (place + length (chunk_field c)) cs es chunk entry are.1 (subst (λ n. IsEntry device n chunk entry) (behind chunk_field place c cs) is))
+    (are.0, chunks_push device (place + length (chunk_field c)) cs es chunk entry are.1 (subst (λ n. IsChunkEntry device n chunk entry) (behind chunk_field place c cs) is))
 
 pub groups_push : (place : ℕ) (groups : List Group) (lists : List (List IndexEntry)) (group : Group) (own : List IndexEntry) → AreEntriesOf place groups lists
     → AreEntries group.device (place + length (flat_map group_field groups) + length (group_head group)) group.chunks own → AreEntriesOf place (groups ++ group ∷ []) (lists ++ own ∷ [])

@@ -23,7 +23,7 @@ use Rattle.tsdb_pages.specs.declared.tree.Chunk.{Chunk}
 use Rattle.tsdb_pages.specs.declared.tree.Group.{Group}
 use Rattle.tsdb_pages.specs.declared.tree.Tree.{Tree}
 use Rattle.tsdb_pages.specs.Pages.{ArePoints, IsInRange, body, times_field, times_of, values_of}
-use Rattle.tsdb_pages.specs.Trees.{HasParts, IsChunk, IsGroup, IsMade, IsTree, chunks_of, points_of}
+use Rattle.tsdb_pages.specs.Trees.{HasParts, IsChunk, IsGroup, IsMade, IsTree, chunks_of, page_points}
 use Rattle.tsdb_pages.specs.File.{IsFile, chunk_field, data_field, group_field, head, magic, page_field}
 use Rattle.tsdb_pages.proofs.Bodies.{are_times, are_values, length_body, parts_same, points_same, short_times, short_values}
 use Rattle.tsdb_pages.proofs.Marks.{AreMarked, Begins, begins_append, marked_same, other_mark}
@@ -110,11 +110,11 @@ abbrev pub IsWholeChunk : Chunk → Type 0
 IsWholeChunk chunk = IsChunk chunk × HasParts chunk
 
 -- what holds of all points of pages holds of those of each page
-pub of_each_page : (pages : List Page) → All IsInRange (points_of pages) → AllByRecursion (λ page. All IsInRange page.points) pages
+pub of_each_page : (pages : List Page) → All IsInRange (page_points pages) → AllByRecursion (λ page. All IsInRange page.points) pages
 of_each_page [] ranges = tt
 of_each_page (p ∷ ps) ranges = (
-  λ k d lt. subst IsInRange (get_or_append_left p.points (points_of ps) d k lt) (ranges k d (omega (arith, lt, length-append p.points (points_of ps)))),
-  of_each_page ps (λ k d lt. subst IsInRange (get_or-append-add p.points (points_of ps) k d) (ranges (length p.points + k) d (omega (arith, lt, length-append p.points (points_of ps))))),
+  λ k d lt. subst IsInRange (get_or_append_left p.points (page_points ps) d k lt) (ranges k d (omega (arith, lt, length-append p.points (page_points ps)))),
+  of_each_page ps (λ k d lt. subst IsInRange (get_or-append-add p.points (page_points ps) k d) (ranges (length p.points + k) d (omega (arith, lt, length-append p.points (page_points ps))))),
 )
 
 both : {A : Type 0} (P Q : A → Type 0) (xs : List A) → AllByRecursion P xs → AllByRecursion Q xs → AllByRecursion (λ x. P x × Q x) xs
@@ -224,7 +224,7 @@ leaf_first : (leaves : List (List IndexEntry)) (rest : List ℕ) → index.AreLe
 leaf_first [] rest are = absurd are
 leaf_first (leaf ∷ leaves) rest are = begins_append 73 (index.leaf_field leaf ++ flat_map index.leaf_field leaves) rest (begins_append 73 (index.leaf_field leaf) (flat_map index.leaf_field leaves) (_, refl))
 
-pub index_first : (place root : ℕ) (entries : List IndexEntry) (bytes rest : List ℕ) → index.IsSpelling place root entries bytes → Begins 73 (bytes ++ rest)
+pub index_first : (place root : ℕ) (entries : List IndexEntry) (bytes rest : List ℕ) → index.IsIndexSpelling place root entries bytes → Begins 73 (bytes ++ rest)
 index_first place root entries bytes rest is =
     subst (λ l. Begins 73 (l ++ rest)) (sym is.bytes_are) (begins_append 73 (flat_map index.leaf_field is.leaves ++ index.root_field place is.leaves) rest (leaf_first is.leaves (index.root_field place is.leaves) is.stand.sizes))
 

@@ -17,8 +17,8 @@ use Rattle.tsdb_pages.specs.declared.tree.Page.{Page}
 use Rattle.tsdb_pages.specs.declared.tree.Chunk.{Chunk}
 use Rattle.tsdb_pages.specs.declared.tree.Group.{Group}
 use Rattle.tsdb_pages.specs.declared.tree.Tree.{Tree}
-use Rattle.tsdb_pages.specs.File.{AreEntries, AreEntriesIn, AreEntriesOf, ArePageEntries, IsEntry, IsFile, IsPageEntry, chunk_field, chunk_head, data_field, group_field, group_head, magic, page_field}
-use Rattle.tsdb_pages.specs.Trees.{points_of}
+use Rattle.tsdb_pages.specs.File.{AreEntries, AreEntriesIn, AreEntriesOf, ArePageEntries, IsChunkEntry, IsFile, IsPageEntry, chunk_field, chunk_head, data_field, group_field, group_head, magic, page_field}
+use Rattle.tsdb_pages.specs.Trees.{page_points}
 
 -- ---- one tree, one index
 
@@ -58,14 +58,14 @@ pages_same encoding place (page ∷ pages) (x ∷ xs) (y ∷ ys) is_x is_y =
     let others : xs ≡ ys = pages_same encoding (place + length (page_field encoding page)) pages xs ys is_x.1 is_y.1 in
     cc
 
-entry_same : (device : List ℕ) (place : ℕ) (chunk : Chunk) (a b : IndexEntry) → IsEntry device place chunk a → IsEntry device place chunk b → a ≡ b
+entry_same : (device : List ℕ) (place : ℕ) (chunk : Chunk) (a b : IndexEntry) → IsChunkEntry device place chunk a → IsChunkEntry device place chunk b → a ≡ b
 entry_same device place chunk a b is_a is_b =
     let d : a.device ≡ b.device = is_a.device_is ∙ sym is_b.device_is in
     let m : a.measurement ≡ b.measurement = is_a.measurement_is ∙ sym is_b.measurement_is in
     let t : a.data_type ≡ b.data_type = is_a.type_is ∙ sym is_b.type_is in
     let c : a.encoding ≡ b.encoding = is_a.encoding_is ∙ sym is_b.encoding_is in
     let p : a.place ≡ b.place = is_a.place_is ∙ sym is_b.place_is in
-    let s : a.stats ≡ b.stats = stats_same (points_of chunk.pages) a.stats b.stats is_a.stats is_b.stats in
+    let s : a.stats ≡ b.stats = stats_same (page_points chunk.pages) a.stats b.stats is_a.stats is_b.stats in
     let g : a.pages ≡ b.pages = pages_same chunk.encoding (place + length (chunk_head chunk)) chunk.pages a.pages b.pages is_a.pages is_b.pages in
     let made : List ℕ → List ℕ → DataType → Encoding → ℕ → Stats → List PageEntry → IndexEntry =
     λ device measurement data_type encoding place stats pages. record { device = device; measurement = measurement; data_type = data_type; encoding = encoding; place = place; stats = stats; pages = pages } in
@@ -107,7 +107,7 @@ pub one_file : (tree : Tree) (x y : List ℕ) → IsFile tree x → IsFile tree 
 one_file tree x y in_x in_y =
     let entries = same_entries tree in_x.entries in_y.entries in_x.say in_y.say in
     let same = one_spelling (length (data_field tree)) in_x.root in_y.root in_y.entries in_x.index_bytes in_y.index_bytes
-    (subst (λ (es : List IndexEntry). index.IsSpelling (length (data_field tree)) in_x.root es in_x.index_bytes) entries in_x.index_is) in_y.index_is in
+    (subst (λ (es : List IndexEntry). index.IsIndexSpelling (length (data_field tree)) in_x.root es in_x.index_bytes) entries in_x.index_is) in_y.index_is in
     in_x.bytes_are
     ∙ ap (λ (l : List ℕ). data_field tree ++ l ++ number64 in_x.root ++ magic) same.0
     ∙ ap (λ (n : ℕ). data_field tree ++ in_y.index_bytes ++ number64 n ++ magic) same.1

@@ -16,7 +16,7 @@ use Rattle.tsdb_pages.specs.declared.tree.Chunk.{Chunk}
 use Rattle.tsdb_pages.specs.declared.tree.Group.{Group}
 use Rattle.tsdb_pages.specs.declared.tree.Page.{Page}
 use Rattle.tsdb_base.specs.Points.{IsRising}
-use Rattle.tsdb_pages.specs.Trees.{chunks_of, points_of}
+use Rattle.tsdb_pages.specs.Trees.{chunks_of, page_points}
 
 -- ---- from each item and the next to all pairs
 
@@ -132,11 +132,11 @@ at_least_first xs first x is rising (k, l, at) =
     (cases_lt k 1)
 
 -- the points of pages and of one page more
-pub points_push : (pages : List Page) (i : ℕ) (page : Page) → i < length pages → page ≡ get_or pages i page → points_of (take (i + 1) pages) ≡ points_of (take i pages) ++ page.points
+pub points_push : (pages : List Page) (i : ℕ) (page : Page) → i < length pages → page ≡ get_or pages i page → page_points (take (i + 1) pages) ≡ page_points (take i pages) ++ page.points
 points_push pages i page l is =
-    ap points_of (take_more pages i page l ∙ ap (λ (p : Page). take i pages ++ p ∷ []) (sym is))
+    ap page_points (take_more pages i page l ∙ ap (λ (p : Page). take i pages ++ p ∷ []) (sym is))
     ∙ flat_map-append (λ (p : Page). p.points) (take i pages) (page ∷ [])
-    ∙ ap (λ (ps : List Point). points_of (take i pages) ++ ps) (append-nil page.points)
+    ∙ ap (λ (ps : List Point). page_points (take i pages) ++ ps) (append-nil page.points)
 
 -- the last of the points before a page is the last of the page before it
 end_of : (xs ys : List Point) (last : Point) → 0 < length ys → last ≡ get_or ys (length ys - 1) last → last ≡ get_or (xs ++ ys) (length (xs ++ ys) - 1) last
@@ -171,41 +171,41 @@ meets pages i before page last first front behind some here before_is page_is fr
 }
 
 pub page_more : (pages : List Page) (i : ℕ) (last first : Point) → Meet pages i last first → All (λ page. 0 < length page.points) pages → All (λ page. IsRising page.points) pages
-    → last.time <ℤ first.time → IsRising (points_of (take i pages)) → IsRising (points_of (take (i + 1) pages))
+    → last.time <ℤ first.time → IsRising (page_points (take i pages)) → IsRising (page_points (take (i + 1) pages))
 page_more pages i last first m full rising less so_far =
     let b = m.before in
     let p = m.page in
     let many : 0 < length b.points = subst (λ (q : Page). 0 < length q.points) (sym m.before-is) (full (i - 1) b (omega (arith, m.some, m.here))) in
     let up : IsRising p.points = subst (λ (q : Page). IsRising q.points) (sym m.page_is) (rising i p m.here) in
     let place : i - 1 + 1 ≡ i = omega (arith, m.some) in
-    let parts : points_of (take i pages) ≡ points_of (take (i - 1) pages) ++ b.points = subst (λ (n : ℕ). points_of (take n pages) ≡ points_of (take (i - 1) pages) ++ b.points) place (points_push pages (i - 1) b (omega (arith, m.some, m.here)) m.before-is) in
-    let end : last ≡ get_or (points_of (take i pages)) (length (points_of (take i pages)) - 1) last = rw parts (end_of (points_of (take (i - 1) pages)) b.points last many m.last-is) in
+    let parts : page_points (take i pages) ≡ page_points (take (i - 1) pages) ++ b.points = subst (λ (n : ℕ). page_points (take n pages) ≡ page_points (take (i - 1) pages) ++ b.points) place (points_push pages (i - 1) b (omega (arith, m.some, m.here)) m.before-is) in
+    let end : last ≡ get_or (page_points (take i pages)) (length (page_points (take i pages)) - 1) last = rw parts (end_of (page_points (take (i - 1) pages)) b.points last many m.last-is) in
     subst IsRising (sym (points_push pages i p m.here m.page_is))
-    (pairs_append (λ (x y : Point). x.time <ℤ y.time) (points_of (take i pages)) p.points so_far up
+    (pairs_append (λ (x y : Point). x.time <ℤ y.time) (page_points (take i pages)) p.points so_far up
     (λ x y in_x in_y.
-    let low : x.time ≤ℤ last.time = at_most_last (points_of (take i pages)) last x end so_far in_x in
+    let low : x.time ≤ℤ last.time = at_most_last (page_points (take i pages)) last x end so_far in_x in
     let high : first.time ≤ℤ y.time = at_least_first p.points first y m.first-is up in_y in
     omega (arith, ints)))
 
 pub pages_fall : (pages : List Page) (i : ℕ) (last first : Point) → Meet pages i last first → All (λ page. 0 < length page.points) pages
-    → first.time ≤ℤ last.time → IsRising (points_of pages) → ⊥
+    → first.time ≤ℤ last.time → IsRising (page_points pages) → ⊥
 pages_fall pages i last first m full less rising =
     let b = m.before in
     let p = m.page in
     let many : 0 < length b.points = subst (λ (q : Page). 0 < length q.points) (sym m.before-is) (full (i - 1) b (omega (arith, m.some, m.here))) in
     let more : 0 < length p.points = subst (λ (q : Page). 0 < length q.points) (sym m.page_is) (full i p m.here) in
     let place : i - 1 + 1 ≡ i = omega (arith, m.some) in
-    let parts : points_of (take i pages) ≡ points_of (take (i - 1) pages) ++ b.points = subst (λ (n : ℕ). points_of (take n pages) ≡ points_of (take (i - 1) pages) ++ b.points) place (points_push pages (i - 1) b (omega (arith, m.some, m.here)) m.before-is) in
-    let front : points_of (take (i + 1) pages) ≡ points_of (take i pages) ++ p.points = points_push pages i p m.here m.page_is in
-    let whole : points_of pages ≡ points_of (take i pages) ++ (p.points ++ points_of (drop (i + 1) pages)) =
-    sym (ap points_of (take-append-drop (i + 1) pages)) ∙ flat_map-append (λ (q : Page). q.points) (take (i + 1) pages) (drop (i + 1) pages)
-    ∙ ap (λ (ps : List Point). ps ++ points_of (drop (i + 1) pages)) front ∙ append_assoc (points_of (take i pages)) p.points (points_of (drop (i + 1) pages)) in
-    let in_front : Contains (points_of (take i pages)) last = subst (λ (ps : List Point). Contains ps last) (sym parts) (Contains-append_right (points_of (take (i - 1) pages)) b.points last (length b.points - 1, omega (arith, many), sym m.last-is)) in
-    let in_rest : Contains (p.points ++ points_of (drop (i + 1) pages)) first = Contains-append_left p.points (points_of (drop (i + 1) pages)) first (0, more, sym m.first-is) in
-    let step : last.time <ℤ first.time = pairs_across (λ (x y : Point). x.time <ℤ y.time) (points_of (take i pages)) (p.points ++ points_of (drop (i + 1) pages)) last first (subst IsRising whole rising) in_front in_rest in
+    let parts : page_points (take i pages) ≡ page_points (take (i - 1) pages) ++ b.points = subst (λ (n : ℕ). page_points (take n pages) ≡ page_points (take (i - 1) pages) ++ b.points) place (points_push pages (i - 1) b (omega (arith, m.some, m.here)) m.before-is) in
+    let front : page_points (take (i + 1) pages) ≡ page_points (take i pages) ++ p.points = points_push pages i p m.here m.page_is in
+    let whole : page_points pages ≡ page_points (take i pages) ++ (p.points ++ page_points (drop (i + 1) pages)) =
+    sym (ap page_points (take-append-drop (i + 1) pages)) ∙ flat_map-append (λ (q : Page). q.points) (take (i + 1) pages) (drop (i + 1) pages)
+    ∙ ap (λ (ps : List Point). ps ++ page_points (drop (i + 1) pages)) front ∙ append_assoc (page_points (take i pages)) p.points (page_points (drop (i + 1) pages)) in
+    let in_front : Contains (page_points (take i pages)) last = subst (λ (ps : List Point). Contains ps last) (sym parts) (Contains-append_right (page_points (take (i - 1) pages)) b.points last (length b.points - 1, omega (arith, many), sym m.last-is)) in
+    let in_rest : Contains (p.points ++ page_points (drop (i + 1) pages)) first = Contains-append_left p.points (page_points (drop (i + 1) pages)) first (0, more, sym m.first-is) in
+    let step : last.time <ℤ first.time = pairs_across (λ (x y : Point). x.time <ℤ y.time) (page_points (take i pages)) (p.points ++ page_points (drop (i + 1) pages)) last first (subst IsRising whole rising) in_front in_rest in
     omega (arith, ints)
 
-pub first_page : (pages : List Page) → All (λ page. IsRising page.points) pages → IsRising (points_of (take 1 pages))
+pub first_page : (pages : List Page) → All (λ page. IsRising page.points) pages → IsRising (page_points (take 1 pages))
 first_page [] rising = λ i j d l m. absurd (omega arith)
 first_page (p ∷ ps) rising = subst IsRising (sym (append-nil p.points)) (rising 0 p (omega arith))
 

@@ -13,7 +13,7 @@ use Rattle.tsdb_pages.specs.declared.tree.Page.{Page}
 use Rattle.tsdb_pages.specs.declared.tree.Chunk.{Chunk}
 use Rattle.tsdb_pages.specs.declared.tree.Group.{Group}
 use Rattle.tsdb_pages.specs.declared.tree.Tree.{Tree}
-use Rattle.tsdb_pages.specs.File.{AreEntries, AreEntriesIn, AreEntriesOf, ArePageEntries, IsEntry, IsFile, chunk_field, chunk_head, data_field, group_field, group_head, head, magic, page_field}
+use Rattle.tsdb_pages.specs.File.{AreEntries, AreEntriesIn, AreEntriesOf, ArePageEntries, IsChunkEntry, IsFile, chunk_field, chunk_head, data_field, group_field, group_head, head, magic, page_field}
 use Rattle.tsdb_pages.specs.Places.{HasEnds, HasPlaces, IsPageAt, StandsAt}
 use Rattle.tsdb_pages.proofs.Entries.{count_pages}
 use Rattle.tsdb_pages.proofs.OneFile.{all_of}
@@ -76,7 +76,7 @@ pages_stand encoding place (p ∷ ps) (e ∷ es) bytes say s (suc k) page said l
 -- ---- chunks and groups
 
 chunk_stands : (tree : Tree) (group : Group) (chunk : Chunk) (place : ℕ) (entry : IndexEntry) (bytes : List ℕ) → Contains tree.groups group → Contains group.chunks chunk
-    → IsEntry group.device place chunk entry → StandsAt place (chunk_field chunk) bytes → HasPlaces tree bytes entry
+    → IsChunkEntry group.device place chunk entry → StandsAt place (chunk_field chunk) bytes → HasPlaces tree bytes entry
 chunk_stands tree group chunk place entry bytes in_tree in_group say s =
     let at : place ≡ entry.place = sym say.place_is in
     let head_stands = stands_first place (chunk_head chunk) (flat_map (page_field chunk.encoding) chunk.pages) bytes s in
@@ -85,7 +85,7 @@ chunk_stands tree group chunk place entry bytes in_tree in_group say s =
       chunk = chunk;
       in_tree = in_tree;
       in_group = in_group;
-      says = subst (λ (n : ℕ). IsEntry group.device n chunk entry) at say;
+      says = subst (λ (n : ℕ). IsChunkEntry group.device n chunk entry) at say;
       stands = subst (λ (n : ℕ). StandsAt n (chunk_field chunk) bytes) at s;
       head = subst (λ (n : ℕ). StandsAt n (chunk_head chunk) bytes) at head_stands;
       count = count_pages chunk.encoding (place + length (chunk_head chunk)) chunk.pages entry.pages say.pages;

@@ -12,7 +12,7 @@ use Rattle.tsdb_base.specs.declared.value.DataType.{DataType}
 use Rattle.tsdb_base.specs.declared.value.Value.{Value}
 use Rattle.tsdb_base.specs.declared.value.Value.TheVariants as value
 use Rattle.tsdb_base.specs.Values.{type_of, IsValue, IsValueOf}
-use Rattle.tsdb_stats.specs.Folds.{greater, if_number, is_less, lesser, number_of, numbers}
+use Rattle.tsdb_stats.specs.Folds.{greater, if_number, is_less, lesser_value, as_number, numbers}
 use Rattle.tsdb_index.specs.Statistics.{IsExtremeOf, IsStatsOf, is_numeric}
 use Rattle.tsdb_stats.specs.Statistics.{AreStatsOf}
 use Rattle.tsdb_pages.specs.Pages.{IsInRange}
@@ -23,7 +23,7 @@ of_type t p typed range = record { typed = typed; fits = range.1 }
 -- ---- the least and the greatest
 
 abbrev number_in : Value → Option Value
-number_in v = if_number (number_of v) v
+number_in v = if_number (as_number v) v
 
 -- a value of a type that has numbers is one, and another is none
 numeric : (t : DataType) (v : Value) (vs : List Value) → IsValueOf t v → is_numeric t ≡ true → cons_option (number_in v) vs ≡ v ∷ vs
@@ -65,7 +65,7 @@ extreme f choice t (p ∷ ps) some are =
       | false ↦ λ e. subst (λ (vs : List Value). IsExtremeOf t (reduce f vs)) (sym (no_numbers t (p ∷ ps) are e)) e
     ] refl
 
-lesser-choice : IsChoice lesser
+lesser-choice : IsChoice lesser_value
 lesser-choice = record { keeps = λ t a b is_a is_b. elim (is_less b a) as (λ (c : Bool). IsValueOf t (cond c b a)) [ true ↦ is_b | false ↦ is_a ] }
 
 greater-choice : IsChoice greater
@@ -105,6 +105,6 @@ stats_of_type t (p ∷ ps) stats some few typed ranges are =
       end = subst (FitsSigned w64) at_end (ranges end p inside).0;
       first = subst (IsValueOf t) (first_gives (λ (q : Point). q.value) points p stats.first some are.first) (of_type t p (typed 0 p some) (ranges 0 p some));
       last = subst (IsValueOf t) (last_gives (λ (q : Point). q.value) points p stats.last some are.last) (of_type t last (typed end p inside) (ranges end p inside));
-      least = subst (IsExtremeOf t) are.least (extreme lesser lesser-choice t points some each);
+      least = subst (IsExtremeOf t) are.least (extreme lesser_value lesser-choice t points some each);
       greatest = subst (IsExtremeOf t) are.greatest (extreme greater greater-choice t points some each);
     }

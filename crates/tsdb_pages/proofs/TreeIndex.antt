@@ -18,7 +18,7 @@ use Rattle.tsdb_index.specs.declared.index.PageEntry.{PageEntry}
 use Rattle.tsdb_index.specs.Entries.{AreInOrder, IsIndex, IsPageOf, names_of}
 use Rattle.tsdb_index.specs.Order.{AreNamesBefore}
 use Rattle.tsdb_index.specs.Entries as entries
-use Rattle.tsdb_index.specs.Faults.{IsRead}
+use Rattle.tsdb_index.specs.Faults.{IsIndexRead}
 use Rattle.tsdb_index.proofs.OneSpelling.{one_index}
 use Rattle.tsdb_index.proofs.Orders.{in_order}
 use Rattle.tsdb_pages.specs.declared.tree.Page.{Page}
@@ -26,8 +26,8 @@ use Rattle.tsdb_pages.specs.declared.tree.Chunk.{Chunk}
 use Rattle.tsdb_pages.specs.declared.tree.Group.{Group}
 use Rattle.tsdb_pages.specs.declared.tree.Tree.{Tree}
 use Rattle.tsdb_pages.specs.Pages.{ArePoints, IsInRange}
-use Rattle.tsdb_pages.specs.Trees.{IsGroup, IsMade, IsTree, chunks_of, points_of}
-use Rattle.tsdb_pages.specs.File.{AreEntries, AreEntriesIn, AreEntriesOf, ArePageEntries, IsEntry, IsFile, chunk_field, chunk_head, data_field, group_field, group_head, head, page_field}
+use Rattle.tsdb_pages.specs.Trees.{IsGroup, IsMade, IsTree, chunks_of, page_points}
+use Rattle.tsdb_pages.specs.File.{AreEntries, AreEntriesIn, AreEntriesOf, ArePageEntries, IsChunkEntry, IsFile, chunk_field, chunk_head, data_field, group_field, group_head, head, page_field}
 use Rattle.tsdb_pages.proofs.Files.{groups_of_tree, IsWholeChunk, IsWholeGroup, of_each_page}
 use Rattle.tsdb_pages.proofs.OneFile.{all_of}
 use Rattle.tsdb_pages.proofs.Order.{pairs_append}
@@ -54,25 +54,25 @@ pages_good t encoding place (p ∷ ps) (s ∷ ss) points ranges small say =
 
 -- ---- the points of a chunk
 
-pub points_few : (t : DataType) (pages : List Page) → AllByRecursion (λ page. ArePoints t page.points) pages → length (points_of pages) ≤ 1000 * length pages
+pub points_few : (t : DataType) (pages : List Page) → AllByRecursion (λ page. ArePoints t page.points) pages → length (page_points pages) ≤ 1000 * length pages
 points_few t [] are = omega arith
 points_few t (p ∷ ps) are =
-    let n = length-append p.points (points_of ps) in
+    let n = length-append p.points (page_points ps) in
     let few = are.0.few in
     let rest = points_few t ps are.1 in
     omega (arith, n, few, rest)
 
-points_some : (t : DataType) (pages : List Page) → 0 < length pages → AllByRecursion (λ page. ArePoints t page.points) pages → 0 < length (points_of pages)
+points_some : (t : DataType) (pages : List Page) → 0 < length pages → AllByRecursion (λ page. ArePoints t page.points) pages → 0 < length (page_points pages)
 points_some t [] some are = absurd (omega (arith, some))
-points_some t (p ∷ ps) some are = let n = length-append p.points (points_of ps) in let here = are.0.some in omega (arith, n, here)
+points_some t (p ∷ ps) some are = let n = length-append p.points (page_points ps) in let here = are.0.some in omega (arith, n, here)
 
-points_typed : (t : DataType) (pages : List Page) → AllByRecursion (λ page. ArePoints t page.points) pages → All (λ (point : Point). type_of point.value ≡ t) (points_of pages)
+points_typed : (t : DataType) (pages : List Page) → AllByRecursion (λ page. ArePoints t page.points) pages → All (λ (point : Point). type_of point.value ≡ t) (page_points pages)
 points_typed t [] are = λ k d lt. absurd (omega (arith, lt))
-points_typed t (p ∷ ps) are = All-append (λ (point : Point). type_of point.value ≡ t) p.points (points_of ps) are.0.typed (points_typed t ps are.1)
+points_typed t (p ∷ ps) are = All-append (λ (point : Point). type_of point.value ≡ t) p.points (page_points ps) are.0.typed (points_typed t ps are.1)
 
 -- ---- chunks
 
-entry_good : (device : List ℕ) (place : ℕ) (chunk : Chunk) (entry : IndexEntry) → IsPath device → IsWholeChunk chunk → place + length (chunk_field chunk) < 2 ^ 64 → IsEntry device place chunk entry → entries.IsEntry entry
+entry_good : (device : List ℕ) (place : ℕ) (chunk : Chunk) (entry : IndexEntry) → IsPath device → IsWholeChunk chunk → place + length (chunk_field chunk) < 2 ^ 64 → IsChunkEntry device place chunk entry → entries.IsEntry entry
 entry_good device place chunk entry is_path is small say =
     let t : chunk.data_type ≡ entry.data_type = sym say.type_is in
     let each = recursion_from_All (λ (page : Page). ArePoints chunk.data_type page.points) chunk.pages is.0.pages in
@@ -87,7 +87,7 @@ entry_good device place chunk entry is_path is small say =
       suits = ap (λ (x : DataType). is_suitable x entry.encoding) say.type_is ∙ ap (is_suitable chunk.data_type) say.encoding_is ∙ is.0.suits;
       place = omega (arith, at, small);
       stats = subst (λ (x : DataType). IsStatsOf x entry.stats) t
-          (stats_of_type chunk.data_type (points_of chunk.pages) entry.stats (points_some chunk.data_type chunk.pages is.0.some each) (omega (arith, many, few)) (points_typed chunk.data_type chunk.pages each) is.1.points say.stats);
+          (stats_of_type chunk.data_type (page_points chunk.pages) entry.stats (points_some chunk.data_type chunk.pages is.0.some each) (omega (arith, many, few)) (points_typed chunk.data_type chunk.pages each) is.1.points say.stats);
       few = omega (arith, count, few);
       pages = subst (λ (x : DataType). All (IsPageOf x) entry.pages) t
           (All-from_recursion (IsPageOf chunk.data_type) entry.pages
@@ -239,7 +239,7 @@ entries_are_index tree es is made say small =
 
 -- what is read of the index of a tree's file are the entries of the tree
 pub read_entries : (tree : Tree) (bytes : List ℕ) (es : List IndexEntry) → IsTree tree → IsMade tree → (file : IsFile tree bytes) → length (data_field tree) < 2 ^ 64
-    → IsRead (length (data_field tree)) file.root file.index_bytes es → AreEntriesIn tree es
+    → IsIndexRead (length (data_field tree)) file.root file.index_bytes es → AreEntriesIn tree es
 read_entries tree bytes es is made file small read =
     let mine = entries_are_index tree file.entries is made file.say small in
     subst (AreEntriesIn tree) (one_index (length (data_field tree)) file.root file.index_bytes file.entries es mine.good read.index.good file.index_is read.spelling) file.say

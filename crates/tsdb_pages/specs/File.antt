@@ -16,7 +16,7 @@ use Rattle.tsdb_pages.specs.declared.tree.Chunk.{Chunk}
 use Rattle.tsdb_pages.specs.declared.tree.Group.{Group}
 use Rattle.tsdb_pages.specs.declared.tree.Tree.{Tree}
 use Rattle.tsdb_pages.specs.Pages.{body}
-use Rattle.tsdb_pages.specs.Trees.{points_of}
+use Rattle.tsdb_pages.specs.Trees.{page_points}
 
 -- `TsFile`, the first and the last bytes of a file
 abbrev pub magic : List ℕ
@@ -77,13 +77,13 @@ ArePageEntries encoding place (page ∷ pages) (entry ∷ entries) =
     IsPageEntry place page entry × ArePageEntries encoding (place + length (page_field encoding page)) pages entries
 
 -- what the index says of a chunk of this device that stands at this place
-pub record IsEntry (device : List ℕ) (place : ℕ) (chunk : Chunk) (entry : IndexEntry) : Type 0 where
+pub record IsChunkEntry (device : List ℕ) (place : ℕ) (chunk : Chunk) (entry : IndexEntry) : Type 0 where
   pub device_is : entry.device ≡ device
   pub measurement_is : entry.measurement ≡ chunk.measurement
   pub type_is : entry.data_type ≡ chunk.data_type
   pub encoding_is : entry.encoding ≡ chunk.encoding
   pub place_is : entry.place ≡ place
-  pub stats : AreStatsOf (points_of chunk.pages) entry.stats
+  pub stats : AreStatsOf (page_points chunk.pages) entry.stats
   pub pages : ArePageEntries chunk.encoding (place + length (chunk_head chunk)) chunk.pages entry.pages
 
 -- what the index says of chunks of this device that stand one behind another from this place on
@@ -92,7 +92,7 @@ AreEntries device place [] [] = Unit {0}
 AreEntries device place [] (entry ∷ entries) = ⊥
 AreEntries device place (chunk ∷ chunks) [] = ⊥
 AreEntries device place (chunk ∷ chunks) (entry ∷ entries) =
-    IsEntry device place chunk entry × AreEntries device (place + length (chunk_field chunk)) chunks entries
+    IsChunkEntry device place chunk entry × AreEntries device (place + length (chunk_field chunk)) chunks entries
 
 -- the entries of groups that stand one behind another from this place on, those of each group together
 abbrev pub AreEntriesOf : ℕ → List Group → List (List IndexEntry) → Type 0
@@ -115,5 +115,5 @@ pub record IsFile (tree : Tree) (bytes : List ℕ) : Type 0 where
   pub root : ℕ
   pub index_bytes : List ℕ
   pub say : AreEntriesIn tree entries
-  pub index_is : index.IsSpelling (length (data_field tree)) root entries index_bytes
+  pub index_is : index.IsIndexSpelling (length (data_field tree)) root entries index_bytes
   pub bytes_are : bytes ≡ data_field tree ++ index_bytes ++ number64 root ++ magic

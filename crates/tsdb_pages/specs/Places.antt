@@ -4,13 +4,13 @@ use Rattle.tsdb_base.specs.declared.value.Encoding.{Encoding}
 use Rattle.tsdb_base.specs.Fields.{number64}
 use Rattle.tsdb_index.specs.declared.index.IndexEntry.{IndexEntry}
 use Rattle.tsdb_index.specs.declared.index.PageEntry.{PageEntry}
-use Rattle.tsdb_index.specs.Spelling.{IsSpelling, RootBegins}
+use Rattle.tsdb_index.specs.Spelling.{IsIndexSpelling, RootBegins}
 use Rattle.tsdb_stats.specs.Statistics.{AreStatsOf}
 use Rattle.tsdb_pages.specs.declared.tree.Page.{Page}
 use Rattle.tsdb_pages.specs.declared.tree.Chunk.{Chunk}
 use Rattle.tsdb_pages.specs.declared.tree.Group.{Group}
 use Rattle.tsdb_pages.specs.declared.tree.Tree.{Tree}
-use Rattle.tsdb_pages.specs.File.{IsEntry, chunk_field, chunk_head, data_field, head, magic, page_field}
+use Rattle.tsdb_pages.specs.File.{IsChunkEntry, chunk_field, chunk_head, data_field, head, magic, page_field}
 
 -- the part stands at this place of the bytes
 pub record StandsAt (place : ℕ) (part bytes : List ℕ) : Type 0 where
@@ -28,7 +28,7 @@ pub record HasPlaces (tree : Tree) (bytes : List ℕ) (entry : IndexEntry) : Typ
   pub chunk : Chunk
   pub in_tree : Contains tree.groups group
   pub in_group : Contains group.chunks chunk
-  pub says : IsEntry group.device entry.place chunk entry
+  pub says : IsChunkEntry group.device entry.place chunk entry
   pub stands : StandsAt entry.place (chunk_field chunk) bytes
   pub head : StandsAt entry.place (chunk_head chunk) bytes
   pub count : length entry.pages ≡ length chunk.pages
@@ -41,6 +41,6 @@ pub record HasEnds (tree : Tree) (bytes : List ℕ) (entries : List IndexEntry) 
   pub head : StandsAt 0 head bytes
   pub data_stands : StandsAt 0 (data_field tree) bytes
   pub index_stands : StandsAt (length (data_field tree)) index bytes
-  pub index_is : IsSpelling (length (data_field tree)) root entries index
+  pub index_is : IsIndexSpelling (length (data_field tree)) root entries index
   pub begins : RootBegins (length (data_field tree)) root entries index
   pub tail : drop (length bytes - 14) bytes ≡ number64 root ++ magic

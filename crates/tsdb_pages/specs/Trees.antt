@@ -16,8 +16,8 @@ use Rattle.tsdb_base.specs.Points.{IsRising}
 use Rattle.tsdb_pages.specs.Pages.{ArePoints, IsInRange}
 
 -- all points of the pages, in their order
-abbrev pub points_of : List Page → List Point
-points_of pages = flat_map (λ page. page.points) pages
+abbrev pub page_points : List Page → List Point
+page_points pages = flat_map (λ page. page.points) pages
 
 -- all chunks of the groups, in their order
 abbrev pub chunks_of : List Group → List Chunk
@@ -33,7 +33,7 @@ pub record IsChunk (chunk : Chunk) : Type 0 where
   pub some : 0 < length chunk.pages
   pub few : length chunk.pages ≤ max_pages
   pub pages : All (λ page. ArePoints chunk.data_type page.points) chunk.pages
-  pub rising : IsRising (points_of chunk.pages)
+  pub rising : IsRising (page_points chunk.pages)
 
 -- one chunk or more, in rising order of their measurements
 pub record IsGroup (group : Group) : Type 0 where
@@ -51,7 +51,7 @@ pub record IsTree (tree : Tree) : Type 0 where
 -- what the types of a chunk's parts say: a name, and points in the ranges of their types
 pub record HasParts (chunk : Chunk) : Type 0 where
   pub measurement : IsName chunk.measurement
-  pub points : All IsInRange (points_of chunk.pages)
+  pub points : All IsInRange (page_points chunk.pages)
 
 -- what the types of a tree's parts say: devices that are paths, names, and points in the ranges of their types
 pub record IsMade (tree : Tree) : Type 0 where

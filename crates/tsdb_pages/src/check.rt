@@ -3,7 +3,7 @@ ghost use Rattle.std.specs.Prelude.{◌<◌, ◌≤◌, ◌↔◌, All, AllPairs
 ghost use Rattle.tsdb_base.specs.Limits.{max_entries};
 ghost use Rattle.tsdb_base.specs.Points.{IsRising};
 ghost use Rattle.tsdb_pages.specs.Pages.{ArePoints};
-ghost use Rattle.tsdb_pages.specs.Trees.{IsBefore, IsChunk, IsGroup, IsTree, chunks_of, points_of};
+ghost use Rattle.tsdb_pages.specs.Trees.{IsBefore, IsChunk, IsGroup, IsTree, chunks_of, page_points};
 
 use crate::tree::{Chunk, Group, Page, Tree};
 use tsdb_base::limits::{MAX_ENTRIES, MAX_PAGES, MAX_VALUES};
@@ -40,7 +40,7 @@ fn are_pages(pages: &[Page], data_type: DataType) -> bool
 fn rise_through(pages: &[Page]) -> bool
     requires some { All (λ page. 0 < length page.points) pages.now }
     requires rising { All (λ page. IsRising page.points) pages.now }
-    ensures { IsTrue result ↔ IsRising (points_of pages.now) }
+    ensures { IsTrue result ↔ IsRising (page_points pages.now) }
 {
     for i in 1..pages.len() {
         let before = pages[i - 1].points.items();

@@ -6,7 +6,7 @@ ghost use Rattle.tsdb_base.specs.declared.value.Encoding.{Encoding};
 ghost use Rattle.tsdb_base.specs.Values.{is_suitable};
 ghost use Rattle.tsdb_index.specs.declared.index.IndexEntry.{IndexEntry};
 ghost use Rattle.tsdb_index.specs.Entries.{IsIndex};
-ghost use Rattle.tsdb_index.specs.Faults.{IsRead};
+ghost use Rattle.tsdb_index.specs.Faults.{IsIndexRead};
 ghost use Rattle.tsdb_pages.specs.declared.tree.Tree.{Tree};
 ghost use Rattle.tsdb_pages.specs.File.{AreEntriesIn, IsFile, data_field};
 ghost use Rattle.tsdb_pages.specs.Pages.{ArePoints, IsInRange, body};
@@ -61,5 +61,5 @@ pub fn entries_are_index()
 pub fn read_entries()
     ensures { (tree : Tree) (bytes : List ℕ) (entries : List IndexEntry) → IsTree tree → IsMade tree →
         (file : IsFile tree bytes) → length (data_field tree) < 2 ^ 64 →
-        IsRead (length (data_field tree)) file.root file.index_bytes entries → AreEntriesIn tree entries }
+        IsIndexRead (length (data_field tree)) file.root file.index_bytes entries → AreEntriesIn tree entries }
 {}

@@ -4,12 +4,12 @@ use Rattle.std.proofs.Common.{Option, Some, None, refl, sym, ap, subst, ◌∙�
 use Rattle.std.specs.Option.{option_map}
 use Rattle.std.proofs.lemmas.Bool.Decides.{nat_tests}
 use Rattle.tsdb_fileset.specs.Files.{KeepsLists, KeptFiles, kept_file}
-use Rattle.tsdb_fileset.specs.Places.{KeptFile, OthersStay, file_at, place_at}
+use Rattle.tsdb_fileset.specs.Places.{KeptFile, OthersStay, file_at, place_of_number}
 use Rattle.tsdb_fileset.specs.Rights.{HasChanged, IsRightTo, one_less, one_more}
 use Rattle.tsdb_base.proofs.Lists.{count_append}
 use Rattle.tsdb_base.specs.Lists.{count}
 use Rattle.tsdb_outside.specs.Files.{NamedFile}
-use Rattle.tsdb_pin.specs.Changes.{ChangesFiles, GivesRights, KeepsFiles, TakesRights, fewer_rights, more_rights}
+use Rattle.tsdb_pin.specs.Changes.{ChangesFiles, GivesRights, ChangesNoFile, TakesRights, fewer_rights, more_rights}
 
 abbrev Place : Type 0
 Place = Option (Option KeptFile)
@@ -37,7 +37,7 @@ pub changed_twice : (f g h : ℕ → KeptFile → KeptFile) (a b c : KeptFiles)
     → ((n : ℕ) (file : KeptFile) → g n (f n file) ≡ h n file)
     → ChangesFiles f a b → ChangesFiles g b c → ChangesFiles h a c
 changed_twice f g h a b c both first second = record {
-  places = λ n. second.places n ∙ ap (at_place (g n)) (first.places n) ∙ both_at (f n) (g n) (h n) (both n) (place_at n a.places);
+  places = λ n. second.places n ∙ ap (at_place (g n)) (first.places n) ∙ both_at (f n) (g n) (h n) (both n) (place_of_number n a.places);
   lists = record {
     sequence = second.lists.sequence ∙ first.lists.sequence;
     unsequence = second.lists.unsequence ∙ first.lists.unsequence;
@@ -50,7 +50,7 @@ changed_twice f g h a b c both first second = record {
 pub changed_as : (f g : ℕ → KeptFile → KeptFile) (a b : KeptFiles) → ((n : ℕ) (file : KeptFile) → f n file ≡ g n file)
     → ChangesFiles f a b → ChangesFiles g a b
 changed_as f g a b same change = record {
-  places = λ n. change.places n ∙ as_at (f n) (g n) (same n) (place_at n a.places);
+  places = λ n. change.places n ∙ as_at (f n) (g n) (same n) (place_of_number n a.places);
   lists = change.lists;
   room = change.room;
 }
@@ -64,9 +64,9 @@ changed_as f g a b same change = record {
 pub same_lists : (a : KeptFiles) → KeepsLists a a
 same_lists a = record { sequence = refl; unsequence = refl; outgoing = refl }
 
-pub nothing_changed : (a : KeptFiles) → KeepsFiles a a
+pub nothing_changed : (a : KeptFiles) → ChangesNoFile a a
 nothing_changed a = record {
-  places = λ n. sym (same_at (λ file. file) (λ file. refl) (place_at n a.places));
+  places = λ n. sym (same_at (λ file. file) (λ file. refl) (place_of_number n a.places));
   lists = same_lists a;
   room = refl;
 }
@@ -84,10 +84,10 @@ none_fewer n file = ap (with_count file) none
     none : file.rights ≡ file.rights - 0
     none = omega arith
 
-pub takes_none : (a b : KeptFiles) → KeepsFiles a b → TakesRights [] a b
+pub takes_none : (a b : KeptFiles) → ChangesNoFile a b → TakesRights [] a b
 takes_none a b keeps = changed_as (λ n file. file) (λ n. more_rights (count n [])) a b none_more keeps
 
-pub gives_none : (a b : KeptFiles) → KeepsFiles a b → GivesRights [] a b
+pub gives_none : (a b : KeptFiles) → ChangesNoFile a b → GivesRights [] a b
 gives_none a b keeps = changed_as (λ n file. file) (λ n. fewer_rights (count n [])) a b none_fewer keeps
 
 -- rights on some files, and then on others
@@ -117,7 +117,7 @@ gives_then xs ys zs a b c counts first second =
         sum r x y z e = omega (arith, e)
 
 -- rights that are given back leave what was before they were taken
-pub given_back : (xs : List ℕ) (a b c : KeptFiles) → TakesRights xs a b → GivesRights xs b c → KeepsFiles a c
+pub given_back : (xs : List ℕ) (a b c : KeptFiles) → TakesRights xs a b → GivesRights xs b c → ChangesNoFile a c
 given_back xs a b c first second =
     changed_twice (λ n. more_rights (count n xs)) (λ n. fewer_rights (count n xs)) (λ n file. file) a b c both first second
   where
@@ -156,13 +156,13 @@ one_changed f g n a b here there changed others lists room = record {
     as_at f g same (Some (Some file)) = ap (λ (x : KeptFile). Some (Some x)) (same file)
 
     by : (m : ℕ) (t : Bool) → (n == m) ≡ t
-        → place_at m b.places ≡ at_place (g (cond (n == m) 1 0 + 0)) (place_at m a.places)
-    by m true e = subst (λ k. place_at k b.places ≡ at_place (g (cond (n == m) 1 0 + 0)) (place_at k a.places))
+        → place_of_number m b.places ≡ at_place (g (cond (n == m) 1 0 + 0)) (place_of_number m a.places)
+    by m true e = subst (λ k. place_of_number k b.places ≡ at_place (g (cond (n == m) 1 0 + 0)) (place_of_number k a.places))
         (is_same m n e)
-        (subst (λ t. place_at n b.places ≡ at_place (g (cond t 1 0 + 0)) (place_at n a.places)) (sym e)
-        (changed ∙ as_at f (g (cond true 1 0 + 0)) here (place_at n a.places)))
-    by m false e = subst (λ t. place_at m b.places ≡ at_place (g (cond t 1 0 + 0)) (place_at m a.places)) (sym e)
-        (others m (is_other m n e) ∙ sym (same_at (g (cond false 1 0 + 0)) (λ file. sym (there file)) (place_at m a.places)))
+        (subst (λ t. place_of_number n b.places ≡ at_place (g (cond t 1 0 + 0)) (place_of_number n a.places)) (sym e)
+        (changed ∙ as_at f (g (cond true 1 0 + 0)) here (place_of_number n a.places)))
+    by m false e = subst (λ t. place_of_number m b.places ≡ at_place (g (cond t 1 0 + 0)) (place_of_number m a.places)) (sym e)
+        (others m (is_other m n e) ∙ sym (same_at (g (cond false 1 0 + 0)) (λ file. sym (there file)) (place_of_number m a.places)))
 
 pub takes_one : (n : ℕ) (a b : KeptFiles) → HasChanged one_more n a.places b.places → OthersStay n a.places b.places
     → KeepsLists a b → b.spare ≡ a.spare → TakesRights (n ∷ []) a b
@@ -181,22 +181,22 @@ no_file f (Some None) e = refl
 no_file f (Some (Some file)) e = cc
 
 -- nothing has changed at the number, and so nowhere
-pub same_there : (n : ℕ) (a b : KeptFiles) → place_at n b.places ≡ place_at n a.places → OthersStay n a.places b.places
-    → KeepsLists a b → b.spare ≡ a.spare → KeepsFiles a b
+pub same_there : (n : ℕ) (a b : KeptFiles) → place_of_number n b.places ≡ place_of_number n a.places → OthersStay n a.places b.places
+    → KeepsLists a b → b.spare ≡ a.spare → ChangesNoFile a b
 same_there n a b same others lists room = record {
-  places = λ m. by m (n == m) refl ∙ sym (same_at (λ file. file) (λ file. refl) (place_at m a.places));
+  places = λ m. by m (n == m) refl ∙ sym (same_at (λ file. file) (λ file. refl) (place_of_number m a.places));
   lists = lists;
   room = room;
 }
   where
-    by : (m : ℕ) (t : Bool) → (n == m) ≡ t → place_at m b.places ≡ place_at m a.places
-    by m true e = subst (λ k. place_at k b.places ≡ place_at k a.places) (is_same m n e) same
+    by : (m : ℕ) (t : Bool) → (n == m) ≡ t → place_of_number m b.places ≡ place_of_number m a.places
+    by m true e = subst (λ k. place_of_number k b.places ≡ place_of_number k a.places) (is_same m n e) same
     by m false e = others m (is_other m n e)
 
 pub none_shared : (n : ℕ) (a b : KeptFiles) → kept_file n a ≡ None → HasChanged one_more n a.places b.places
-    → OthersStay n a.places b.places → KeepsLists a b → b.spare ≡ a.spare → KeepsFiles a b
+    → OthersStay n a.places b.places → KeepsLists a b → b.spare ≡ a.spare → ChangesNoFile a b
 none_shared n a b none changed others lists room =
-    same_there n a b (changed ∙ no_file one_more (place_at n a.places) none) others lists room
+    same_there n a b (changed ∙ no_file one_more (place_of_number n a.places) none) others lists room
 
 -- ---- files that keep their names and series
 
@@ -217,7 +217,7 @@ file_of f (Some place) = refl
 
 pub kept_changed : (change : ℕ → KeptFile → KeptFile) (a b : KeptFiles) → ChangesFiles change a b → (n : ℕ)
     → kept_file n b ≡ option_map (change n) (kept_file n a)
-kept_changed change a b changes n = ap file_at (changes.places n) ∙ file_of (change n) (place_at n a.places)
+kept_changed change a b changes n = ap file_at (changes.places n) ∙ file_of (change n) (place_of_number n a.places)
 
 module _ {R : Type 0} (name : R → NamedFile) where
   right_on : (f : KeptFile → KeptFile) → ((file : KeptFile) → (f file).name ≡ file.name) → (o : Option KeptFile) (r : R)

@@ -10,7 +10,7 @@ use Rattle.tsdb_base.specs.declared.point.Range.{Range}
 use Rattle.tsdb_base.proofs.Lists.{each_append, filter_append}
 use Rattle.tsdb_fileset.specs.Model.{frozen_in}
 use Rattle.tsdb_fileset.specs.Store as memory
-use Rattle.tsdb_fileset.specs.Store.{Store}
+use Rattle.tsdb_fileset.specs.Store.{MemoryState}
 use Rattle.tsdb_fileset.specs.FrozenPair.{FrozenPair}
 use Rattle.tsdb_memtable.specs.Pairs.{Pair, points_of}
 use Rattle.tsdb_base.specs.Points.{IsRising}
@@ -113,7 +113,7 @@ module _ (F S R P : Type 0) (space : Space) (number : ℕ) (range : Range) where
       same = ap (λ (b : ℕ). pair_of b points) is_born ∙ ap (pair_of (frozen_in pair).born) is_pair
 
   -- all pairs of the store
-  pub all_copied : (frozen : List FrozenPair) (store : Store) (i stamp : ℕ) (working : Pair) (old now new : List Source)
+  pub all_copied : (frozen : List FrozenPair) (store : MemoryState) (i stamp : ℕ) (working : Pair) (old now new : List Source)
       → map frozen_in frozen ≡ store.frozen → length frozen ≤ i → stamp ≡ store.stamp → working ≡ store.working
       → AreFrozenTo frozen i old now
       → new ≡ now ++ parts (record { born = stamp; pair = working } ∷ []) → IsRising (points_of space number working)

@@ -8,19 +8,19 @@ use Rattle.tsdb_fileset.specs.Files.{KeptFiles, entries_in}
 use Rattle.tsdb_fileset.specs.Places.{KeptFile}
 use Rattle.tsdb_base.proofs.Lists.{count_append, each_append, each_left, each_right, each_weaker}
 use Rattle.tsdb_base.specs.Lists.{count}
-use Rattle.tsdb_fileset.specs.Store.{Store}
+use Rattle.tsdb_fileset.specs.Store.{MemoryState}
 use Rattle.tsdb_outside.specs.Files.{NamedFile}
 use Rattle.tsdb_pin.proofs.Changing.{LeavesNames, given_back, gives_names, gives_none, gives_then, nothing_changed}
 use Rattle.tsdb_pin.proofs.Changing.{takes_names, takes_none, takes_then}
 use Rattle.tsdb_pin.proofs.Copied.{parts_held, parts_numbers}
 use Rattle.tsdb_pin.proofs.Listed.{entries_stay, files_was, held_stays, held_was, parts_taken, taken_then}
 use Rattle.tsdb_pin.proofs.Listed.{zip_append}
-use Rattle.tsdb_pin.specs.Changes.{ChangesFiles, GivesRights, KeepsFiles, TakesAll, TakesRights, TakesSome}
+use Rattle.tsdb_pin.specs.Changes.{ChangesFiles, GivesRights, ChangesNoFile, TakesAll, TakesRights, TakesSomeSources}
 use Rattle.tsdb_pin.specs.Changes.{column_numbers, fewer_rights, more_rights}
 use Rattle.tsdb_pin.specs.Pins.{AreColumnsHeld, AreColumnsTaken, IsColumn, IsColumnTaken, TakesColumns, TakesSomeColumns}
 use Rattle.tsdb_pin.specs.Sources.{AddsParts, AreHeldIn, AreOfFiles, AreOfSpace, AreRisingIn, AreSourcesOf, IsHeldIn}
 use Rattle.tsdb_pin.specs.Sources.{numbers_in, pairs_in, parts_in, source_numbers}
-use Rattle.tsdb_pin.specs.declared.items.Asked.{Asked}
+use Rattle.tsdb_pin.specs.declared.items.AskedSeries.{AskedSeries}
 use Rattle.tsdb_pin.specs.declared.pin.Column.{Column}
 use Rattle.tsdb_pin.specs.declared.pin.PinnedSource.{PinnedSource}
 use Rattle.tsdb_pin.specs.declared.pin.PinnedSource.TheVariants.{File, Part}
@@ -58,14 +58,14 @@ module _ {F S R P : Type 0} (name : R → NamedFile) where
   -- ---- one space
 
   pub space_some : (old now : KeptFiles) (before middle after : List (PinnedSource F S R P)) (Are : List (PinnedSource F S R P) → Type 0)
-      → TakesAll name Are old now before middle → AddsParts middle after → TakesSome name old now before after
+      → TakesAll name Are old now before middle → AddsParts middle after → TakesSomeSources name old now before after
   space_some old now before middle after Are taken adds = (
     taken.0 ++ adds.0,
     taken_then name old now now before middle after taken.0 adds.0 taken.1
         (parts_taken name now middle after adds.0 adds.1 adds.2 (no_rights_held now adds.0 adds.2)),
   )
 
-  pub space_taken : (space : Space) (old now : KeptFiles) (store : Store) (path : List ℕ) (number : ℕ) (range : Range)
+  pub space_taken : (space : Space) (old now : KeptFiles) (store : MemoryState) (path : List ℕ) (number : ℕ) (range : Range)
       (before middle after : List (PinnedSource F S R P))
       → TakesAll name (AreOfFiles name old path (entries_in space old)) old now before middle
       → after ≡ middle ++ parts_in space number range (pairs_in store) → AreRisingIn space number (pairs_in store)
@@ -81,7 +81,7 @@ module _ {F S R P : Type 0} (name : R → NamedFile) where
   -- ---- both spaces
 
   space_was : (change : ℕ → KeptFile → KeptFile) → LeavesNames change → (a b : KeptFiles) → ChangesFiles change a b
-      → (space : Space) (store : Store) (path : List ℕ) (number : ℕ) (range : Range) (sources : List (PinnedSource F S R P))
+      → (space : Space) (store : MemoryState) (path : List ℕ) (number : ℕ) (range : Range) (sources : List (PinnedSource F S R P))
       → AreOfSpace name space b store path number range sources → AreOfSpace name space a store path number range sources
   space_was change leaves a b changes space store path number range sources of = record {
     listed = of.listed;
@@ -92,7 +92,7 @@ module _ {F S R P : Type 0} (name : R → NamedFile) where
   }
 
   sources_were : (change : ℕ → KeptFile → KeptFile) → LeavesNames change → (a b : KeptFiles) → ChangesFiles change a b
-      → (store : Store) (path : List ℕ) (number : ℕ) (range : Range) (sources : List (PinnedSource F S R P))
+      → (store : MemoryState) (path : List ℕ) (number : ℕ) (range : Range) (sources : List (PinnedSource F S R P))
       → AreSourcesOf name b store path number range sources → AreSourcesOf name a store path number range sources
   sources_were change leaves a b changes store path number range sources of = record {
     sequence = of.sequence;
@@ -103,13 +103,13 @@ module _ {F S R P : Type 0} (name : R → NamedFile) where
   }
 
   pub both_some : (old now new : KeptFiles) (before middle after : List (PinnedSource F S R P)) (Are : List (PinnedSource F S R P) → Type 0)
-      → TakesAll name Are old now before middle → TakesSome name now new middle after → TakesSome name old new before after
+      → TakesAll name Are old now before middle → TakesSomeSources name now new middle after → TakesSomeSources name old new before after
   both_some old now new before middle after Are first second = (
     first.0 ++ second.0,
     taken_then name old now new before middle after first.0 second.0 first.1 second.1,
   )
 
-  pub both_taken : (old now new : KeptFiles) (store : Store) (path : List ℕ) (number : ℕ) (range : Range)
+  pub both_taken : (old now new : KeptFiles) (store : MemoryState) (path : List ℕ) (number : ℕ) (range : Range)
       (before middle after : List (PinnedSource F S R P))
       → TakesAll name (AreOfSpace name Sequence old store path number range) old now before middle
       → TakesAll name (AreOfSpace name Unsequence now store path number range) now new middle after
@@ -129,16 +129,16 @@ module _ {F S R P : Type 0} (name : R → NamedFile) where
 
   -- ---- a column
 
-  pub some_held : (old now : KeptFiles) (after : List (PinnedSource F S R P)) → TakesSome name old now [] after → AreHeldIn name now after
+  pub some_held : (old now : KeptFiles) (after : List (PinnedSource F S R P)) → TakesSomeSources name old now [] after → AreHeldIn name now after
   some_held old now after taken = held_stays name (more_on (numbers_in taken.0)) (takes_names (numbers_in taken.0)) old now
       taken.1.rights after (subst (AreHeldIn name old) (sym taken.1.are) taken.1.held)
 
-  pub some_returned : (old now new : KeptFiles) (after : List (PinnedSource F S R P)) → TakesSome name old now [] after
-      → GivesRights (numbers_in after) now new → KeepsFiles old new
+  pub some_returned : (old now new : KeptFiles) (after : List (PinnedSource F S R P)) → TakesSomeSources name old now [] after
+      → GivesRights (numbers_in after) now new → ChangesNoFile old new
   some_returned old now new after taken given = given_back (numbers_in after) old now new
       (subst (λ (l : List (PinnedSource F S R P)). TakesRights (numbers_in l) old now) (sym taken.1.are) taken.1.rights) given
 
-  pub column_taken : (store : Store) (range : Range) (asked : Asked) (old new : KeptFiles) (sources : List (PinnedSource F S R P))
+  pub column_taken : (store : MemoryState) (range : Range) (asked : AskedSeries) (old new : KeptFiles) (sources : List (PinnedSource F S R P))
       (column : Column F S R P) (before after : List (Column F S R P))
       → TakesAll name (AreSourcesOf name old store asked.schema.path asked.id.0 range) old new [] sources
       → column.schema ≡ asked.schema → column.aggregate ≡ asked.aggregate → column.sources ≡ sources
@@ -180,14 +180,14 @@ module _ {F S R P : Type 0} (name : R → NamedFile) where
   }
 
   -- the columns of the series that were read are there, and the others are still to come
-  pub record AreGathered (store : Store) (range : Range) (all rest : List Asked) (old now : KeptFiles)
+  pub record AreGathered (store : MemoryState) (range : Range) (all rest : List AskedSeries) (old now : KeptFiles)
       (before after : List (Column F S R P))
       : Type 0 where
-    pub read : List Asked
+    pub read : List AskedSeries
     pub split : all ≡ read ++ rest
     pub taken : AreColumnsTaken name store range read old now before after
 
-  pub none_gathered : (store : Store) (range : Range) (all rest : List Asked) (old : KeptFiles) (before : List (Column F S R P))
+  pub none_gathered : (store : MemoryState) (range : Range) (all rest : List AskedSeries) (old : KeptFiles) (before : List (Column F S R P))
       → rest ≡ all → AreGathered store range all rest old old before before
   none_gathered store range all rest old before same = record {
     read = [];
@@ -199,13 +199,13 @@ module _ {F S R P : Type 0} (name : R → NamedFile) where
     );
   }
 
-  pub one_gathered : (store : Store) (range : Range) (all rest left : List Asked) (asked : Asked) (old now new : KeptFiles)
+  pub one_gathered : (store : MemoryState) (range : Range) (all rest left : List AskedSeries) (asked : AskedSeries) (old now new : KeptFiles)
       (before middle after : List (Column F S R P)) → AreGathered store range all rest old now before middle → rest ≡ asked ∷ left
       → IsColumnTaken name store range asked now new middle after
       → AreGathered store range all left old new before after
   one_gathered store range all rest left asked old now new before middle after gathered next column = record {
     read = gathered.read ++ asked ∷ [];
-    split = gathered.split ∙ ap (λ (l : List Asked). gathered.read ++ l) next
+    split = gathered.split ∙ ap (λ (l : List AskedSeries). gathered.read ++ l) next
         ∙ sym (append_assoc gathered.read (asked ∷ []) left);
     taken = (
       gathered.taken.0 ++ column.0 ∷ [],
@@ -223,15 +223,15 @@ module _ {F S R P : Type 0} (name : R → NamedFile) where
     );
   }
 
-  pub all_gathered : (store : Store) (range : Range) (all rest : List Asked) (old now : KeptFiles) (before after : List (Column F S R P))
+  pub all_gathered : (store : MemoryState) (range : Range) (all rest : List AskedSeries) (old now : KeptFiles) (before after : List (Column F S R P))
       → AreGathered store range all rest old now before after → rest ≡ []
       → AreColumnsTaken name store range all old now before after
   all_gathered store range all rest old now before after gathered none =
       subst (λ l. AreColumnsTaken name store range l old now before after)
-      (sym (gathered.split ∙ ap (λ (l : List Asked). gathered.read ++ l) none ∙ append-nil gathered.read)) gathered.taken
+      (sym (gathered.split ∙ ap (λ (l : List AskedSeries). gathered.read ++ l) none ∙ append-nil gathered.read)) gathered.taken
 
-  pub gathered_some : (store : Store) (range : Range) (all rest : List Asked) (old now new : KeptFiles)
-      (before middle after : List (Column F S R P)) → AreGathered store range all rest old now before middle → KeepsFiles now new
+  pub gathered_some : (store : MemoryState) (range : Range) (all rest : List AskedSeries) (old now new : KeptFiles)
+      (before middle after : List (Column F S R P)) → AreGathered store range all rest old now before middle → ChangesNoFile now new
       → after ≡ middle → TakesSomeColumns name old new before after
   gathered_some store range all rest old now new before middle after gathered keeps same = (
     gathered.taken.0 ++ [],
@@ -252,7 +252,7 @@ module _ {F S R P : Type 0} (name : R → NamedFile) where
       taken.1.rights column.sources held) after (subst (AreColumnsHeld name old) (sym taken.1.are) taken.1.held)
 
   pub columns_returned : (old now new : KeptFiles) (after : List (Column F S R P)) → TakesSomeColumns name old now [] after
-      → GivesRights (column_numbers after) now new → KeepsFiles old new
+      → GivesRights (column_numbers after) now new → ChangesNoFile old new
   columns_returned old now new after taken given = given_back (column_numbers after) old now new
       (subst (λ (l : List (Column F S R P)). TakesRights (column_numbers l) old now) (sym taken.1.are) taken.1.rights) given
 

@@ -10,7 +10,7 @@ use Rattle.tsdb_base.specs.declared.ids.FileNumber.{FileNumber}
 use Rattle.tsdb_base.specs.declared.ids.Space.{Space}
 use Rattle.tsdb_base.specs.declared.ids.Space.TheVariants.{Sequence, Unsequence}
 use Rattle.tsdb_base.specs.declared.ids.Stamp.{Stamp}
-use Rattle.tsdb_fileset.specs.Files.{KeepsLists, KeptFiles, entries_in, has_path, kept_file, series_at}
+use Rattle.tsdb_fileset.specs.Files.{KeepsLists, KeptFiles, entries_in, has_path, kept_file, paths_at}
 use Rattle.tsdb_fileset.specs.Places.{KeptFile}
 use Rattle.tsdb_fileset.specs.Rights.{HasChanged, IsRightTo, one_more}
 use Rattle.tsdb_fileset.specs.Places.{OthersStay}
@@ -20,7 +20,7 @@ use Rattle.tsdb_fileset.specs.StatePlaces.{is_path}
 use Rattle.tsdb_outside.specs.Files.{NamedFile}
 use Rattle.tsdb_pin.proofs.Changing.{LeavesNames, kept_changed, none_shared, right_stays, right_was, takes_names}
 use Rattle.tsdb_pin.proofs.Changing.{takes_none, takes_one, takes_then, nothing_changed}
-use Rattle.tsdb_pin.specs.Changes.{ChangesFiles, KeepsFiles, TakesSources, TakesAll, TakesRights, TakesSome, more_rights}
+use Rattle.tsdb_pin.specs.Changes.{ChangesFiles, ChangesNoFile, TakesSources, TakesAll, TakesRights, TakesSomeSources, more_rights}
 use Rattle.tsdb_pin.specs.Sources.{AreHeldIn, AreOfFiles, IsFileWithRight, IsHeldIn, IsOfEntry, numbers_in}
 use Rattle.tsdb_pin.specs.Sources.{source_numbers}
 use Rattle.tsdb_pin.specs.declared.pin.PinnedSource.{PinnedSource}
@@ -70,7 +70,7 @@ pub kept_with_path : (path : List ℕ) (files : KeptFiles) (n : ℕ) → has_pat
 kept_with_path path files n e = any_none path (kept_file n files) e
 
 pub series_stay : (change : ℕ → KeptFile → KeptFile) → LeavesNames change → (a b : KeptFiles) → ChangesFiles change a b
-    → (n : ℕ) → series_at n b ≡ series_at n a
+    → (n : ℕ) → paths_at n b ≡ paths_at n a
 series_stay change leaves a b changes n = ap (λ (o : Option KeptFile). unwrap_or (option_map (λ (file : KeptFile). file.series) o) [])
     (kept_changed change a b changes n) ∙ by (kept_file n a)
   where
@@ -139,7 +139,7 @@ module _ {F S R P : Type 0} (name : R → NamedFile) where
 
   -- ---- one part after another
 
-  pub nothing_taken : (a b : KeptFiles) (before after : List (PinnedSource F S R P)) → KeepsFiles a b → after ≡ before
+  pub nothing_taken : (a b : KeptFiles) (before after : List (PinnedSource F S R P)) → ChangesNoFile a b → after ≡ before
       → TakesSources name a b before after []
   nothing_taken a b before after keeps same = record {
     are = same ∙ sym (append-nil before);
@@ -206,12 +206,12 @@ module _ {F S R P : Type 0} (name : R → NamedFile) where
   none_taken path space old before = ([], nothing_taken old old before before (nothing_changed old) refl, tt)
 
   pub some_taken : (path : List ℕ) (space : Space) (old now : KeptFiles) (before after : List (PinnedSource F S R P)) (i : ℕ)
-      → AreTakenTo path space old now before after i → TakesSome name old now before after
+      → AreTakenTo path space old now before after i → TakesSomeSources name old now before after
   some_taken path space old now before after i taken = (taken.0, taken.1)
 
   pub file_failed : (path : List ℕ) (space : Space) (old now new : KeptFiles) (before middle after : List (PinnedSource F S R P))
-      (i : ℕ) → AreTakenTo path space old now before middle i → KeepsFiles now new → after ≡ middle
-      → TakesSome name old new before after
+      (i : ℕ) → AreTakenTo path space old now before middle i → ChangesNoFile now new → after ≡ middle
+      → TakesSomeSources name old new before after
   file_failed path space old now new before middle after i taken keeps same = (
     taken.0 ++ [],
     taken_then old now new before middle after taken.0 [] taken.1 (nothing_taken now new middle after keeps same),

@@ -7,20 +7,20 @@ use Rattle.std.specs.List.{AllByRecursion as Each, AllZip, filter, flat_map, lis
 use Rattle.std.specs.Option.{option_map}
 use Rattle.std.proofs.lemmas.Bool.{eq-eqb, false≢true}
 use Rattle.tsdb_base.specs.declared.point.Range.{Range}
-use Rattle.tsdb_fileset.specs.Held.{AreFilesOf, entry_of, leaving, listed}
+use Rattle.tsdb_fileset.specs.Held.{AreFilesOf, entry_of, outgoing_file, listed}
 use Rattle.tsdb_fileset.specs.Files.{AreKept, KeptFiles, kept_file}
 use Rattle.tsdb_fileset.specs.Places.{KeptFile}
 use Rattle.tsdb_base.proofs.Lists.{each_weaker}
 use Rattle.tsdb_fileset.proofs.LayerLemmas.Places.{is_path_same}
 use Rattle.tsdb_base.specs.Lists.{Among, count}
 use Rattle.tsdb_fileset.specs.Marks.{is_over, survives}
-use Rattle.tsdb_fileset.specs.StatePlaces.{Place, is_path}
+use Rattle.tsdb_fileset.specs.StatePlaces.{PointPlace, is_path}
 use Rattle.tsdb_model.specs.declared.command.Item.{Item}
 use Rattle.tsdb_model.specs.declared.command.Schema.{Schema}
 use Rattle.tsdb_marks.specs.Lists.{is_of}
 use Rattle.tsdb_marks.specs.declared.marks.Mark.{Mark}
 use Rattle.tsdb_fileset.specs.Shown.{IsMemoryOf, number_of}
-use Rattle.tsdb_fileset.specs.Store.{Store}
+use Rattle.tsdb_fileset.specs.Store.{MemoryState}
 use Rattle.tsdb_outside.specs.Files.{NamedFile}
 use Rattle.tsdb_pin.proofs.Changing.{LeavesNames, gives_names, kept_changed, takes_names}
 use Rattle.tsdb_pin.proofs.Stated.{sources_shown}
@@ -29,15 +29,15 @@ use Rattle.tsdb_pin.specs.Items.{IsAsked}
 use Rattle.tsdb_pin.specs.Pins.{AreColumnsHeld, AreColumnsTaken, IsColumn, IsColumnFor, IsPinFor, IsPinOver, column_paths}
 use Rattle.tsdb_pin.specs.Shown.{IsColumnOf, IsShownAs, IsStated, LeavesState}
 use Rattle.tsdb_pin.specs.Sources.{AreSourcesOf, numbers_in, source_numbers as pinned_numbers}
-use Rattle.tsdb_pin.specs.declared.items.Asked.{Asked}
+use Rattle.tsdb_pin.specs.declared.items.AskedSeries.{AskedSeries}
 use Rattle.tsdb_pin.specs.declared.pin.Column.{Column}
 use Rattle.tsdb_pin.specs.declared.pin.Pin.{Pin}
 use Rattle.tsdb_pin.specs.declared.pin.PinnedSource.{PinnedSource}
 use Rattle.tsdb_pin.specs.declared.pin.PinnedSource.TheVariants as source
 use Rattle.tsdb_plan.specs.declared.entry.FileEntry.{FileEntry}
-use Rattle.tsdb_fileset.specs.StateJobs.{pin_numbers, source_numbers}
+use Rattle.tsdb_fileset.specs.StateJobs.{pin_numbers, source_file_numbers}
 use Rattle.tsdb_fileset.specs.State as states
-use Rattle.tsdb_fileset.specs.State.{Entries, EngineState, FromFile, FromPart}
+use Rattle.tsdb_fileset.specs.State.{KnownFiles, EngineState, FromFile, FromPart}
 use Rattle.tsdb_fileset.specs.Steps.{pinned, sources_of, with_rights, without_rights}
 
 -- ---- marks
@@ -74,7 +74,7 @@ marks_alike paths path time born among [] = refl
 marks_alike paths path time born among (mark ∷ marks) =
     by (is_of paths mark) refl (marks_alike paths path time born among marks)
   where
-    here : Place
+    here : PointPlace
     here = record { path = path; time = time }
 
     by : (b : Bool) → is_of paths mark ≡ b → survives (filter (is_of paths) marks) here born ≡ survives marks here born
@@ -90,14 +90,14 @@ marks_alike paths path time born among (mark ∷ marks) =
 -- ---- rights
 
 -- each file has become another of its name, whose rights are counted so
-pub files_with : (change : ℕ → KeptFile → KeptFile) → LeavesNames change → (a b : KeptFiles) (known : Entries)
-    (engine : EngineState) (pins : List states.Pin) (rights : ℕ → ℕ) → ChangesFiles change a b
+pub files_with : (change : ℕ → KeptFile → KeptFile) → LeavesNames change → (a b : KeptFiles) (known : KnownFiles)
+    (engine : EngineState) (pins : List states.PinState) (rights : ℕ → ℕ) → ChangesFiles change a b
     → ((n : ℕ) (file : KeptFile) → file.rights ≡ engine.rights n → (change n file).rights ≡ rights n)
     → AreFilesOf a known engine → AreFilesOf b known (record engine { pins = pins; rights = rights })
 files_with change leaves a b known engine pins rights changes counts are = record {
   sequence = ap (map listed) changes.lists.sequence ∙ are.sequence;
   unsequence = ap (map listed) changes.lists.unsequence ∙ are.unsequence;
-  outgoing = ap (map leaving) changes.lists.outgoing ∙ are.outgoing;
+  outgoing = ap (map outgoing_file) changes.lists.outgoing ∙ are.outgoing;
   rights = λ n. subst (λ o. IfSome o (λ file. file.rights ≡ rights n)) (sym (kept_changed change a b changes n))
       (counted n (kept_file n a) (are.rights n));
   entries_in_sequence = subst (Each said_by_b) (sym changes.lists.sequence)
@@ -134,30 +134,30 @@ files_with change leaves a b known engine pins rights changes counts are = recor
 
 module _ {F S R P : Type 0} where
   -- the state's pin has rights on the same files
-  sources_on : (path : List ℕ) (sources : List (PinnedSource F S R P)) (shown : List states.Source)
-      → AllZip (IsShownAs path) sources shown → flat_map source_numbers shown ≡ numbers_in sources
+  sources_on : (path : List ℕ) (sources : List (PinnedSource F S R P)) (shown : List states.SourceState)
+      → AllZip (IsShownAs path) sources shown → flat_map source_file_numbers shown ≡ numbers_in sources
   sources_on path [] [] are = refl
   sources_on path [] (one ∷ shown) are = absurd are
   sources_on path (one ∷ sources) [] are = absurd are
   sources_on path (one ∷ sources) (other ∷ shown) are = by one other are.0 (sources_on path sources shown are.1)
     where
-      by : (one : PinnedSource F S R P) (other : states.Source) → IsShownAs path one other
-          → flat_map source_numbers shown ≡ numbers_in sources
-          → source_numbers other ++ flat_map source_numbers shown ≡ pinned_numbers one ++ numbers_in sources
+      by : (one : PinnedSource F S R P) (other : states.SourceState) → IsShownAs path one other
+          → flat_map source_file_numbers shown ≡ numbers_in sources
+          → source_file_numbers other ++ flat_map source_file_numbers shown ≡ pinned_numbers one ++ numbers_in sources
       by (source.File number born right) (FromFile file) h rest = λ i. h.0 i ∷ rest i
       by (source.File number born right) (FromPart layer) h rest = absurd h
       by (source.Part born points) (FromFile file) h rest = absurd h
       by (source.Part born points) (FromPart layer) h rest = rest
 
-  columns_on : (columns : List (Column F S R P)) (shown : List states.Column) → AllZip IsColumnOf columns shown
-      → flat_map (λ (c : states.Column). flat_map source_numbers c.sources) shown ≡ column_numbers columns
+  columns_on : (columns : List (Column F S R P)) (shown : List states.ColumnState) → AllZip IsColumnOf columns shown
+      → flat_map (λ (c : states.ColumnState). flat_map source_file_numbers c.sources) shown ≡ column_numbers columns
   columns_on [] [] are = refl
   columns_on [] (one ∷ shown) are = absurd are
   columns_on (column ∷ columns) [] are = absurd are
   columns_on (column ∷ columns) (one ∷ shown) are = λ i. sources_on column.schema.path column.sources one.sources are.0.sources i
       ++ columns_on columns shown are.1 i
 
-  files_pinned : (a b : KeptFiles) (known : Entries) (engine : EngineState) (shown : states.Pin)
+  files_pinned : (a b : KeptFiles) (known : KnownFiles) (engine : EngineState) (shown : states.PinState)
       (columns : List (Column F S R P)) → AllZip IsColumnOf columns shown.columns
       → TakesRights (column_numbers columns) a b → AreFilesOf a known engine → AreFilesOf b known (pinned shown engine)
   files_pinned a b known engine shown columns are taken files = files_with
@@ -180,11 +180,11 @@ module _ {F S R P : Type 0} where
 
 -- ---- the pin
 
-module _ {F S R P : Type 0} (name : R → NamedFile) (files : KeptFiles) (store : Store) (known : Entries)
+module _ {F S R P : Type 0} (name : R → NamedFile) (files : KeptFiles) (store : MemoryState) (known : KnownFiles)
     (state : EngineState) (memory : IsMemoryOf store state.store) (are : AreFilesOf files known state) (kept : AreKept files)
     (device : List ℕ) (range : Range) where
   -- the column of the state
-  abbrev shown_column : Column F S R P → states.Column
+  abbrev shown_column : Column F S R P → states.ColumnState
   shown_column column = record {
     path = column.schema.path;
     sources = sources_of known state.store column.schema.path range;
@@ -206,12 +206,12 @@ module _ {F S R P : Type 0} (name : R → NamedFile) (files : KeptFiles) (store 
   )
 
   same_sources : (columns : List (Column F S R P))
-      → Each (λ (c : states.Column). c.sources ≡ sources_of known state.store c.path range) (map shown_column columns)
+      → Each (λ (c : states.ColumnState). c.sources ≡ sources_of known state.store c.path range) (map shown_column columns)
   same_sources [] = tt
   same_sources (column ∷ columns) = (refl, same_sources columns)
 
   same_marks : (all columns : List (Column F S R P)) → ((path : List ℕ) → Among path (column_paths columns) → Among path (column_paths all))
-      → Each (λ (c : states.Column). (time : ℤ) (born : ℕ)
+      → Each (λ (c : states.ColumnState). (time : ℤ) (born : ℕ)
       → survives (filter (is_of (column_paths all)) store.marks.marks) (record { path = c.path; time = time }) born
       ≡ survives state.store.marks (record { path = c.path; time = time }) born) (map shown_column columns)
   same_marks all [] some = tt
@@ -235,7 +235,7 @@ module _ {F S R P : Type 0} (name : R → NamedFile) (files : KeptFiles) (store 
     };
     takes = record {
       stamp = given.stamp ∙ sym memory.stamp;
-      marks = subst (λ (marks : List Mark). Each (λ (c : states.Column). (time : ℤ) (born : ℕ)
+      marks = subst (λ (marks : List Mark). Each (λ (c : states.ColumnState). (time : ℤ) (born : ℕ)
           → survives marks (record { path = c.path; time = time }) born
           ≡ survives state.store.marks (record { path = c.path; time = time }) born) (map shown_column pin.columns))
           (sym given.marks) (same_marks pin.columns pin.columns (λ path among. among));
@@ -245,7 +245,7 @@ module _ {F S R P : Type 0} (name : R → NamedFile) (files : KeptFiles) (store 
         (columns_shown items pin.columns given.columns) rights are;
   }
     where
-      shown : states.Pin
+      shown : states.PinState
       shown = record {
         stamp = pin.stamp.0;
         range = range;
@@ -255,8 +255,8 @@ module _ {F S R P : Type 0} (name : R → NamedFile) (files : KeptFiles) (store 
 
 -- ---- the pin of items
 
-module _ {F S R P : Type 0} (name : R → NamedFile) (files : KeptFiles) (store : Store) (device : List ℕ) (range : Range) where
-  column_for : (item : Item) (asked : Asked) (column : Column F S R P) → IsAsked store.series device item asked
+module _ {F S R P : Type 0} (name : R → NamedFile) (files : KeptFiles) (store : MemoryState) (device : List ℕ) (range : Range) where
+  column_for : (item : Item) (asked : AskedSeries) (column : Column F S R P) → IsAsked store.series device item asked
       → IsColumn name files store range asked column → IsColumnFor name files store device range item column
   column_for item asked column read is = record {
     number = asked.id.0;
@@ -268,7 +268,7 @@ module _ {F S R P : Type 0} (name : R → NamedFile) (files : KeptFiles) (store 
         is.sources;
   }
 
-  columns_for : (items : List Item) (all : List Asked) (columns : List (Column F S R P))
+  columns_for : (items : List Item) (all : List AskedSeries) (columns : List (Column F S R P))
       → AllZip (IsAsked store.series device) items all → AllZip (IsColumn name files store range) all columns
       → AllZip (IsColumnFor name files store device range) items columns
   columns_for [] [] [] read are = tt
@@ -281,15 +281,15 @@ module _ {F S R P : Type 0} (name : R → NamedFile) (files : KeptFiles) (store 
     columns_for items all columns read.1 are.1,
   )
 
-  same_paths : (all : List Asked) (columns : List (Column F S R P)) → AllZip (IsColumn name files store range) all columns
-      → map (λ (asked : Asked). asked.schema.path) all ≡ column_paths columns
+  same_paths : (all : List AskedSeries) (columns : List (Column F S R P)) → AllZip (IsColumn name files store range) all columns
+      → map (λ (asked : AskedSeries). asked.schema.path) all ≡ column_paths columns
   same_paths [] [] are = refl
   same_paths [] (column ∷ columns) are = absurd are
   same_paths (asked ∷ all) [] are = absurd are
   same_paths (asked ∷ all) (column ∷ columns) are = λ i. (sym are.0.schema i).path ∷ same_paths all columns are.1 i
 
   -- the pin of the series of the items is that of the items
-  pub pin_for : (items : List Item) (all : List Asked) (new : KeptFiles) (pin : Pin F S R P)
+  pub pin_for : (items : List Item) (all : List AskedSeries) (new : KeptFiles) (pin : Pin F S R P)
       → AllZip (IsAsked store.series device) items all → IsPinOver name store range all files new pin
       → IsPinFor name files store device items range pin
   pin_for items all new pin read over = record {
@@ -300,7 +300,7 @@ module _ {F S R P : Type 0} (name : R → NamedFile) (files : KeptFiles) (store 
     columns = columns_for items all pin.columns read over.columns;
   }
 
-module _ {F S R P : Type 0} (name : R → NamedFile) (store : Store) (range : Range) (all : List Asked) where
+module _ {F S R P : Type 0} (name : R → NamedFile) (store : MemoryState) (range : Range) (all : List AskedSeries) where
   -- the pin with columns that were taken
   pub pin_over : (old new : KeptFiles) (columns : List (Column F S R P)) (pin : Pin F S R P)
       → AreColumnsTaken name store range all old new [] columns → pin.stamp.0 ≡ store.stamp → pin.range ≡ range

@@ -16,23 +16,23 @@ use Rattle.tsdb_base.specs.declared.point.Point.{Point}
 use Rattle.tsdb_base.specs.declared.point.Range.{Range}
 use Rattle.tsdb_base.specs.declared.value.Value.{Value}
 use Rattle.tsdb_fileset.specs.Held.{AreFilesOf, entry_of, listed}
-use Rattle.tsdb_fileset.specs.Files.{AreKept, KeptFiles, entries_in, entry_numbers, has_path, kept_file, numbers_of}
+use Rattle.tsdb_fileset.specs.Files.{AreKept, KeptFiles, entries_in, entry_numbers, has_path, kept_file, all_numbers}
 use Rattle.tsdb_fileset.specs.Files.{outgoing_numbers}
 use Rattle.tsdb_fileset.specs.Places.{KeptFile}
 use Rattle.tsdb_base.proofs.Lists.{count_append, each_from_among, each_both}
 use Rattle.tsdb_fileset.proofs.LayerLemmas.Places.{is_path_same, path_itself, place_cmp-IsAntisymmetric, same_content}
 use Rattle.tsdb_fileset.specs.Layers.{Layer}
 use Rattle.tsdb_base.specs.Lists.{Among, count, if_some}
-use Rattle.tsdb_fileset.specs.StatePlaces.{Content, Place, is_path, is_within as is_within_place, place_cmp}
+use Rattle.tsdb_fileset.specs.StatePlaces.{Content, PointPlace, is_path, is_within as is_within_place, place_cmp}
 use Rattle.tsdb_model.specs.World.{is_in}
 use Rattle.tsdb_model.specs.declared.command.Schema.{Schema}
 use Rattle.tsdb_fileset.proofs.Emptiness.{part_is}
-use Rattle.tsdb_fileset.specs.Shown.{IsFrozenOf, IsMemoryOf, number_of, part_of, value_at}
+use Rattle.tsdb_fileset.specs.Shown.{IsFrozenOf, IsMemoryOf, number_of, part_of, point_value_at}
 use Rattle.tsdb_fileset.specs.Store as memory
-use Rattle.tsdb_fileset.specs.Store.{Store}
+use Rattle.tsdb_fileset.specs.Store.{MemoryState}
 use Rattle.tsdb_memtable.specs.Pairs.{points_of}
 use Rattle.tsdb_base.specs.Points.{IsRising}
-use Rattle.tsdb_memtable.specs.Points.{is_within}
+use Rattle.tsdb_memtable.specs.Points.{is_point_within}
 use Rattle.tsdb_outside.specs.Files.{NamedFile}
 use Rattle.tsdb_pin.proofs.Listed.{zip_append}
 use Rattle.tsdb_pin.specs.Shown.{ArePointsOf, IsShownAs}
@@ -42,7 +42,7 @@ use Rattle.tsdb_pin.specs.declared.pin.PinnedSource.{PinnedSource}
 use Rattle.tsdb_pin.specs.declared.pin.PinnedSource.TheVariants as source
 use Rattle.tsdb_plan.specs.declared.entry.FileEntry.{FileEntry}
 use Rattle.tsdb_fileset.specs.State as states
-use Rattle.tsdb_fileset.specs.State.{Entries, EngineState, File, FromFile, FromPart, Source, StoreState}
+use Rattle.tsdb_fileset.specs.State.{KnownFiles, EngineState, File, FromFile, FromPart, SourceState, StoreState}
 use Rattle.tsdb_fileset.specs.Steps.{file_sources, has_series, part_sources, part_within, sources_of}
 use Rattle.tsdb_fileset.specs.Views.{sequence_layer, unsequence_layer, working_pair}
 
@@ -73,12 +73,12 @@ is_there None n e h = absurd (none n e h)
     none n e h = omega (arith, e, h)
 is_there (Some file) n e h = refl
 
-module _ (files : KeptFiles) (known : Entries) (state : EngineState) (are : AreFilesOf files known state)
+module _ (files : KeptFiles) (known : KnownFiles) (state : EngineState) (are : AreFilesOf files known state)
     (kept : AreKept files) (path : List ℕ) where
-  counted : (space : Space) (n : ℕ) → 1 ≤ count n (entry_numbers (entries_in space files)) → 1 ≤ count n (numbers_of files)
+  counted : (space : Space) (n : ℕ) → 1 ≤ count n (entry_numbers (entries_in space files)) → 1 ≤ count n (all_numbers files)
   counted space n h = by space h
     where
-      all : count n (numbers_of files)
+      all : count n (all_numbers files)
           ≡ (count n (entry_numbers files.sequence) + count n (entry_numbers files.unsequence))
           + count n (outgoing_numbers files.outgoing)
       all = count_append n (entry_numbers files.sequence ++ entry_numbers files.unsequence) (outgoing_numbers files.outgoing)
@@ -91,15 +91,15 @@ module _ (files : KeptFiles) (known : Entries) (state : EngineState) (are : AreF
       second : (a b c d : ℕ) → d ≡ (a + b) + c → 1 ≤ b → 1 ≤ d
       second a b c d e h = omega (arith, e, h)
 
-      by : (space : Space) → 1 ≤ count n (entry_numbers (entries_in space files)) → 1 ≤ count n (numbers_of files)
+      by : (space : Space) → 1 ≤ count n (entry_numbers (entries_in space files)) → 1 ≤ count n (all_numbers files)
       by Sequence h = first (count n (entry_numbers files.sequence)) (count n (entry_numbers files.unsequence))
-          (count n (outgoing_numbers files.outgoing)) (count n (numbers_of files)) all h
+          (count n (outgoing_numbers files.outgoing)) (count n (all_numbers files)) all h
       by Unsequence h = second (count n (entry_numbers files.sequence)) (count n (entry_numbers files.unsequence))
-          (count n (outgoing_numbers files.outgoing)) (count n (numbers_of files)) all h
+          (count n (outgoing_numbers files.outgoing)) (count n (all_numbers files)) all h
 
   kept_entry : (space : Space) (entry : FileEntry) → Among entry (entries_in space files)
       → IsSome (kept_file entry.number.0 files)
-  kept_entry space entry among = is_there (kept_file entry.number.0 files) (count entry.number.0 (numbers_of files))
+  kept_entry space entry among = is_there (kept_file entry.number.0 files) (count entry.number.0 (all_numbers files))
       (kept entry.number.0) (counted space entry.number.0
       (some_count entry.number.0 0 (entry_numbers (entries_in space files)) (entry_number entry (entries_in space files) among)))
 
@@ -115,7 +115,7 @@ module _ (files : KeptFiles) (known : Entries) (state : EngineState) (are : AreF
       by : (o : Option KeptFile) → kept_file entry.number.0 files ≡ o → IsSome o
           → IfSome o (λ file. known entry.number.0 ≡ entry_of entry file.series) → IsAsKept entry
       by None e some said = absurd (false≢true some)
-      by (Some file) e some said = ap (λ (k : states.Entry). list_any (is_path path) k.series) said
+      by (Some file) e some said = ap (λ (k : states.KnownFile). list_any (is_path path) k.series) said
           ∙ sym (ap (λ (o : Option KeptFile). list_any (is_path path)
           (unwrap_or (option_map (λ (f : KeptFile). f.series) o) [])) e)
 
@@ -185,79 +185,79 @@ none_within false = refl
 
 -- the value of the points in a range
 value_within : (range : Range) (time : ℤ) (points : List Point)
-    → value_at time (filter (is_within range) points) ≡ cond (is_in range time) (value_at time points) None
+    → point_value_at time (filter (is_point_within range) points) ≡ cond (is_in range time) (point_value_at time points) None
 value_within range time [] = none_within (is_in range time)
 value_within range time (p ∷ points) = by (is_in range p.time) (int_eq time p.time) refl refl (value_within range time points)
   where
     found : List Point → Option Value
-    found l = value_at time l
+    found l = point_value_at time l
 
     first : Option Point → Option Value
     first o = option_map (λ (q : Point). q.value) o
 
     by : (inside here : Bool) → is_in range p.time ≡ inside → int_eq time p.time ≡ here
-        → found (filter (is_within range) points) ≡ cond (is_in range time) (found points) None
-        → found (cond (is_in range p.time) (p ∷ filter (is_within range) points) (filter (is_within range) points))
+        → found (filter (is_point_within range) points) ≡ cond (is_in range time) (found points) None
+        → found (cond (is_in range p.time) (p ∷ filter (is_point_within range) points) (filter (is_point_within range) points))
         ≡ cond (is_in range time) (first (cond (int_eq time p.time) (Some p) (find (λ (q : Point). int_eq time q.time) points))) None
     by true true e f rest =
-        ap (λ (b : Bool). found (cond b (p ∷ filter (is_within range) points) (filter (is_within range) points))) e
-        ∙ ap (λ (b : Bool). first (cond b (Some p) (find (λ (q : Point). int_eq time q.time) (filter (is_within range) points)))) f
+        ap (λ (b : Bool). found (cond b (p ∷ filter (is_point_within range) points) (filter (is_point_within range) points))) e
+        ∙ ap (λ (b : Bool). first (cond b (Some p) (find (λ (q : Point). int_eq time q.time) (filter (is_point_within range) points)))) f
         ∙ sym ((λ i. cond ((ap (is_in range) (same_time time p.time f) ∙ e) i)
         (first (cond (f i) (Some p) (find (λ (q : Point). int_eq time q.time) points))) None))
     by true false e f rest =
-        ap (λ (b : Bool). found (cond b (p ∷ filter (is_within range) points) (filter (is_within range) points))) e
-        ∙ ap (λ (b : Bool). first (cond b (Some p) (find (λ (q : Point). int_eq time q.time) (filter (is_within range) points)))) f
+        ap (λ (b : Bool). found (cond b (p ∷ filter (is_point_within range) points) (filter (is_point_within range) points))) e
+        ∙ ap (λ (b : Bool). first (cond b (Some p) (find (λ (q : Point). int_eq time q.time) (filter (is_point_within range) points)))) f
         ∙ rest
         ∙ ap (λ (b : Bool). cond (is_in range time) (first (cond b (Some p) (find (λ (q : Point). int_eq time q.time) points))) None) (sym f)
     by false true e f rest =
-        ap (λ (b : Bool). found (cond b (p ∷ filter (is_within range) points) (filter (is_within range) points))) e
+        ap (λ (b : Bool). found (cond b (p ∷ filter (is_point_within range) points) (filter (is_point_within range) points))) e
         ∙ rest
         ∙ ap (λ (b : Bool). cond b (found points) None) (ap (is_in range) (same_time time p.time f) ∙ e)
         ∙ sym (ap (λ (b : Bool). cond b (first (cond (int_eq time p.time) (Some p) (find (λ (q : Point). int_eq time q.time) points))) None)
         (ap (is_in range) (same_time time p.time f) ∙ e))
     by false false e f rest =
-        ap (λ (b : Bool). found (cond b (p ∷ filter (is_within range) points) (filter (is_within range) points))) e
+        ap (λ (b : Bool). found (cond b (p ∷ filter (is_point_within range) points) (filter (is_point_within range) points))) e
         ∙ rest
         ∙ ap (λ (b : Bool). cond (is_in range time) (first (cond b (Some p) (find (λ (q : Point). int_eq time q.time) points))) None) (sym f)
 
 module _ (series : List Schema) (path : List ℕ) (number : ℕ) (numbered : number_of series path ≡ Some number) (range : Range)
     (space : Space) where
-  abbrev at : ℤ → Place
+  abbrev at : ℤ → PointPlace
   at time = record { path = path; time = time }
 
   abbrev cut_to : Content → Content
   cut_to content = retain_keys content (is_within_place path range)
 
-  abbrev layer_in : states.FrozenPair → Layer
+  abbrev layer_in : states.FrozenContent → Layer
   layer_in pair = record { born = pair.born; content = part_of space pair.pair }
 
-  cut_at : (content : Content) (q : Place)
+  cut_at : (content : Content) (q : PointPlace)
       → get (cut_to content) q ≡ cond (is_within_place path range q) (get content q) None
   cut_at content q = get-retain_keys content (is_within_place path range) q
       (λ x e. ap (is_within_place path range) (sym (place_cmp-IsAntisymmetric q x e)))
 
-  module _ (pair : memory.FrozenPair) (shown : states.FrozenPair) (is : IsFrozenOf series pair shown) where
+  module _ (pair : memory.FrozenPair) (shown : states.FrozenContent) (is : IsFrozenOf series pair shown) where
     abbrev content : Content
     content = part_of space shown.pair
 
-    points_are : (time : ℤ) → value_at time (points_of space number pair.pair) ≡ get content (at time)
+    points_are : (time : ℤ) → point_value_at time (points_of space number pair.pair) ≡ get content (at time)
     points_are time = sym (part_is series pair.pair shown.pair space is.pair (at time)
-        ∙ ap (λ (o : Option ℕ). option_and_then (λ n. value_at time (points_of space n pair.pair)) o) numbered)
+        ∙ ap (λ (o : Option ℕ). option_and_then (λ n. point_value_at time (points_of space n pair.pair)) o) numbered)
 
-    slice_are : (time : ℤ) → value_at time (slice_of space number range pair) ≡ get (cut_to content) (at time)
+    slice_are : (time : ℤ) → point_value_at time (slice_of space number range pair) ≡ get (cut_to content) (at time)
     slice_are time = value_within range time (points_of space number pair.pair)
         ∙ ap (λ (o : Option Value). cond (is_in range time) o None) (points_are time)
         ∙ sym (cut_at content (at time)
         ∙ ap (λ (b : Bool). cond (b && is_in range time) (get content (at time)) None) (path_itself path))
 
     -- no point of another series is in it
-    elsewhere : (q : Place) → slice_of space number range pair ≡ [] → get (cut_to content) q ≡ None
+    elsewhere : (q : PointPlace) → slice_of space number range pair ≡ [] → get (cut_to content) q ≡ None
     elsewhere q none = by (is_path path q.path) refl
       where
         by : (b : Bool) → is_path path q.path ≡ b → get (cut_to content) q ≡ None
         by false e = cut_at content q ∙ ap (λ (b : Bool). cond (b && is_in range q.time) (get content q) None) e
         by true e = ap (λ (p : List ℕ). get (cut_to content) (record { path = p; time = q.time })) (sym (is_path_same path q.path e))
-            ∙ sym (slice_are q.time) ∙ ap (value_at q.time) none
+            ∙ sym (slice_are q.time) ∙ ap (point_value_at q.time) none
 
     not_empty : (p : Point) (points : List Point) → slice_of space number range pair ≡ p ∷ points
         → nat_lt 0 (len (cut_to content)) ≡ true
@@ -267,7 +267,7 @@ module _ (series : List Schema) (path : List ℕ) (number : ℕ) (numbered : num
         zero_is n e = grind (arith, nat_tests)
 
         there : get (cut_to content) (at p.time) ≡ Some p.value
-        there = sym (slice_are p.time) ∙ ap (value_at p.time) are
+        there = sym (slice_are p.time) ∙ ap (point_value_at p.time) are
             ∙ ap (λ (b : Bool). option_map (λ (q : Point). q.value) (cond b (Some p) (find (λ (q : Point). int_eq p.time q.time) points)))
             (time_itself p.time)
 
@@ -295,11 +295,11 @@ module _ (series : List Schema) (path : List ℕ) (number : ℕ) (numbered : num
     points_shown : IsRising (points_of space number pair.pair)
         → ArePointsOf path (slice_of space number range pair) (cut_to content)
     points_shown rising = record {
-      rising = AllPairs-filter (λ a b. a.time <ℤ b.time) (is_within range) (points_of space number pair.pair) rising;
+      rising = AllPairs-filter (λ a b. a.time <ℤ b.time) (is_point_within range) (points_of space number pair.pair) rising;
       are = slice_are;
     }
 
-  parts_shown : (F S R P : Type 0) (pairs : List memory.FrozenPair) (shown : List states.FrozenPair)
+  parts_shown : (F S R P : Type 0) (pairs : List memory.FrozenPair) (shown : List states.FrozenContent)
       → AllZip (IsFrozenOf series) pairs shown → AreRisingIn space number pairs
       → AllZip (IsShownAs {F = F} {S = S} {R = R} {P = P} path) (parts_in space number range pairs) (part_sources path range (map layer_in shown))
   parts_shown F S R P [] [] are rising = tt
@@ -317,7 +317,7 @@ module _ (series : List Schema) (path : List ℕ) (number : ℕ) (numbered : num
       rest_layers : List Layer
       rest_layers = filter has_some (map layer_in shown)
 
-      source_of : Layer → Source
+      source_of : Layer → SourceState
       source_of layer = FromPart (part_within path range layer)
 
       by : (b : Bool) → has_slice space number range pair ≡ b
@@ -344,13 +344,13 @@ module _ (series : List Schema) (path : List ℕ) (number : ℕ) (numbered : num
 -- ---- a column
 
 -- the pairs in memory are those of the state
-pairs_shown : (store : Store) (shown : StoreState) → IsMemoryOf store shown
+pairs_shown : (store : MemoryState) (shown : StoreState) → IsMemoryOf store shown
     → AllZip (IsFrozenOf store.series) (pairs_in store) (shown.frozen ++ working_pair shown ∷ [])
 pairs_shown store shown is = zip_append (IsFrozenOf store.series) store.frozen
     (record { born = store.stamp; pair = store.working } ∷ []) shown.frozen (working_pair shown ∷ []) is.frozen
     (record { born = is.stamp; pair = is.working }, tt)
 
-pub sources_shown : {F S R P : Type 0} (name : R → NamedFile) (files : KeptFiles) (store : Store) (known : Entries)
+pub sources_shown : {F S R P : Type 0} (name : R → NamedFile) (files : KeptFiles) (store : MemoryState) (known : KnownFiles)
     (state : EngineState) → IsMemoryOf store state.store → AreFilesOf files known state → AreKept files
     → (path : List ℕ) (number : ℕ) (range : Range) → number_of store.series path ≡ Some number
     → (sources : List (PinnedSource F S R P)) → AreSourcesOf name files store path number range sources
@@ -375,11 +375,11 @@ sources_shown {F = F} {S = S} {R = R} {P = P} name files store known state memor
     (parts_shown store.series path number numbered range Unsequence F S R P (pairs_in store) pairs (pairs_shown store state.store memory)
     of.in_unsequence.rising))))
   where
-    pairs : List states.FrozenPair
+    pairs : List states.FrozenContent
     pairs = state.store.frozen ++ working_pair state.store ∷ []
 
-    low : List Source
+    low : List SourceState
     low = file_sources known path state.store.sequence ++ part_sources path range (map sequence_layer pairs)
 
-    high : List Source
+    high : List SourceState
     high = file_sources known path state.store.unsequence ++ part_sources path range (map unsequence_layer pairs)

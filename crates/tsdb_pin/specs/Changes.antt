@@ -3,7 +3,7 @@ use Rattle.std.specs.Prelude.{◌≡◌, ℕ, ◌+◌, ◌-◌, List, ◌++◌}
 use Rattle.std.specs.List.{flat_map}
 use Rattle.std.specs.Option.{option_map}
 use Rattle.tsdb_fileset.specs.Files.{KeepsLists, KeptFiles}
-use Rattle.tsdb_fileset.specs.Places.{KeptFile, place_at}
+use Rattle.tsdb_fileset.specs.Places.{KeptFile, place_of_number}
 use Rattle.tsdb_base.specs.Lists.{count}
 use Rattle.tsdb_outside.specs.Files.{NamedFile}
 use Rattle.tsdb_pin.specs.Sources.{AreHeldIn, numbers_in}
@@ -20,7 +20,8 @@ fewer_rights fewer file = record file { rights = file.rights - fewer }
 -- Each kept file has become another, as its number says. No file comes or goes, and the lists and the room stay.
 pub record ChangesFiles (change : ℕ → KeptFile → KeptFile) (old new : KeptFiles) : Type 0 where
   pub places : (number : ℕ)
-      → place_at number new.places ≡ option_map (λ place. option_map (change number) place) (place_at number old.places)
+      → place_of_number number new.places ≡ option_map (λ place. option_map (change number) place)
+      (place_of_number number old.places)
   pub lists : KeepsLists old new
   pub room : new.spare ≡ old.spare
 
@@ -32,8 +33,8 @@ abbrev pub GivesRights : List ℕ → KeptFiles → KeptFiles → Type 0
 GivesRights numbers old new = ChangesFiles (λ number. fewer_rights (count number numbers)) old new
 
 -- nothing has changed
-abbrev pub KeepsFiles : KeptFiles → KeptFiles → Type 0
-KeepsFiles old new = ChangesFiles (λ number file. file) old new
+abbrev pub ChangesNoFile : KeptFiles → KeptFiles → Type 0
+ChangesNoFile old new = ChangesFiles (λ number file. file) old new
 
 module _ {F S R P : Type 0} where
   -- the numbers of the files that columns have rights on, once for each right
@@ -48,8 +49,9 @@ module _ {F S R P : Type 0} (name : R → NamedFile) where
     pub held : AreHeldIn name old more
 
   -- some sources came behind the others
-  abbrev pub TakesSome : KeptFiles → KeptFiles → List (PinnedSource F S R P) → List (PinnedSource F S R P) → Type 0
-  TakesSome old new before after = (more : List (PinnedSource F S R P)) × TakesSources old new before after more
+  abbrev pub TakesSomeSources : KeptFiles → KeptFiles → List (PinnedSource F S R P) → List (PinnedSource F S R P)
+      → Type 0
+  TakesSomeSources old new before after = (more : List (PinnedSource F S R P)) × TakesSources old new before after more
 
   -- sources of which this holds came behind the others
   abbrev pub TakesAll : (List (PinnedSource F S R P) → Type 0) → KeptFiles → KeptFiles

@@ -12,9 +12,9 @@ use Rattle.tsdb_model.specs.Apply.{is_unfit}
 use Rattle.tsdb_model.specs.World.{new_series}
 use Rattle.tsdb_model.specs.declared.command.Item.{Item}
 use Rattle.tsdb_model.specs.declared.command.Schema.{Schema}
-use Rattle.tsdb_fileset.specs.Shown.{entry_of, number_of}
+use Rattle.tsdb_fileset.specs.Shown.{series_entry, number_of}
 use Rattle.tsdb_path.specs.Nodes.{child_of}
-use Rattle.tsdb_pin.specs.declared.items.Asked.{Asked}
+use Rattle.tsdb_pin.specs.declared.items.AskedSeries.{AskedSeries}
 use Rattle.tsdb_pin.specs.declared.items.ItemFound.{ItemFound}
 use Rattle.tsdb_pin.specs.declared.items.ItemFound.TheVariants.{Missing, Series}
 use Rattle.tsdb_pin.specs.declared.pin.PinFault.{PinFault}
@@ -43,8 +43,8 @@ IsThere schemas device item = IsSome (item_type schemas device item)
 abbrev pub IsFit : List SeriesEntry → List ℕ → Item → Type 0
 IsFit schemas device item = IsSomeAnd (item_type schemas device item) (λ t. is_unfit_for item.aggregate t ≡ false)
 
-abbrev pub IsUnfit : List SeriesEntry → List ℕ → Item → Type 0
-IsUnfit schemas device item = IsSomeAnd (item_type schemas device item) (λ t. is_unfit_for item.aggregate t ≡ true)
+abbrev pub IsUnfitItem : List SeriesEntry → List ℕ → Item → Type 0
+IsUnfitItem schemas device item = IsSomeAnd (item_type schemas device item) (λ t. is_unfit_for item.aggregate t ≡ true)
 
 -- it holds of one of them
 abbrev pub OneOf : {X : Type 0} → (X → Type 0) → List X → Type 0
@@ -57,14 +57,14 @@ AreFit schemas device items = Each (IsFit schemas device) items
 
 -- why items are refused: the series of one is not there; or all are there, and one is unfit. Memory may end before
 -- either.
-abbrev pub IsRefused : List SeriesEntry → List ℕ → List Item → PinFault → Type 0
-IsRefused schemas device items NoPath = OneOf (λ item. ¬ IsThere schemas device item) items
-IsRefused schemas device items WrongType =
-    Each (IsThere schemas device) items × OneOf (IsUnfit schemas device) items
-IsRefused schemas device items Memory = ⊤
+abbrev pub AreItemsRefused : List SeriesEntry → List ℕ → List Item → PinFault → Type 0
+AreItemsRefused schemas device items NoPath = OneOf (λ item. ¬ IsThere schemas device item) items
+AreItemsRefused schemas device items WrongType =
+    Each (IsThere schemas device) items × OneOf (IsUnfitItem schemas device) items
+AreItemsRefused schemas device items Memory = ⊤
 
 -- this is the series of the item, under its number
-pub record IsAsked (series : List Schema) (device : List ℕ) (item : Item) (asked : Asked) : Type 0 where
+pub record IsAsked (series : List Schema) (device : List ℕ) (item : Item) (asked : AskedSeries) : Type 0 where
   pub at : slice_get series asked.id.0 ≡ Some asked.schema
   pub of_path : asked.schema.path ≡ child_of device item.measurement
   pub numbered : number_of series asked.schema.path ≡ Some asked.id.0
@@ -72,11 +72,11 @@ pub record IsAsked (series : List Schema) (device : List ℕ) (item : Item) (ask
 
 -- what an item is in memory
 abbrev pub IsItemFound : List Schema → List ℕ → Item → ItemFound → Type 0
-IsItemFound series device item Missing = ¬ IsThere (map entry_of series) device item
+IsItemFound series device item Missing = ¬ IsThere (map series_entry series) device item
 IsItemFound series device item (Series asked) = IsAsked series device item asked
 
 -- how items are read: as their series, in their order, where all are fit; or as refused
-abbrev pub AreRead : List Schema → List ℕ → List Item → Result (Vec Asked Global) PinFault → Type 0
+abbrev pub AreRead : List Schema → List ℕ → List Item → Result (Vec AskedSeries Global) PinFault → Type 0
 AreRead series device items (Ok all) =
-    AreFit (map entry_of series) device items × AllZip (IsAsked series device) items all.items
-AreRead series device items (Err fault) = IsRefused (map entry_of series) device items fault
+    AreFit (map series_entry series) device items × AllZip (IsAsked series device) items all.items
+AreRead series device items (Err fault) = AreItemsRefused (map series_entry series) device items fault

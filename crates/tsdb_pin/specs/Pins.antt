@@ -6,22 +6,22 @@ use Rattle.tsdb_base.specs.declared.point.Range.{Range}
 use Rattle.tsdb_fileset.specs.Files.{KeptFiles}
 use Rattle.tsdb_model.specs.declared.command.Item.{Item}
 use Rattle.tsdb_marks.specs.Lists.{is_of}
-use Rattle.tsdb_fileset.specs.Shown.{entry_of, number_of}
-use Rattle.tsdb_fileset.specs.Store.{Store}
+use Rattle.tsdb_fileset.specs.Shown.{series_entry, number_of}
+use Rattle.tsdb_fileset.specs.Store.{MemoryState}
 use Rattle.tsdb_outside.specs.Files.{NamedFile}
 use Rattle.tsdb_path.specs.Nodes.{child_of}
-use Rattle.tsdb_pin.specs.Items.{AreFit, IsRefused}
-use Rattle.tsdb_pin.specs.Changes.{KeepsFiles, TakesRights, column_numbers}
+use Rattle.tsdb_pin.specs.Items.{AreFit, AreItemsRefused}
+use Rattle.tsdb_pin.specs.Changes.{ChangesNoFile, TakesRights, column_numbers}
 use Rattle.tsdb_pin.specs.Sources.{AreHeldIn, AreSourcesOf}
-use Rattle.tsdb_pin.specs.declared.items.Asked.{Asked}
+use Rattle.tsdb_pin.specs.declared.items.AskedSeries.{AskedSeries}
 use Rattle.tsdb_pin.specs.declared.pin.Column.{Column}
 use Rattle.tsdb_pin.specs.declared.pin.Pin.{Pin}
 use Rattle.tsdb_pin.specs.declared.pin.PinFault.{PinFault}
 
 -- what is answered to items: they are refused as the plain map does it, or a pin is taken
-abbrev pub IsPinAnswer : {T : Type 0} → Store → List ℕ → List Item → Result T PinFault → Type 0
-IsPinAnswer store device items (Ok pin) = AreFit (map entry_of store.series) device items
-IsPinAnswer store device items (Err fault) = IsRefused (map entry_of store.series) device items fault
+abbrev pub IsPinAnswer : {T : Type 0} → MemoryState → List ℕ → List Item → Result T PinFault → Type 0
+IsPinAnswer store device items (Ok pin) = AreFit (map series_entry store.series) device items
+IsPinAnswer store device items (Err fault) = AreItemsRefused (map series_entry store.series) device items fault
 
 module _ {F S R P : Type 0} where
   -- the paths of the columns
@@ -30,14 +30,15 @@ module _ {F S R P : Type 0} where
 
 module _ {F S R P : Type 0} (name : R → NamedFile) where
   -- the column of a series that is asked for
-  pub record IsColumn (files : KeptFiles) (store : Store) (range : Range) (asked : Asked) (column : Column F S R P)
+  pub record IsColumn (files : KeptFiles) (store : MemoryState) (range : Range) (asked : AskedSeries)
+      (column : Column F S R P)
       : Type 0 where
     pub schema : column.schema ≡ asked.schema
     pub aggregate : column.aggregate ≡ asked.aggregate
     pub sources : AreSourcesOf name files store asked.schema.path asked.id.0 range column.sources
 
   -- the column of an item: its series, its aggregate, and the sources of the series
-  pub record IsColumnFor (files : KeptFiles) (store : Store) (device : List ℕ) (range : Range) (item : Item)
+  pub record IsColumnFor (files : KeptFiles) (store : MemoryState) (device : List ℕ) (range : Range) (item : Item)
       (column : Column F S R P)
       : Type 0 where
     pub number : ℕ
@@ -48,7 +49,7 @@ module _ {F S R P : Type 0} (name : R → NamedFile) where
     pub sources : AreSourcesOf name files store column.schema.path number range column.sources
 
   -- The pin has the stamp, the range, the marks of its series, and a column for each item, in their order.
-  pub record IsPinFor (files : KeptFiles) (store : Store) (device : List ℕ) (items : List Item) (range : Range)
+  pub record IsPinFor (files : KeptFiles) (store : MemoryState) (device : List ℕ) (items : List Item) (range : Range)
       (pin : Pin F S R P)
       : Type 0 where
     pub stamp : pin.stamp.0 ≡ store.stamp
@@ -70,26 +71,27 @@ module _ {F S R P : Type 0} (name : R → NamedFile) where
   TakesSomeColumns old new before after = (more : List (Column F S R P)) × TakesColumns old new before after more
 
   -- a pin was taken: it has its rights; or none was, and nothing has changed
-  abbrev pub IsTakenOrNot : KeptFiles → KeptFiles → Result (Pin F S R P) PinFault → Type 0
-  IsTakenOrNot old new (Ok pin) = TakesRights (column_numbers pin.columns) old new × AreColumnsHeld old pin.columns
-  IsTakenOrNot old new (Err fault) = KeepsFiles old new
+  abbrev pub IsPinTakenOrNot : KeptFiles → KeptFiles → Result (Pin F S R P) PinFault → Type 0
+  IsPinTakenOrNot old new (Ok pin) = TakesRights (column_numbers pin.columns) old new × AreColumnsHeld old pin.columns
+  IsPinTakenOrNot old new (Err fault) = ChangesNoFile old new
 
   -- the column of the series came behind the others, and it has its rights
-  abbrev pub IsColumnTaken : Store → Range → Asked → KeptFiles → KeptFiles → List (Column F S R P)
+  abbrev pub IsColumnTaken : MemoryState → Range → AskedSeries → KeptFiles → KeptFiles → List (Column F S R P)
       → List (Column F S R P) → Type 0
   IsColumnTaken store range asked old new before after =
       (column : Column F S R P) × TakesColumns old new before after (column ∷ [])
       × IsColumn old store range asked column
 
   -- the columns of these series came behind the others
-  abbrev pub AreColumnsTaken : Store → Range → List Asked → KeptFiles → KeptFiles → List (Column F S R P)
+  abbrev pub AreColumnsTaken : MemoryState → Range → List AskedSeries → KeptFiles → KeptFiles → List (Column F S R P)
       → List (Column F S R P) → Type 0
   AreColumnsTaken store range all old new before after =
       (more : List (Column F S R P)) × TakesColumns old new before after more
       × AllZip (IsColumn old store range) all more
 
   -- the pin of these series was taken, with its rights
-  pub record IsPinOver (store : Store) (range : Range) (all : List Asked) (old new : KeptFiles) (pin : Pin F S R P)
+  pub record IsPinOver (store : MemoryState) (range : Range) (all : List AskedSeries) (old new : KeptFiles)
+      (pin : Pin F S R P)
       : Type 0 where
     pub stamp : pin.stamp.0 ≡ store.stamp
     pub range_is : pin.range ≡ range

@@ -9,22 +9,22 @@ use Rattle.tsdb_base.specs.declared.point.Point.{Point}
 use Rattle.tsdb_base.specs.declared.point.Range.{Range}
 use Rattle.tsdb_fileset.specs.Files.{KeptFiles, entries_in, has_path, kept_file}
 use Rattle.tsdb_fileset.specs.Rights.{IsRightTo}
-use Rattle.tsdb_fileset.specs.Store.{FrozenPair, Store}
+use Rattle.tsdb_fileset.specs.Store.{FrozenPair, MemoryState}
 use Rattle.tsdb_memtable.specs.Pairs.{points_of}
 use Rattle.tsdb_base.specs.Points.{IsRising}
-use Rattle.tsdb_memtable.specs.Points.{is_within}
+use Rattle.tsdb_memtable.specs.Points.{is_point_within}
 use Rattle.tsdb_outside.specs.Files.{NamedFile}
 use Rattle.tsdb_pin.specs.declared.pin.PinnedSource.{PinnedSource}
 use Rattle.tsdb_pin.specs.declared.pin.PinnedSource.TheVariants.{File, Part}
 use Rattle.tsdb_plan.specs.declared.entry.FileEntry.{FileEntry}
 
 -- the pairs in memory from the oldest on; the working one has the stamp as its born
-abbrev pub pairs_in : Store → List FrozenPair
+abbrev pub pairs_in : MemoryState → List FrozenPair
 pairs_in store = store.frozen ++ record { born = store.stamp; pair = store.working } ∷ []
 
 -- the points of a series in the range
 abbrev pub slice_of : Space → ℕ → Range → FrozenPair → List Point
-slice_of space number range pair = filter (is_within range) (points_of space number pair.pair)
+slice_of space number range pair = filter (is_point_within range) (points_of space number pair.pair)
 
 abbrev pub has_slice : Space → ℕ → Range → FrozenPair → Bool
 has_slice space number range pair = not (length (slice_of space number range pair) == 0)
@@ -67,7 +67,8 @@ module _ {F S R P : Type 0} (name : R → NamedFile) where
       AllZip (IsOfEntry files) (filter (λ entry. has_path path files entry.number.0) entries) sources
 
   -- the sources of a series in one space: the listed files that have it, and then the parts in memory
-  pub record AreOfSpace (space : Space) (files : KeptFiles) (store : Store) (path : List ℕ) (number : ℕ) (range : Range)
+  pub record AreOfSpace (space : Space) (files : KeptFiles) (store : MemoryState) (path : List ℕ) (number : ℕ)
+      (range : Range)
       (sources : List (PinnedSource F S R P))
       : Type 0 where
     pub listed : List (PinnedSource F S R P)
@@ -76,7 +77,7 @@ module _ {F S R P : Type 0} (name : R → NamedFile) where
     pub rising : AreRisingIn space number (pairs_in store)
 
   -- the sources of a series with this path and number, from the lowest priority to the highest
-  pub record AreSourcesOf (files : KeptFiles) (store : Store) (path : List ℕ) (number : ℕ) (range : Range)
+  pub record AreSourcesOf (files : KeptFiles) (store : MemoryState) (path : List ℕ) (number : ℕ) (range : Range)
       (sources : List (PinnedSource F S R P))
       : Type 0 where
     pub sequence : List (PinnedSource F S R P)

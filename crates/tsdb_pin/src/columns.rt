@@ -1,10 +1,10 @@
 //! The columns of a pin, each with the sources of its series. Depends on `items`, `parts`, `sources` and `returning`.
 ghost use Rattle.std.specs.Prelude.{◌≡◌, OnErr, OnOk};
 ghost use Rattle.tsdb_pin.specs.Pins.{AreColumnsTaken, IsColumnTaken, TakesSomeColumns};
-ghost use Rattle.tsdb_pin.specs.Changes.{KeepsFiles, TakesAll, TakesSome};
+ghost use Rattle.tsdb_pin.specs.Changes.{ChangesNoFile, TakesAll, TakesSomeSources};
 ghost use Rattle.tsdb_pin.specs.Sources.{AreOfSpace, AreSourcesOf};
 
-use crate::items::Asked;
+use crate::items::AskedSeries;
 use crate::parts::take_parts;
 use crate::pin::{Column, PinnedSource};
 use crate::returning::give_back_sources;
@@ -20,14 +20,14 @@ fn take_space<F: Files>(
     files: &mut KeptFiles<F>,
     memory: &MemoryStore,
     space: Space,
-    asked: &Asked,
+    asked: &AskedSeries,
     range: &Range,
     sources: &mut Vec<PinnedSource<F>>,
 ) -> Result<(), Memory>
     ensures ok { OnOk result (TakesAll F.Right.file
         (AreOfSpace F.Right.file space files.old memory.now asked.now.schema.path asked.now.id.0 range.now)
         files.old files.new sources.old.items sources.new.items) }
-    ensures memory { OnErr result (TakesSome F.Right.file files.old files.new sources.old.items sources.new.items) }
+    ensures memory { OnErr result (TakesSomeSources F.Right.file files.old files.new sources.old.items sources.new.items) }
 {
     take_files(files, space, &asked.schema.path, sources)?;
     take_parts(alloc, memory, space, asked.id, range, sources)
@@ -38,14 +38,14 @@ fn take_sources<F: Files>(
     alloc: Global,
     files: &mut KeptFiles<F>,
     memory: &MemoryStore,
-    asked: &Asked,
+    asked: &AskedSeries,
     range: &Range,
     sources: &mut Vec<PinnedSource<F>>,
 ) -> Result<(), Memory>
     ensures ok { OnOk result (TakesAll F.Right.file
         (AreSourcesOf F.Right.file files.old memory.now asked.now.schema.path asked.now.id.0 range.now)
         files.old files.new sources.old.items sources.new.items) }
-    ensures memory { OnErr result (TakesSome F.Right.file files.old files.new sources.old.items sources.new.items) }
+    ensures memory { OnErr result (TakesSomeSources F.Right.file files.old files.new sources.old.items sources.new.items) }
 {
     take_space(alloc, files, memory, Space::Sequence, asked, range, sources)?;
     take_space(
@@ -64,13 +64,13 @@ fn take_column<F: Files>(
     alloc: Global,
     files: &mut KeptFiles<F>,
     memory: &MemoryStore,
-    asked: Asked,
+    asked: AskedSeries,
     range: &Range,
     columns: &mut Vec<Column<F>>,
 ) -> Result<(), Memory>
     ensures ok { OnOk result (IsColumnTaken F.Right.file memory.now range.now asked files.old files.new
         columns.old.items columns.new.items) }
-    ensures memory { OnErr result (KeepsFiles files.old files.new × (columns.new.items ≡ columns.old.items)) }
+    ensures memory { OnErr result (ChangesNoFile files.old files.new × (columns.new.items ≡ columns.old.items)) }
 {
     columns.reserve(1)?;
     let mut sources = Vec::new(alloc);
@@ -98,7 +98,7 @@ pub(crate) fn take_columns<F: Files>(
     alloc: Global,
     files: &mut KeptFiles<F>,
     memory: &MemoryStore,
-    all: Vec<Asked>,
+    all: Vec<AskedSeries>,
     range: &Range,
     columns: &mut Vec<Column<F>>,
 ) -> Result<(), Memory>

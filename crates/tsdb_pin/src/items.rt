@@ -1,6 +1,6 @@
 //! The series of the items of a select. Depends on `pin`.
 ghost use Rattle.std.specs.Prelude.{◌≡◌, IfOk};
-ghost use Rattle.tsdb_fileset.specs.Model.{IsSound};
+ghost use Rattle.tsdb_fileset.specs.Model.{IsSoundMemory};
 ghost use Rattle.tsdb_pin.specs.Items.{AreRead, IsItemFound, are_fit_with, is_unfit_for};
 
 use crate::pin::PinFault;
@@ -12,7 +12,7 @@ use tsdb_path::{Path, PathFault};
 
 /// The series that an item asks for: its number, its schema, and the aggregate.
 #[derive(Drop)]
-pub struct Asked {
+pub struct AskedSeries {
     pub(crate) id: SeriesId,
     pub(crate) schema: Schema,
     pub(crate) aggregate: Option<Aggregate>,
@@ -24,7 +24,7 @@ pub(crate) enum ItemFound {
     /// Its series is not there.
     Missing,
     /// Its series is there.
-    Series(Asked),
+    Series(AskedSeries),
 }
 
 /// Whether the least or the greatest value is asked of a type that has no order of numbers.
@@ -41,7 +41,7 @@ fn is_unfit(aggregate: Option<Aggregate>, data_type: DataType) -> bool
 }
 
 /// Whether all were fit, and this one is.
-fn stay_fit(fit: bool, asked: &Asked) -> bool
+fn stay_fit(fit: bool, asked: &AskedSeries) -> bool
     ensures { result ≡ are_fit_with (is_unfit_for asked.now.aggregate asked.now.schema.data_type) fit }
 {
     if is_unfit(asked.aggregate, asked.schema.data_type) {
@@ -60,7 +60,7 @@ pub(crate) fn read_items(
     memory: &MemoryStore,
     device: &Path,
     items: &[Item],
-) -> Result<Result<Vec<Asked>, PinFault>, Memory>
+) -> Result<Result<Vec<AskedSeries>, PinFault>, Memory>
     ensures { IfOk result (AreRead memory.now.series device.now items.now) }
 {
     // (it tells that the paths of all series are such, so that one which is too long is of none)
@@ -85,7 +85,7 @@ pub(crate) fn read_items(
 
 /// The series of an item.
 fn find_item(memory: &MemoryStore, device: &Path, item: &Item) -> Result<ItemFound, Memory>
-    requires { IsSound memory.now }
+    requires { IsSoundMemory memory.now }
     ensures { IfOk result (IsItemFound memory.now.series device.now item.now) }
 {
     let path = match device.child(&item.measurement) {
@@ -100,7 +100,7 @@ fn find_item(memory: &MemoryStore, device: &Path, item: &Item) -> Result<ItemFou
     let Some(series) = memory.series(&path) else {
         return Ok(ItemFound::Missing);
     };
-    Ok(ItemFound::Series(Asked {
+    Ok(ItemFound::Series(AskedSeries {
         id: series.id,
         schema: Schema {
             path,

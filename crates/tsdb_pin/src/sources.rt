@@ -1,7 +1,7 @@
 //! Rights to read the files of a list that have a series. Depends on `pin`.
 ghost use Rattle.std.specs.Prelude.{◌≡◌, ◌<◌, ◌∷◌, ◌++◌, [], OnErr, OnOk, vec_capacity, vec_len};
 ghost use Rattle.tsdb_fileset.specs.Files.{entries_in};
-ghost use Rattle.tsdb_pin.specs.Changes.{KeepsFiles, TakesAll, TakesSome};
+ghost use Rattle.tsdb_pin.specs.Changes.{ChangesNoFile, TakesAll, TakesSomeSources};
 ghost use Rattle.tsdb_pin.specs.Sources.{AreOfFiles, IsFileWithRight};
 
 use crate::pin::PinnedSource;
@@ -30,7 +30,7 @@ fn take_file<F: Files>(
 ) -> Result<(), Memory>
     ensures ok { OnOk result (TakesAll F.Right.file (IsFileWithRight F.Right.file files.old number born)
         files.old files.new sources.old.items sources.new.items) }
-    ensures memory { OnErr result (KeepsFiles files.old files.new × (sources.new.items ≡ sources.old.items)) }
+    ensures memory { OnErr result (ChangesNoFile files.old files.new × (sources.new.items ≡ sources.old.items)) }
 {
     sources.reserve(1)?;
     if let Some(right) = files.share(number)? {
@@ -56,7 +56,7 @@ pub(crate) fn take_files<F: Files>(
     ensures ok { OnOk result (TakesAll F.Right.file
         (AreOfFiles F.Right.file files.old path.now (entries_in space files.old))
         files.old files.new sources.old.items sources.new.items) }
-    ensures memory { OnErr result (TakesSome F.Right.file files.old files.new sources.old.items sources.new.items) }
+    ensures memory { OnErr result (TakesSomeSources F.Right.file files.old files.new sources.old.items sources.new.items) }
 {
     for place in 0..files.entries(space).len() {
         let entry = &files.entries(space)[place];

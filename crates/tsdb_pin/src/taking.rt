@@ -2,12 +2,12 @@
 ghost use Rattle.std.specs.Prelude.{◌≡◌, IfOk, OnErr, map};
 ghost use Rattle.std.specs.List.{filter};
 ghost use Rattle.tsdb_marks.specs.Lists.{is_of};
-ghost use Rattle.tsdb_pin.specs.Pins.{IsPinAnswer, IsPinFor, IsPinOver, IsTakenOrNot};
-ghost use Rattle.tsdb_pin.specs.Changes.{KeepsFiles};
+ghost use Rattle.tsdb_pin.specs.Pins.{IsPinAnswer, IsPinFor, IsPinOver, IsPinTakenOrNot};
+ghost use Rattle.tsdb_pin.specs.Changes.{ChangesNoFile};
 ghost use Rattle.tsdb_pin.specs.Shown.{IsPinOfState};
 
 use crate::columns::take_columns;
-use crate::items::{Asked, read_items};
+use crate::items::{AskedSeries, read_items};
 use crate::pin::{Pin, PinFault};
 use crate::returning::give_back_columns;
 use std::alloc::Global;
@@ -19,7 +19,7 @@ use tsdb_outside::Files;
 use tsdb_path::Path;
 
 /// The marks of the series.
-fn marks_of(alloc: Global, memory: &MemoryStore, all: &[Asked]) -> Result<Marks, Memory>
+fn marks_of(alloc: Global, memory: &MemoryStore, all: &[AskedSeries]) -> Result<Marks, Memory>
     ensures { IfOk result (λ marks. marks.marks
         ≡ filter (is_of (map (λ asked. asked.schema.path) all.now)) memory.now.marks.marks) }
 {
@@ -45,7 +45,7 @@ pub fn take_pin<F: Files>(
 ) -> Result<Pin<F>, PinFault>
     ensures answer { IsPinAnswer memory.now device.now items.now result }
     ensures pin { IfOk result (IsPinFor F.Right.file files.old memory.now device.now items.now range.now) }
-    ensures rights { IsTakenOrNot F.Right.file files.old files.new result }
+    ensures rights { IsPinTakenOrNot F.Right.file files.old files.new result }
     ensures state { IfOk result (IsPinOfState files.old files.new memory.now) }
 {
     // (these tell that each listed file is kept, and what holds of the series)
@@ -66,11 +66,11 @@ fn take_all<F: Files>(
     alloc: Global,
     files: &mut KeptFiles<F>,
     memory: &MemoryStore,
-    all: Vec<Asked>,
+    all: Vec<AskedSeries>,
     range: &Range,
 ) -> Result<Pin<F>, Memory>
     ensures ok { IfOk result (IsPinOver F.Right.file memory.now range.now all.items files.old files.new) }
-    ensures memory { OnErr result (KeepsFiles files.old files.new) }
+    ensures memory { OnErr result (ChangesNoFile files.old files.new) }
 {
     let marks = marks_of(alloc, memory, &all)?;
     let mut columns = Vec::new(alloc);

@@ -9,9 +9,9 @@ use Rattle.std.proofs.lemmas.List.Kept.{AllPairs-filter}
 use Rattle.tsdb_base.specs.declared.point.Point.{Point}
 use Rattle.tsdb_base.specs.declared.point.Range.{Range}
 use Rattle.tsdb_streams.specs.Kept.{is_kept}
-use Rattle.tsdb_streams.specs.Lanes.{IsSourceOf, IsToldSource, IsTrueSource, source_all, source_left}
-use Rattle.tsdb_streams.specs.declared.source.Source.{Source}
-use Rattle.tsdb_streams.specs.declared.source.Source.TheVariants as lent
+use Rattle.tsdb_streams.specs.Lanes.{IsSourceOfStore, IsToldSource, IsTrueSource, source_all, source_left}
+use Rattle.tsdb_streams.specs.declared.source.StreamSource.{StreamSource}
+use Rattle.tsdb_streams.specs.declared.source.StreamSource.TheVariants as lent
 use Rattle.tsdb_streams.specs.Files.{IsTold, IsTruth}
 use Rattle.tsdb_marks.specs.declared.marks.Mark.{Mark}
 use Rattle.tsdb_base.specs.Points.{IsRising}
@@ -44,42 +44,42 @@ zip_all R Q W f (x ∷ xs) [] zip each = absurd zip
 zip_all R Q W f (x ∷ xs) (y ∷ ys) zip each = All-cons W y ys (f x y zip.0 each.0) (zip_all R Q W f xs ys zip.1 each.1)
 
 module _ {F S R P : Type 0} (name : R → NamedFile) where
-  pub of_store_lent : (store : Store) (sources : List (PinnedSource F S R P)) (list : List (Source R)) → AllZip IsLentAs sources list → Each (IsOfStore name store) sources → All (IsSourceOf name store) list
-  of_store_lent store sources list zip each = zip_all IsLentAs (IsOfStore name store) (IsSourceOf name store) one sources list zip each
+  pub of_store_lent : (store : Store) (sources : List (PinnedSource F S R P)) (list : List (StreamSource R)) → AllZip IsLentAs sources list → Each (IsOfStore name store) sources → All (IsSourceOfStore name store) list
+  of_store_lent store sources list zip each = zip_all IsLentAs (IsOfStore name store) (IsSourceOfStore name store) one sources list zip each
     where
-      one : (source : PinnedSource F S R P) (other : Source R) → IsLentAs source other → IsOfStore name store source → IsSourceOf name store other
+      one : (source : PinnedSource F S R P) (other : StreamSource R) → IsLentAs source other → IsOfStore name store source → IsSourceOfStore name store other
       one (File number born right) (lent.File read stamp) is of = subst (λ r. (name r).store ≡ store) (sym is.0) of
       one (File number born right) (lent.Part points stamp) is of = absurd is
       one (Part born copies) (lent.File read stamp) is of = absurd is
       one (Part born copies) (lent.Part points stamp) is of = tt
 
 module _ {F S R P : Type 0} (name : R → NamedFile) (pages : SeriesPages) (path : List ℕ) where
-  pub true_lent : (sources : List (PinnedSource F S R P)) (list : List (Source R)) → AllZip IsLentAs sources list → Each (IsTrueIn name pages path) sources → All (IsTrueSource name (device_of path, measurement_of path) (pages path)) list
+  pub true_lent : (sources : List (PinnedSource F S R P)) (list : List (StreamSource R)) → AllZip IsLentAs sources list → Each (IsTrueIn name pages path) sources → All (IsTrueSource name (device_of path, measurement_of path) (pages path)) list
   true_lent sources list zip each = zip_all IsLentAs (IsTrueIn name pages path) (IsTrueSource name (device_of path, measurement_of path) (pages path)) one sources list zip each
     where
-      one : (source : PinnedSource F S R P) (other : Source R) → IsLentAs source other → IsTrueIn name pages path source → IsTrueSource name (device_of path, measurement_of path) (pages path) other
+      one : (source : PinnedSource F S R P) (other : StreamSource R) → IsLentAs source other → IsTrueIn name pages path source → IsTrueSource name (device_of path, measurement_of path) (pages path) other
       one (File number born right) (lent.File read stamp) is of = subst (λ r. IsTruth (device_of path, measurement_of path) (pages path) (name r)) (sym is.0) of
       one (File number born right) (lent.Part points stamp) is of = absurd is
       one (Part born copies) (lent.File read stamp) is of = absurd is
       one (Part born copies) (lent.Part points stamp) is of = tt
 
-  pub told_lent : (sources : List (PinnedSource F S R P)) (list : List (Source R)) → AllZip IsLentAs sources list → Each (IsToldIn name pages path) sources → All (IsToldSource name (pages path)) list
+  pub told_lent : (sources : List (PinnedSource F S R P)) (list : List (StreamSource R)) → AllZip IsLentAs sources list → Each (IsToldIn name pages path) sources → All (IsToldSource name (pages path)) list
   told_lent sources list zip each = zip_all IsLentAs (IsToldIn name pages path) (IsToldSource name (pages path)) one sources list zip each
     where
-      one : (source : PinnedSource F S R P) (other : Source R) → IsLentAs source other → IsToldIn name pages path source → IsToldSource name (pages path) other
+      one : (source : PinnedSource F S R P) (other : StreamSource R) → IsLentAs source other → IsToldIn name pages path source → IsToldSource name (pages path) other
       one (File number born right) (lent.File read stamp) is of = subst (λ r. IsTold (pages path) (name r)) (sym is.0) of
       one (File number born right) (lent.Part points stamp) is of = absurd is
       one (Part born copies) (lent.File read stamp) is of = absurd is
       one (Part born copies) (lent.Part points stamp) is of = tt
 
-  one_told : (source : PinnedSource F S R P) (other : Source R) (points : List Point) → IsLentAs source other → HasTold name pages path source points → source_all name (pages path) other ≡ Some points
+  one_told : (source : PinnedSource F S R P) (other : StreamSource R) (points : List Point) → IsLentAs source other → HasTold name pages path source points → source_all name (pages path) other ≡ Some points
   one_told (File number born right) (lent.File read stamp) points is has = ap (λ r. option_map joined (pages path (name r).number)) is.0 ∙ ap (option_map joined) has.1 ∙ ap (λ (l : List Point). Some l) (sym has.2)
   one_told (File number born right) (lent.Part parts stamp) points is has = absurd is
   one_told (Part born copies) (lent.File read stamp) points is has = absurd is
   one_told (Part born copies) (lent.Part parts stamp) points is has = ap (λ (l : List Point). Some l) (is.0 ∙ sym has)
 
   -- what a stream is told of the lent sources
-  pub all_told : (sources : List (PinnedSource F S R P)) (list : List (Source R)) (lists : List (List Point)) → AllZip IsLentAs sources list → AllZip (HasTold name pages path) sources lists
+  pub all_told : (sources : List (PinnedSource F S R P)) (list : List (StreamSource R)) (lists : List (List Point)) → AllZip IsLentAs sources list → AllZip (HasTold name pages path) sources lists
       → map (source_all name (pages path)) list ≡ map (λ (l : List Point). Some l) lists
   all_told [] [] [] zip has = refl
   all_told [] [] (points ∷ lists) zip has = absurd has
@@ -91,7 +91,7 @@ module _ {F S R P : Type 0} (name : R → NamedFile) (pages : SeriesPages) (path
 
   module _ (range : Range) (marks : List Mark) where
     -- what a stream has of a lent source at first are the points of the source that are kept
-    one_left : (source : PinnedSource F S R P) (other : Source R) (points : List Point) → IsLentAs source other → HasTold name pages path source points
+    one_left : (source : PinnedSource F S R P) (other : StreamSource R) (points : List Point) → IsLentAs source other → HasTold name pages path source points
         → source_left name (pages path) (is_kept path range marks) other ≡ Some (filter (is_kept path range marks (born_of source)) points)
     one_left (File number born right) (lent.File read stamp) points is has =
         ap (λ r. option_map (λ (list : List (List Point)). filter (is_kept path range marks stamp.0) (joined list)) (pages path (name r).number)) is.0
@@ -104,7 +104,7 @@ module _ {F S R P : Type 0} (name : R → NamedFile) (pages : SeriesPages) (path
         ap (λ (l : List Point). Some (filter (is_kept path range marks stamp.0) l)) (is.0 ∙ sym has)
         ∙ ap (λ b. Some (filter (is_kept path range marks b) points)) (ap (λ s. s.0) is.1)
 
-    pub all_left : (sources : List (PinnedSource F S R P)) (list : List (Source R)) (lists : List (List Point)) → AllZip IsLentAs sources list → AllZip (HasTold name pages path) sources lists
+    pub all_left : (sources : List (PinnedSource F S R P)) (list : List (StreamSource R)) (lists : List (List Point)) → AllZip IsLentAs sources list → AllZip (HasTold name pages path) sources lists
         → map (source_left name (pages path) (is_kept path range marks)) list ≡ map (λ (l : List Point). Some l) (kept_of path range marks sources lists)
     all_left [] [] [] zip has = refl
     all_left [] [] (points ∷ lists) zip has = absurd has

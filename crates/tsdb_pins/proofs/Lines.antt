@@ -23,7 +23,7 @@ use Rattle.tsdb_base.specs.declared.value.Value.{Value}
 use Rattle.tsdb_base.specs.Lists.{Among}
 use Rattle.tsdb_model.proofs.TimeLemmas.{Entries, has-append, keys-set}
 use Rattle.tsdb_model.specs.Folds.{in_order, line_at, rows}
-use Rattle.tsdb_model.specs.World.{Points}
+use Rattle.tsdb_model.specs.World.{PointMap}
 use Rattle.tsdb_model.specs.declared.reply.Line.{Line}
 use Rattle.tsdb_pins.proofs.Columns.{AreLinesOf, IsLineOf, Rise, has_some, row_at, times_in, value_at}
 
@@ -68,14 +68,14 @@ value_of_entries q (e ∷ es) =
     by false rest = rest
 
 -- the values of the columns at a time
-pub value_is : (q : ℤ) (points : Points) → value_at q (in_order points) ≡ get points q
+pub value_is : (q : ℤ) (points : PointMap) → value_at q (in_order points) ≡ get points q
 value_is q points = value_of_entries q (entries points) ∙ sym (get-entries points q)
 
-row_is : (q : ℤ) (columns : List Points) → row_at q (map in_order columns) ≡ map (λ points. get points q) columns
+row_is : (q : ℤ) (columns : List PointMap) → row_at q (map in_order columns) ≡ map (λ points. get points q) columns
 row_is q [] = refl
 row_is q (points ∷ columns) = ap (λ v. v ∷ row_at q (map in_order columns)) (value_is q points) ∙ ap (λ l. get points q ∷ l) (row_is q columns)
 
-has_is : (q : ℤ) (columns : List Points) → has_some (row_at q (map in_order columns)) ≡ is_some (find_key int_cmp q (flat_map entries columns))
+has_is : (q : ℤ) (columns : List PointMap) → has_some (row_at q (map in_order columns)) ≡ is_some (find_key int_cmp q (flat_map entries columns))
 has_is q [] = refl
 has_is q (points ∷ columns) =
     ap (λ v. is_some v || has_some (row_at q (map in_order columns))) (value_of_entries q (entries points))
@@ -118,7 +118,7 @@ any_some q columns (line ∷ lines) each any = by (is_at (int_cmp q) line.time) 
     by true e any rest = subst (λ t. has_some (row_at t columns) ≡ true) (sym (same_time q line.time (key_of q line.time e))) (ap has_some (sym each.0.values) ∙ each.0.some)
     by false e any rest = rest any
 
-times_are : (columns : List Points) (lines : List Line) → AreLinesOf (map in_order columns) lines → times_in lines ≡ keys (from_entries {R = int_cmp} (flat_map entries columns))
+times_are : (columns : List PointMap) (lines : List Line) → AreLinesOf (map in_order columns) lines → times_in lines ≡ keys (from_entries {R = int_cmp} (flat_map entries columns))
 times_are columns lines are =
     let seen : BTreeSet ℤ = record { keys = times_in lines } in
     keys-set seen (flat_map entries columns) (sorted_of lines are.rise) (λ q.
@@ -126,13 +126,13 @@ times_are columns lines are =
     (any_some q (map in_order columns) lines are.each) (λ some. among_any q (times_in lines) (are.complete q some))
     ∙ has_is q columns)
 
-lines_at : (columns : List Points) (lines : List Line) → Each (IsLineOf (map in_order columns)) lines → lines ≡ map (line_at columns) (times_in lines)
+lines_at : (columns : List PointMap) (lines : List Line) → Each (IsLineOf (map in_order columns)) lines → lines ≡ map (line_at columns) (times_in lines)
 lines_at columns [] each = refl
 lines_at columns (line ∷ lines) each =
     ap (λ v. record { time = line.time; values = v } ∷ lines) (each.0.values ∙ row_is line.time columns)
     ∙ ap (λ l. line_at columns line.time ∷ l) (lines_at columns lines each.1)
 
-pub are_rows : (columns : List Points) (lines : List Line) → AreLinesOf (map in_order columns) lines → lines ≡ rows columns
+pub are_rows : (columns : List PointMap) (lines : List Line) → AreLinesOf (map in_order columns) lines → lines ≡ rows columns
 are_rows columns lines are = lines_at columns lines are.each ∙ ap (map (line_at columns)) (times_are columns lines are)
 
 -- the points of columns rise
@@ -164,9 +164,9 @@ entries_rise [] h = AllPairs-nil (λ (a b : Point). a.time <ℤ b.time)
 entries_rise (e ∷ es) h = AllPairs-cons (λ (a b : Point). a.time <ℤ b.time) (point_of e) (map point_of es)
     (entries_above e.0 es (first_part (below_all int_cmp e.0 es) (is_sorted int_cmp es) h)) (entries_rise es (second_part (below_all int_cmp e.0 es) (is_sorted int_cmp es) h))
 
-pub in_order_rising : (points : Points) → IsRising (in_order points)
+pub in_order_rising : (points : PointMap) → IsRising (in_order points)
 in_order_rising points = entries_rise (entries points) (entries_sorted points)
 
-pub in_order_rise : (columns : List Points) → Each IsRising (map in_order columns)
+pub in_order_rise : (columns : List PointMap) → Each IsRising (map in_order columns)
 in_order_rise [] = tt
 in_order_rise (points ∷ columns) = (in_order_rising points, in_order_rise columns)

@@ -5,7 +5,7 @@ use Rattle.std.proofs.lemmas.List.Splits.{slice_split-cons_no, slice_split-cons_
 use Rattle.tsdb_base.specs.declared.point.Range.{Range}
 use Rattle.tsdb_pin.specs.Files.{KeptFiles}
 use Rattle.tsdb_model.specs.declared.command.Item.{Item}
-use Rattle.tsdb_memory.specs.Store.{Store}
+use Rattle.tsdb_memory.specs.Store.{MemoryState}
 use Rattle.tsdb_outside.specs.Files.{NamedFile}
 use Rattle.tsdb_path.proofs.Parts.{parts_some}
 use Rattle.tsdb_path.specs.Nodes.{child_of, dot, node_count, parts}
@@ -29,7 +29,7 @@ two_nodes (byte ∷ device) name = elim (eqb byte dot) as (λ t. eqb byte dot �
           (omega (arith, two_nodes device name, no_fewer byte (parts (child_of device name))))
     ] refl
 
-pub have_nodes : {F S R P : Type 0} (name : R → NamedFile) (files : KeptFiles) (memory : Store) (device : List ℕ) (range : Range)
+pub have_nodes : {F S R P : Type 0} (name : R → NamedFile) (files : KeptFiles) (memory : MemoryState) (device : List ℕ) (range : Range)
     (items : List Item) (columns : List (Column F S R P)) → AllZip (IsColumnFor name files memory device range) items columns
     → HaveNodes columns
 have_nodes name files memory device range [] [] zip = tt

@@ -17,13 +17,13 @@ use Rattle.tsdb_base.specs.declared.value.Value.{Value}
 use Rattle.tsdb_state.proofs.LayerLemmas.Places.{is_place}
 use Rattle.tsdb_state.specs.Layers.{Layer, survivor, value_in}
 use Rattle.tsdb_state.specs.Marks.{survives}
-use Rattle.tsdb_state.specs.Places.{Place}
+use Rattle.tsdb_state.specs.Places.{PointPlace}
 use Rattle.tsdb_pins.proofs.Lines as lines
 use Rattle.tsdb_model.specs.Folds.{in_order, within}
 use Rattle.tsdb_model.specs.World as world
-use Rattle.tsdb_model.specs.World.{Points, World, is_in}
+use Rattle.tsdb_model.specs.World.{PointMap, World, is_in}
 use Rattle.tsdb_marks.specs.declared.marks.Mark.{Mark}
-use Rattle.tsdb_memory.specs.Shown.{value_at}
+use Rattle.tsdb_memory.specs.Shown.{point_value_at}
 use Rattle.tsdb_merge.proofs.MergeLemmas.{AllPairs-head, AllPairs-tail, Contains-cases, Contains-head, Contains-nil, Contains-tail, same_points}
 use Rattle.tsdb_base.specs.Points.{IsRising}
 use Rattle.tsdb_merge.specs.Winners.{IsMergeOf}
@@ -37,7 +37,7 @@ use Rattle.tsdb_pin.specs.declared.pin.PinnedSource.TheVariants.{File, Part}
 use Rattle.tsdb_streams.proofs.Sources.{merge_all, merge_values}
 use Rattle.tsdb_streams.specs.Survivors.{AreSurvivors, place_at}
 use Rattle.tsdb_state.specs.State as state
-use Rattle.tsdb_state.specs.State.{FromFile, FromPart, Told}
+use Rattle.tsdb_state.specs.State.{FromFile, FromPart, ToldContents}
 use Rattle.tsdb_state.specs.Steps.{PinStandsFor, source_layer}
 
 -- ---- a value at a time, and a point of a list
@@ -57,7 +57,7 @@ same_some a b e = cc
 none_some : {A : Type 0} (a : A) → None ≡ Some a → ⊥
 none_some a e = absurd cc
 
-pub has_value : (points : List Point) (point : Point) → IsRising points → Contains points point → value_at point.time points ≡ Some point.value
+pub has_value : (points : List Point) (point : Point) → IsRising points → Contains points point → point_value_at point.time points ≡ Some point.value
 has_value [] point rising has = absurd (Contains-nil point has)
 has_value (p ∷ points) point rising has =
     by (Contains-cases p point points has) (λ h. has_value points point (AllPairs-tail (λ (a b : Point). a.time <ℤ b.time) p points rising) h)
@@ -65,16 +65,16 @@ has_value (p ∷ points) point rising has =
     value : Bool → Option Value
     value b = option_map (λ (q : Point). q.value) (cond b (Some p) (find (λ (q : Point). int_eq point.time q.time) points))
 
-    by : (p ≡ point) ⊎ Contains points point → (Contains points point → value_at point.time points ≡ Some point.value) → value_at point.time (p ∷ points) ≡ Some point.value
+    by : (p ≡ point) ⊎ Contains points point → (Contains points point → point_value_at point.time points ≡ Some point.value) → point_value_at point.time (p ∷ points) ≡ Some point.value
     by (inl is) rest = ap value (ap (λ (q : Point). int_eq point.time q.time) is ∙ time_itself point.time) ∙ ap (λ (q : Point). Some q.value) is
     by (inr there) rest = ap value (other_time point.time p.time (All-contains (λ (b : Point). p.time <ℤ b.time) points point (AllPairs-head (λ (a b : Point). a.time <ℤ b.time) p points rising) there)) ∙ rest there
 
-pub of_value : (points : List Point) (time : ℤ) (found : Value) → value_at time points ≡ Some found → Contains points (record { time = time; value = found })
+pub of_value : (points : List Point) (time : ℤ) (found : Value) → point_value_at time points ≡ Some found → Contains points (record { time = time; value = found })
 of_value [] time found e = absurd (none_some found e)
 of_value (p ∷ points) time found e = by (int_eq time p.time) refl e (λ f. of_value points time found f)
   where
     by : (b : Bool) → int_eq time p.time ≡ b → option_map (λ (q : Point). q.value) (cond b (Some p) (find (λ (q : Point). int_eq time q.time) points)) ≡ Some found
-        → (value_at time points ≡ Some found → Contains points (record { time = time; value = found })) → Contains (p ∷ points) (record { time = time; value = found })
+        → (point_value_at time points ≡ Some found → Contains points (record { time = time; value = found })) → Contains (p ∷ points) (record { time = time; value = found })
     by true at e rest =
         let here : p ≡ record { time = time; value = found } =
         ap (λ (t : ℤ). record { time = t; value = p.value }) (sym (same_time time p.time at)) ∙ ap (λ (v : Value). record { time = time; value = v }) (same_some p.value found e) in
@@ -87,10 +87,10 @@ module _ (range : Range) where
   abbrev pub restricted : Layer → Layer
   restricted layer = record { born = layer.born; content = retain_keys layer.content (λ place. is_in range place.time) }
 
-  pub survivor_in : (marks : List Mark) (place : Place) (layer : Layer) → survivor marks place (restricted layer) ≡ cond (is_in range place.time) (survivor marks place layer) None
+  pub survivor_in : (marks : List Mark) (place : PointPlace) (layer : Layer) → survivor marks place (restricted layer) ≡ cond (is_in range place.time) (survivor marks place layer) None
   survivor_in marks place layer =
       ap (λ v. cond (survives marks place layer.born) v None)
-      (get-retain_keys layer.content (λ (p : Place). is_in range p.time) place (λ x e. ap (λ (p : Place). is_in range p.time) (sym (is_place place x (ap is_eq e)))))
+      (get-retain_keys layer.content (λ (p : PointPlace). is_in range p.time) place (λ x e. ap (λ (p : PointPlace). is_in range p.time) (sym (is_place place x (ap is_eq e)))))
       ∙ swap (survives marks place layer.born) (is_in range place.time) (get layer.content place)
     where
       swap : (a b : Bool) (o : Option Value) → cond a (cond b o None) None ≡ cond b (cond a o None) None
@@ -99,7 +99,7 @@ module _ (range : Range) where
       swap false true o = refl
       swap false false o = refl
 
-  pub value_restricted : (marks : List Mark) (place : Place) (layers : List Layer) → value_in marks place (map restricted layers) ≡ cond (is_in range place.time) (value_in marks place layers) None
+  pub value_restricted : (marks : List Mark) (place : PointPlace) (layers : List Layer) → value_in marks place (map restricted layers) ≡ cond (is_in range place.time) (value_in marks place layers) None
   value_restricted marks place [] = none (is_in range place.time)
     where
       none : (b : Bool) → (◌≡◌ {A = Option Value} None (cond b None None))
@@ -148,7 +148,7 @@ module _ (range : Range) where
 
 -- ---- the points of a series in a range
 
-within_is : (range : Range) (points : Points) (t : ℤ) → get (within range points) t ≡ cond (is_in range t) (get points t) None
+within_is : (range : Range) (points : PointMap) (t : ℤ) → get (within range points) t ≡ cond (is_in range t) (get points t) None
 within_is range points t = get-retain_keys points (is_in range) t (λ x e. ap (is_in range) (sym (exact_signed t x e)))
 
 -- a merge that has the values of the series at the times in the range
@@ -159,8 +159,8 @@ pub same_series : (marks : List Mark) (path : List ℕ) (range : Range) (layers 
 same_series marks path range layers lists points all zip stands merge =
     same_points points (in_order (series_points all range path)) merge.rising (lines.in_order_rising (series_points all range path)) into back
   where
-    series : Points
-    series = world.points_of (get all path)
+    series : PointMap
+    series = world.points_of_series (get all path)
 
     into : (p : Point) → Contains points p → Contains (in_order (series_points all range path)) p
     into p has =
@@ -178,8 +178,8 @@ same_series marks path range layers lists points all zip stands merge =
 
 -- ---- the columns of a pin
 
-module _ {F S R P : Type 0} (told : Told) (path : List ℕ) (range : Range) (marks : List Mark) where
-  one_source : (source : PinnedSource F S R P) (shown : state.Source) (points : List Point) → IsShownAs path source shown → IsSourceOf told path source points
+module _ {F S R P : Type 0} (told : ToldContents) (path : List ℕ) (range : Range) (marks : List Mark) where
+  one_source : (source : PinnedSource F S R P) (shown : state.SourceState) (points : List Point) → IsShownAs path source shown → IsSourceOf told path source points
       → AreSurvivors marks path (restricted range (source_layer told shown)) (filter (is_kept path range marks (born_of source)) points)
   one_source (File number born right) (FromFile file) points shown is =
       kept_survive range marks path (source_layer told (FromFile file)) born.0 points shown.1 (subst (λ n. ArePointsOf path points (told n)) (sym shown.0) is)
@@ -188,7 +188,7 @@ module _ {F S R P : Type 0} (told : Told) (path : List ℕ) (range : Range) (mar
   one_source (Part born copies) (FromPart layer) points shown is =
       kept_survive range marks path layer born.0 points shown.0 (subst (λ l. ArePointsOf path l layer.content) (sym is) shown.1)
 
-  pub all_sources : (sources : List (PinnedSource F S R P)) (shown : List state.Source) (lists : List (List Point)) → AllZip (IsShownAs path) sources shown → AllZip (IsSourceOf told path) sources lists
+  pub all_sources : (sources : List (PinnedSource F S R P)) (shown : List state.SourceState) (lists : List (List Point)) → AllZip (IsShownAs path) sources shown → AllZip (IsSourceOf told path) sources lists
       → AllZip (AreSurvivors marks path) (map (restricted range) (map (source_layer told) shown)) (kept_of path range marks sources lists)
   all_sources [] [] [] zip are = tt
   all_sources [] [] (points ∷ lists) zip are = absurd are
@@ -198,25 +198,25 @@ module _ {F S R P : Type 0} (told : Told) (path : List ℕ) (range : Range) (mar
   all_sources (source ∷ sources) (s ∷ shown) (points ∷ lists) zip are = (one_source source s points zip.0 are.0, all_sources sources shown lists zip.1 are.1)
 
 -- the sources of the column have the world's value at each time in the range
-abbrev StandsAt : Told → World → Range → List Mark → state.Column → Type 0
+abbrev StandsAt : ToldContents → World → Range → List Mark → state.ColumnState → Type 0
 StandsAt told all range marks column = (time : ℤ) → is_in range time ≡ true
     → world.value_at all column.path time ≡ value_in marks (record { path = column.path; time = time }) (map (source_layer told) column.sources)
 
-module _ {F S R P : Type 0} (told : Told) (all : World) where
-  one_column : (range : Range) (marks : List Mark) (column : Column F S R P) (shown : state.Column) → IsColumnOf column shown → StandsAt told all range marks shown → HasPointsOf told all range marks column
+module _ {F S R P : Type 0} (told : ToldContents) (all : World) where
+  one_column : (range : Range) (marks : List Mark) (column : Column F S R P) (shown : state.ColumnState) → IsColumnOf column shown → StandsAt told all range marks shown → HasPointsOf told all range marks column
   one_column range marks column shown is stands lists points are merge =
       same_series marks column.schema.path range (map (source_layer told) shown.sources) (kept_of column.schema.path range marks column.sources lists) points all
       (all_sources told column.schema.path range marks column.sources shown.sources lists is.sources are)
       (subst (λ p. (time : ℤ) → is_in range time ≡ true → world.value_at all p time ≡ value_in marks (place_at p time) (map (source_layer told) shown.sources)) is.path stands)
       merge
 
-  pub all_columns : (range : Range) (marks : List Mark) (columns : List (Column F S R P)) (shown : List state.Column) → AllZip IsColumnOf columns shown → Each (StandsAt told all range marks) shown
+  pub all_columns : (range : Range) (marks : List Mark) (columns : List (Column F S R P)) (shown : List state.ColumnState) → AllZip IsColumnOf columns shown → Each (StandsAt told all range marks) shown
       → Each (HasPointsOf told all range marks) columns
   all_columns range marks [] [] zip stands = tt
   all_columns range marks [] (s ∷ shown) zip stands = absurd zip
   all_columns range marks (column ∷ columns) [] zip stands = absurd zip
   all_columns range marks (column ∷ columns) (s ∷ shown) zip stands = (one_column range marks column s zip.0 stands.0, all_columns range marks columns shown zip.1 stands.1)
 
-  pub pin_has : (pin : Pin F S R P) (shown : state.Pin) → IsPinOf pin shown → PinStandsFor told shown all → Each (HasPointsOf told all pin.range pin.marks.marks) pin.columns
+  pub pin_has : (pin : Pin F S R P) (shown : state.PinState) → IsPinOf pin shown → PinStandsFor told shown all → Each (HasPointsOf told all pin.range pin.marks.marks) pin.columns
   pin_has pin shown is stands = all_columns pin.range pin.marks.marks pin.columns shown.columns is.columns
       (subst (λ (m : List Mark). Each (StandsAt told all pin.range m) shown.columns) is.marks (subst (λ (r : Range). Each (StandsAt told all r shown.marks) shown.columns) is.range stands))

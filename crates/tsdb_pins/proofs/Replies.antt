@@ -17,13 +17,13 @@ use Rattle.tsdb_model.specs.declared.command.Item.{Item}
 use Rattle.tsdb_model.specs.declared.reply.Reply.{Reply}
 use Rattle.tsdb_model.specs.declared.reply.Reply.TheVariants.{Lines, Plain, Values}
 use Rattle.tsdb_path.specs.Nodes.{child_of}
-use Rattle.tsdb_pin.specs.Items.{AreFit, IsRefused, IsThere, IsUnfit, OneOf, is_unfit_for, item_type}
-use Rattle.tsdb_memory.specs.Shown.{IsMemoryOf, entry_of}
-use Rattle.tsdb_memory.specs.Store.{Store}
+use Rattle.tsdb_pin.specs.Items.{AreFit, AreItemsRefused, IsThere, IsUnfitItem, OneOf, is_unfit_for, item_type}
+use Rattle.tsdb_memory.specs.Shown.{IsMemoryOf, series_entry}
+use Rattle.tsdb_memory.specs.Store.{MemoryState}
 use Rattle.tsdb_pins.specs.Replies.{IsMapFault}
 use Rattle.tsdb_pin.specs.declared.pin.PinFault.{PinFault}
 use Rattle.tsdb_pin.specs.declared.pin.PinFault.TheVariants as fault
-use Rattle.tsdb_state.specs.State.{SeriesEntry, StoreState, Told}
+use Rattle.tsdb_state.specs.State.{SeriesEntry, StoreState, ToldContents}
 use Rattle.tsdb_state.specs.Worlds.{StandsFor, type_at}
 
 -- the series that memory has are those of the world
@@ -93,7 +93,7 @@ module _ (schemas : List SeriesEntry) (world : World) (device : List ℕ) (types
   one_gone (item ∷ items) (inl gone) = ap (λ b. b && are_there world device (map (λ item. item.measurement) items)) (gone_one (series_at item) (item_type schemas device item) (type_is item) gone)
   one_gone (item ∷ items) (inr gone) = ap (λ b. is_some (series_at item) && b) (one_gone items gone) ∙ and_false (is_some (series_at item))
 
-  one_unfit : (items : List Item) → OneOf (IsUnfit schemas device) items → (any_unfit world device items ≡ true) × (ask_aggregates items ≡ true)
+  one_unfit : (items : List Item) → OneOf (IsUnfitItem schemas device) items → (any_unfit world device items ≡ true) × (ask_aggregates items ≡ true)
   one_unfit [] unfit = absurd unfit
   one_unfit (item ∷ items) (inl unfit) =
       let one = unfit_one item.aggregate (series_at item) (item_type schemas device item) (type_is item) unfit in
@@ -122,14 +122,14 @@ module _ (schemas : List SeriesEntry) (world : World) (device : List ℕ) (types
   pub no_path_replied : (items : List Item) (range : Range) → OneOf (λ item. ¬ IsThere schemas device item) items → select_reply world device items range ≡ Plain NoPath
   no_path_replied items range gone = reply_is items range false (ask_aggregates items) (any_unfit world device items) (one_gone items gone) refl refl
 
-  pub wrong_type_replied : (items : List Item) (range : Range) → Each (IsThere schemas device) items → OneOf (IsUnfit schemas device) items → select_reply world device items range ≡ Plain WrongType
+  pub wrong_type_replied : (items : List Item) (range : Range) → Each (IsThere schemas device) items → OneOf (IsUnfitItem schemas device) items → select_reply world device items range ≡ Plain WrongType
   wrong_type_replied items range there unfit = let one = one_unfit items unfit in reply_is items range true true true (all_there items there) one.1 one.0
 
-  pub fault_replied : (items : List Item) (range : Range) (fault : PinFault) → IsRefused schemas device items fault → IsMapFault world device items range fault
+  pub fault_replied : (items : List Item) (range : Range) (fault : PinFault) → AreItemsRefused schemas device items fault → IsMapFault world device items range fault
   fault_replied items range fault.NoPath refused = no_path_replied items range refused
   fault_replied items range fault.WrongType refused = wrong_type_replied items range refused.0 refused.1
   fault_replied items range fault.Memory refused = tt
 
 -- the types of memory are those of the world
-pub types_of : (told : Told) (memory : Store) (engine : StoreState) (world : World) → IsMemoryOf memory engine → StandsFor told engine world → HasTypes (map entry_of memory.series) world
+pub types_of : (told : ToldContents) (memory : MemoryState) (engine : StoreState) (world : World) → IsMemoryOf memory engine → StandsFor told engine world → HasTypes (map series_entry memory.series) world
 types_of told memory engine world is stands path = stands.types path ∙ ap (λ l. type_at l path) is.schemas

@@ -14,7 +14,7 @@ use Rattle.tsdb_base.proofs.Lists.{each_append, each_weaker}
 use Rattle.tsdb_pins.specs.Rows.{AreTakenAt, BeginsAt, BeginsFrom, IsFirstTime, IsTakenAt, IsTimeOfFirst, OneBeginsAt, TakesLine, earlier_of, lists_of, vec_lists}
 use Rattle.std.specs.declared.vec.Vec.{Vec}
 use Rattle.tsdb_model.specs.Folds.{in_order, rows}
-use Rattle.tsdb_model.specs.World.{Points}
+use Rattle.tsdb_model.specs.World.{PointMap}
 use Rattle.tsdb_model.specs.declared.reply.Line.{Line}
 use Rattle.tsdb_base.specs.Points.{IsRising}
 use Rattle.tsdb_pins.proofs.Columns.{AreLinesOf, line_first, no_lines, one_taken, points_in, rising_after}
@@ -241,7 +241,7 @@ fewer_left slice left after line u t first same is some time takes =
     (one_taken t (lists_of left) line.values (lists_of after) at.1 taken.1).1
 
 pub all_lines : (all : List (List Point)) (slice left : List (VecDeque Point Global)) (lines : List Line) (first : Option ℤ) → Collects all (lists_of left) lines
-    → slice ≡ left → IsFirstTime (lists_of slice) first → first ≡ None → (points : List Points) → all ≡ map in_order points → lines ≡ rows points
+    → slice ≡ left → IsFirstTime (lists_of slice) first → first ≡ None → (points : List PointMap) → all ≡ map in_order points → lines ≡ rows points
 all_lines all slice left lines first was same is none points are =
     let at : IsFirstTime (lists_of left) None = subst (λ f. IsFirstTime (lists_of left) f) none (subst (λ l. IsFirstTime (lists_of l) first) same is) in
     let rising : Each IsRising all = subst (Each IsRising) (sym are) (in_order_rise points) in

@@ -7,15 +7,15 @@ use Rattle.std.proofs.lemmas.Int.{ints}
 use Rattle.std.proofs.lemmas.List.Elements.{All-contains}
 use Rattle.tsdb_base.specs.declared.point.Point.{Point}
 use Rattle.tsdb_base.specs.declared.value.Value.{Value}
-use Rattle.tsdb_streams.specs.Files.{ArePagesIn, HasPages, IsChunkOf}
+use Rattle.tsdb_streams.specs.Files.{ArePagesIn, HasPages, IsSeriesChunk}
 use Rattle.tsdb_merge.proofs.MergeLemmas.{Contains-cases, Contains-head, Contains-nil, Contains-tail}
 use Rattle.tsdb_base.specs.Lists.{Among}
 use Rattle.tsdb_state.specs.Places.{Content}
-use Rattle.tsdb_memory.specs.Shown.{value_at}
+use Rattle.tsdb_memory.specs.Shown.{point_value_at}
 use Rattle.tsdb_outside.specs.Files.{NamedFile}
 use Rattle.tsdb_pages.proofs.Files.{one_tree}
 use Rattle.tsdb_pages.specs.File.{IsFile}
-use Rattle.tsdb_pages.specs.Trees.{HasParts, IsChunk, IsGroup, IsMade, IsTree, points_of}
+use Rattle.tsdb_pages.specs.Trees.{HasParts, IsChunk, IsGroup, IsMade, IsTree, page_points}
 use Rattle.tsdb_pages.specs.declared.tree.Chunk.{Chunk}
 use Rattle.tsdb_pages.specs.declared.tree.Group.{Group}
 use Rattle.tsdb_pages.specs.declared.tree.Page.{Page}
@@ -26,9 +26,9 @@ use Rattle.tsdb_path.specs.Nodes.{child_of, device_of, measurement_of, node_coun
 use Rattle.tsdb_pins.proofs.Points.{has_value, of_value}
 use Rattle.tsdb_pin.specs.Shown.{ArePointsOf}
 use Rattle.tsdb_base.specs.Points.{IsRising}
-use Rattle.tsdb_state.specs.Stores.{Files, HasTreePoint, IsContentOf, IsWhole}
+use Rattle.tsdb_state.specs.Stores.{BytesByNumber, HasTreePoint, IsTreeContent, IsWhole}
 use Rattle.tsdb_streams.specs.Pieces.{joined}
-use Rattle.tsdb_state.specs.State.{File, Told}
+use Rattle.tsdb_state.specs.State.{File, ToldContents}
 
 contained : {X : Type 0} (xs : List X) (x : X) → Among x xs → Contains xs x
 contained [] x h = absurd h
@@ -57,7 +57,7 @@ among_flat f [] x y h k = absurd h
 among_flat f (z ∷ xs) x y (inl e) k = among_left (f z) (flat_map f xs) y (subst (λ w. Among y (f w)) (sym e) k)
 among_flat f (z ∷ xs) x y (inr h) k = among_right (f z) (flat_map f xs) y (among_flat f xs x y h k)
 
-joined_points : (pages : List Page) → joined (map (λ (page : Page). page.points) pages) ≡ points_of pages
+joined_points : (pages : List Page) → joined (map (λ (page : Page). page.points) pages) ≡ page_points pages
 joined_points [] = refl
 joined_points (page ∷ pages) = ap (λ l. page.points ++ l) (joined_points pages)
 
@@ -74,11 +74,11 @@ not_less a b e h = grind (arith, ints)
 none_some : {A : Type 0} (a : A) → None ≡ Some a → ⊥
 none_some a e = absurd cc
 
-module _ (path : List ℕ) (two : 2 ≤ node_count path) (tree : Tree) (is : IsTree tree) (made : IsMade tree) (content : Content) (of : IsContentOf tree content) (lists : List (List Point)) (are : ArePagesIn tree (device_of path, measurement_of path) lists) where
+module _ (path : List ℕ) (two : 2 ≤ node_count path) (tree : Tree) (is : IsTree tree) (made : IsMade tree) (content : Content) (of : IsTreeContent tree content) (lists : List (List Point)) (are : ArePagesIn tree (device_of path, measurement_of path) lists) where
   abbrev Here : Chunk → Type 0
-  Here chunk = IsChunkOf tree (device_of path, measurement_of path) chunk
+  Here chunk = IsSeriesChunk tree (device_of path, measurement_of path) chunk
 
-  points_are : (chunk : Chunk) → Here chunk → joined lists ≡ points_of chunk.pages
+  points_are : (chunk : Chunk) → Here chunk → joined lists ≡ page_points chunk.pages
   points_are chunk here = ap joined (are.of_chunk chunk here) ∙ joined_points chunk.pages
 
   rising_here : (chunk : Chunk) → Here chunk → IsRising (joined lists)
@@ -115,7 +115,7 @@ module _ (path : List ℕ) (two : 2 ≤ node_count path) (tree : Tree) (is : IsT
       } in
       let same : has.point ≡ record { time = time; value = value } = ap (λ (t : ℤ). record { time = t; value = has.point.value }) has.time ∙ ap (λ (v : Value). record { time = time; value = v }) has.has in
       subst (λ l. Contains l (record { time = time; value = value })) (sym (points_are has.chunk here))
-      (contained (points_of has.chunk.pages) (record { time = time; value = value }) (subst (λ p. Among p (points_of has.chunk.pages)) same has.in_chunk))
+      (contained (page_points has.chunk.pages) (record { time = time; value = value }) (subst (λ p. Among p (page_points has.chunk.pages)) same has.in_chunk))
     where
       chunk_among : (has : HasTreePoint tree (record { path = path; time = time }) value) → Contains (flat_map (λ (group : Group). group.chunks) tree.groups) has.chunk
       chunk_among has = contained (flat_map (λ (group : Group). group.chunks) tree.groups) has.chunk (among_flat (λ (group : Group). group.chunks) tree.groups has.group has.chunk has.in_tree has.in_group)
@@ -131,7 +131,7 @@ module _ (path : List ℕ) (two : 2 ≤ node_count path) (tree : Tree) (is : IsT
         point = record { time = time; value = value };
         in_tree = among tree.groups here.group here.in_tree;
         in_group = among here.group.chunks chunk here.in_group;
-        in_chunk = among (points_of chunk.pages) (record { time = time; value = value }) (subst (λ l. Contains l (record { time = time; value = value })) (points_are chunk here) has);
+        in_chunk = among (page_points chunk.pages) (record { time = time; value = value }) (subst (λ l. Contains l (record { time = time; value = value })) (points_are chunk here) has);
         path = ap (λ d. child_of d chunk.measurement) here.device ∙ ap (child_of (device_of path)) here.measurement ∙ child_of-device_of path two;
         time = refl;
         has = refl;
@@ -148,13 +148,13 @@ module _ (path : List ℕ) (two : 2 ≤ node_count path) (tree : Tree) (is : IsT
   pub points_of_content : ArePointsOf path (joined lists) content
   points_of_content = record {
     rising = rising;
-    are = λ time. one time (value_at time (joined lists)) (get content (record { path = path; time = time })) refl refl;
+    are = λ time. one time (point_value_at time (joined lists)) (get content (record { path = path; time = time })) refl refl;
   }
     where
-      one : (time : ℤ) (a b : Option Value) → value_at time (joined lists) ≡ a → get content (record { path = path; time = time }) ≡ b → value_at time (joined lists) ≡ get content (record { path = path; time = time })
+      one : (time : ℤ) (a b : Option Value) → point_value_at time (joined lists) ≡ a → get content (record { path = path; time = time }) ≡ b → point_value_at time (joined lists) ≡ get content (record { path = path; time = time })
       one time a None e f = by a e
         where
-          by : (a : Option Value) → value_at time (joined lists) ≡ a → value_at time (joined lists) ≡ get content (record { path = path; time = time })
+          by : (a : Option Value) → point_value_at time (joined lists) ≡ a → point_value_at time (joined lists) ≡ get content (record { path = path; time = time })
           by None e = e ∙ sym f
           by (Some v) e = absurd (none_some v (to_content time v (of_value (joined lists) time v e) None f))
       one time a (Some v) e f = has_value (joined lists) (record { time = time; value = v }) rising (from_content time v f) ∙ sym f
@@ -163,11 +163,11 @@ some_same : {A : Type 0} (a b : A) → Some a ≡ Some b → a ≡ b
 some_same a b e = cc
 
 -- what is told of the pages of a series in a file that is whole
-pub told_points : (path : List ℕ) (name : NamedFile) (lists : List (List Point)) (files : Files) (told : Told) (file : File) (bytes : List ℕ) → 2 ≤ node_count path
+pub told_points : (path : List ℕ) (name : NamedFile) (lists : List (List Point)) (files : BytesByNumber) (told : ToldContents) (file : File) (bytes : List ℕ) → 2 ≤ node_count path
     → HasPages (device_of path, measurement_of path) name lists → IsWhole files told file → name.bytes ≡ Some bytes → files file.number ≡ Some bytes → ArePointsOf path (joined lists) (told file.number)
 told_points path name lists files told file bytes two has whole named there =
     let first : has.bytes ≡ bytes = some_same _ _ (sym has.told ∙ named) in
     let second : whole.bytes ≡ bytes = some_same _ _ (sym whole.there ∙ there) in
     let same : whole.tree ≡ has.tree = one_tree whole.tree has.tree bytes whole.is_tree whole.is_made has.is has.made
     (subst (IsFile whole.tree) second whole.is_file) (subst (IsFile has.tree) first has.file) in
-    points_of_content path two has.tree has.is has.made (told file.number) (subst (λ t. IsContentOf t (told file.number)) same whole.content) lists has.pages_are
+    points_of_content path two has.tree has.is has.made (told file.number) (subst (λ t. IsTreeContent t (told file.number)) same whole.content) lists has.pages_are

@@ -18,9 +18,9 @@ use Rattle.tsdb_streams.proofs.CleanFacts.{inside}
 use Rattle.std.proofs.Math.Seq.{drop-cons}
 use Rattle.tsdb_pins.proofs.Draining.{takes_none, takes_one}
 use Rattle.tsdb_pins.specs.Reading.{IsFoldOf}
-use Rattle.tsdb_pins.specs.Weaving.{AreLater, IsNext, Weaves, ends_before}
-use Rattle.tsdb_streams.specs.Kept.{times_of}
-use Rattle.tsdb_streams.specs.Parted.{AreTaken, IsParted, is_between, within}
+use Rattle.tsdb_pins.specs.Weaving.{AreLater, IsNextPoint, Weaves, ends_before}
+use Rattle.tsdb_streams.specs.Kept.{stats_range}
+use Rattle.tsdb_streams.specs.Parted.{AreStatsInOrder, IsParted, is_between, points_within}
 use Rattle.tsdb_model.specs.Folds.{aggregate_of}
 use Rattle.tsdb_model.specs.World.{is_in}
 use Rattle.tsdb_base.specs.Points.{IsRising}
@@ -32,7 +32,7 @@ abbrev Before : Point → Point → Type 0
 Before a b = a.time <ℤ b.time
 
 abbrev in_times : Stats → Point → Bool
-in_times s p = is_in (times_of s) p.time
+in_times s p = is_in (stats_range s) p.time
 
 below : (from to t : ℤ) → (int_le from t && int_le t to) ≡ false → t ≤ℤ to → t <ℤ from
 below from to t out low = grind (arith, ints)
@@ -44,7 +44,7 @@ none_in s [] later = refl
 none_in s (p ∷ ps) later = by (in_times s p) refl (none_in s ps (λ q has. later q (Contains-tail p q ps has)))
   where
     by : (b : Bool) → in_times s p ≡ b → filter (in_times s) ps ≡ [] → cond b (p ∷ filter (in_times s) ps) (filter (in_times s) ps) ≡ []
-    by true e rest = absurd (let low = (inside (times_of s) p.time e).1 in let high = later p (Contains-head p ps) in omega (arith, ints, low, high))
+    by true e rest = absurd (let low = (inside (stats_range s) p.time e).1 in let high = later p (Contains-head p ps) in omega (arith, ints, low, high))
     by false e rest = rest
 
 all_out : (s : Stats) (points : List Point) → ((p : Point) → Contains points p → s.end <ℤ p.time) → filter (λ p. not (in_times s p)) points ≡ points
@@ -52,7 +52,7 @@ all_out s [] later = refl
 all_out s (p ∷ ps) later = by (in_times s p) refl (all_out s ps (λ q has. later q (Contains-tail p q ps has)))
   where
     by : (b : Bool) → in_times s p ≡ b → filter (λ p. not (in_times s p)) ps ≡ ps → cond (not b) (p ∷ filter (λ p. not (in_times s p)) ps) (filter (λ p. not (in_times s p)) ps) ≡ p ∷ ps
-    by true e rest = absurd (let low = (inside (times_of s) p.time e).1 in let high = later p (Contains-head p ps) in omega (arith, ints, low, high))
+    by true e rest = absurd (let low = (inside (stats_range s) p.time e).1 in let high = later p (Contains-head p ps) in omega (arith, ints, low, high))
     by false e rest = ap (λ l. p ∷ l) rest
 
 pub first_stand : (s : Stats) (points : List Point) → IsRising points → ((p : Point) → Contains points p → in_times s p ≡ false → s.end <ℤ p.time) → points ≡ filter (in_times s) points ++ filter (λ p. not (in_times s p)) points
@@ -77,47 +77,47 @@ filter_both s clean [] = refl
 filter_both s clean (p ∷ ps) = by (in_times s p) (filter_both s clean ps)
   where
     by : (b : Bool) → filter (is_between (s ∷ clean)) ps ≡ filter (is_between clean) (filter (λ p. not (in_times s p)) ps)
-        → cond (not (b || list_any (λ stats. is_in (times_of stats) p.time) clean)) (p ∷ filter (is_between (s ∷ clean)) ps) (filter (is_between (s ∷ clean)) ps)
+        → cond (not (b || list_any (λ stats. is_in (stats_range stats) p.time) clean)) (p ∷ filter (is_between (s ∷ clean)) ps) (filter (is_between (s ∷ clean)) ps)
         ≡ filter (is_between clean) (cond (not b) (p ∷ filter (λ p. not (in_times s p)) ps) (filter (λ p. not (in_times s p)) ps))
     by true rest = rest
     by false rest = ap (λ l. cond (is_between clean p) (p ∷ l) l) rest
 
 -- a time of other statistics is none of these
-within_out : (s t : Stats) (points : List Point) → s.end <ℤ t.start → within t (filter (λ p. not (in_times s p)) points) ≡ within t points
+within_out : (s t : Stats) (points : List Point) → s.end <ℤ t.start → points_within t (filter (λ p. not (in_times s p)) points) ≡ points_within t points
 within_out s t [] low = refl
 within_out s t (p ∷ ps) low = by (in_times s p) (in_times t p) refl refl (within_out s t ps low)
   where
-    by : (a b : Bool) → in_times s p ≡ a → in_times t p ≡ b → within t (filter (λ p. not (in_times s p)) ps) ≡ within t ps
-        → filter (in_times t) (cond (not a) (p ∷ filter (λ p. not (in_times s p)) ps) (filter (λ p. not (in_times s p)) ps)) ≡ cond b (p ∷ within t ps) (within t ps)
-    by true true e f rest = absurd (let x = (inside (times_of s) p.time e).1 in let y = (inside (times_of t) p.time f).0 in omega (arith, ints, x, y, low))
+    by : (a b : Bool) → in_times s p ≡ a → in_times t p ≡ b → points_within t (filter (λ p. not (in_times s p)) ps) ≡ points_within t ps
+        → filter (in_times t) (cond (not a) (p ∷ filter (λ p. not (in_times s p)) ps) (filter (λ p. not (in_times s p)) ps)) ≡ cond b (p ∷ points_within t ps) (points_within t ps)
+    by true true e f rest = absurd (let x = (inside (stats_range s) p.time e).1 in let y = (inside (stats_range t) p.time f).0 in omega (arith, ints, x, y, low))
     by true false e f rest = rest
-    by false b e f rest = ap (λ c. cond c (p ∷ within t (filter (λ p. not (in_times s p)) ps)) (within t (filter (λ p. not (in_times s p)) ps))) f ∙ ap (λ l. cond b (p ∷ l) l) rest
+    by false b e f rest = ap (λ c. cond c (p ∷ points_within t (filter (λ p. not (in_times s p)) ps)) (points_within t (filter (λ p. not (in_times s p)) ps))) f ∙ ap (λ l. cond b (p ∷ l) l) rest
 
-taken_rest : (s : Stats) (clean : List Stats) (points : List Point) → AreTaken (s ∷ clean) points → AreTaken clean (filter (λ p. not (in_times s p)) points)
+taken_rest : (s : Stats) (clean : List Stats) (points : List Point) → AreStatsInOrder (s ∷ clean) points → AreStatsInOrder clean (filter (λ p. not (in_times s p)) points)
 taken_rest s clean points taken = record {
-  statistics = stats clean (AllPairs-head (λ (a b : Stats). a.end <ℤ b.start) s clean taken.order) (All-tail (λ stats. AreStatsOf (within stats points) stats) s clean taken.statistics);
+  statistics = stats clean (AllPairs-head (λ (a b : Stats). a.end <ℤ b.start) s clean taken.order) (All-tail (λ stats. AreStatsOf (points_within stats points) stats) s clean taken.statistics);
   order = AllPairs-tail (λ (a b : Stats). a.end <ℤ b.start) s clean taken.order;
 }
   where
-    stats : (list : List Stats) → All (λ t. s.end <ℤ t.start) list → All (λ stats. AreStatsOf (within stats points) stats) list → All (λ stats. AreStatsOf (within stats (filter (λ p. not (in_times s p)) points)) stats) list
-    stats [] low all = All-nil (λ stats. AreStatsOf (within stats (filter (λ p. not (in_times s p)) points)) stats)
+    stats : (list : List Stats) → All (λ t. s.end <ℤ t.start) list → All (λ stats. AreStatsOf (points_within stats points) stats) list → All (λ stats. AreStatsOf (points_within stats (filter (λ p. not (in_times s p)) points)) stats) list
+    stats [] low all = All-nil (λ stats. AreStatsOf (points_within stats (filter (λ p. not (in_times s p)) points)) stats)
     stats (t ∷ list) low all =
-        All-cons (λ stats. AreStatsOf (within stats (filter (λ p. not (in_times s p)) points)) stats) t list
-        (subst (λ ps. AreStatsOf ps t) (sym (within_out s t points (All-head (λ (t : Stats). s.end <ℤ t.start) t list low))) (All-head (λ stats. AreStatsOf (within stats points) stats) t list all))
-        (stats list (All-tail (λ (t : Stats). s.end <ℤ t.start) t list low) (All-tail (λ stats. AreStatsOf (within stats points) stats) t list all))
+        All-cons (λ stats. AreStatsOf (points_within stats (filter (λ p. not (in_times s p)) points)) stats) t list
+        (subst (λ ps. AreStatsOf ps t) (sym (within_out s t points (All-head (λ (t : Stats). s.end <ℤ t.start) t list low))) (All-head (λ stats. AreStatsOf (points_within stats points) stats) t list all))
+        (stats list (All-tail (λ (t : Stats). s.end <ℤ t.start) t list low) (All-tail (λ stats. AreStatsOf (points_within stats points) stats) t list all))
 
 -- ---- the loop
 
-pub weaves_first : (name : Aggregate) (all left : List Point) (clean : List Stats) (tally : Tally) → IsTally name [] tally → AreTaken clean all → left ≡ filter (is_between clean) all → IsRising all → Weaves name all clean left tally
+pub weaves_first : (name : Aggregate) (all left : List Point) (clean : List Stats) (tally : Tally) → IsTally name [] tally → AreStatsInOrder clean all → left ≡ filter (is_between clean) all → IsRising all → Weaves name all clean left tally
 weaves_first name all left clean tally is taken left_is rising = record { done = []; rest = all; split = refl; tally_is = is; taken = taken; left_is = left_is; rising = rising }
 
-any_after : (s : Stats) (clean : List Stats) (time : ℤ) → All (λ (t : Stats). s.end <ℤ t.start) clean → list_any (λ t. is_in (times_of t) time) clean ≡ true → s.end <ℤ time
+any_after : (s : Stats) (clean : List Stats) (time : ℤ) → All (λ (t : Stats). s.end <ℤ t.start) clean → list_any (λ t. is_in (stats_range t) time) clean ≡ true → s.end <ℤ time
 any_after s [] time low any = absurd (false≢true any)
-any_after s (t ∷ clean) time low any = by (is_in (times_of t) time) refl (any_after s clean time (All-tail (λ (t : Stats). s.end <ℤ t.start) t clean low))
+any_after s (t ∷ clean) time low any = by (is_in (stats_range t) time) refl (any_after s clean time (All-tail (λ (t : Stats). s.end <ℤ t.start) t clean low))
   where
-    by : (b : Bool) → is_in (times_of t) time ≡ b → (list_any (λ t. is_in (times_of t) time) clean ≡ true → s.end <ℤ time) → s.end <ℤ time
-    by true e rest = let a = (inside (times_of t) time e).0 in let b = All-head (λ (t : Stats). s.end <ℤ t.start) t clean low in omega (arith, ints, a, b)
-    by false e rest = rest (sym (ap (λ b. b || list_any (λ t. is_in (times_of t) time) clean) e) ∙ any)
+    by : (b : Bool) → is_in (stats_range t) time ≡ b → (list_any (λ t. is_in (stats_range t) time) clean ≡ true → s.end <ℤ time) → s.end <ℤ time
+    by true e rest = let a = (inside (stats_range t) time e).0 in let b = All-head (λ (t : Stats). s.end <ℤ t.start) t clean low in omega (arith, ints, a, b)
+    by false e rest = rest (sym (ap (λ b. b || list_any (λ t. is_in (stats_range t) time) clean) e) ∙ any)
 
 -- the statistics of the next page are added
 pub weaves_clean : (name : Aggregate) (all : List Point) (s : Stats) (clean : List Stats) (left : List Point) (tally one more : Tally) → Weaves name all (s ∷ clean) left tally → ((q : Point) → Contains left q → s.end <ℤ q.time)
@@ -126,18 +126,18 @@ weaves_clean name all s clean left tally one more was later joins is = record {
   done = was.done ++ filter (in_times s) was.rest;
   rest = filter (λ p. not (in_times s p)) was.rest;
   split = was.split ∙ ap (λ l. was.done ++ l) (first_stand s was.rest was.rising out) ∙ sym (append_assoc was.done (filter (in_times s) was.rest) (filter (λ p. not (in_times s p)) was.rest));
-  tally_is = joins was.done (filter (in_times s) was.rest) was.tally_is (is (filter (in_times s) was.rest) (All-head (λ stats. AreStatsOf (within stats was.rest) stats) s clean was.taken.statistics));
+  tally_is = joins was.done (filter (in_times s) was.rest) was.tally_is (is (filter (in_times s) was.rest) (All-head (λ stats. AreStatsOf (points_within stats was.rest) stats) s clean was.taken.statistics));
   taken = taken_rest s clean was.rest was.taken;
   left_is = was.left_is ∙ filter_both s clean was.rest;
   rising = AllPairs-filter Before (λ p. not (in_times s p)) was.rest was.rising;
 }
   where
     out : (p : Point) → Contains was.rest p → in_times s p ≡ false → s.end <ℤ p.time
-    out p has e = by (list_any (λ t. is_in (times_of t) p.time) clean) refl
+    out p has e = by (list_any (λ t. is_in (stats_range t) p.time) clean) refl
       where
-        by : (b : Bool) → list_any (λ t. is_in (times_of t) p.time) clean ≡ b → s.end <ℤ p.time
+        by : (b : Bool) → list_any (λ t. is_in (stats_range t) p.time) clean ≡ b → s.end <ℤ p.time
         by true any = any_after s clean p.time (AllPairs-head (λ (a b : Stats). a.end <ℤ b.start) s clean was.taken.order) any
-        by false any = later p (subst (λ l. Contains l p) (sym was.left_is) (Contains-filter (is_between (s ∷ clean)) was.rest p has (ap not (ap (λ b. b || list_any (λ t. is_in (times_of t) p.time) clean) e ∙ any))))
+        by false any = later p (subst (λ l. Contains l p) (sym was.left_is) (Contains-filter (is_between (s ∷ clean)) was.rest p has (ap not (ap (λ b. b || list_any (λ t. is_in (stats_range t) p.time) clean) e ∙ any))))
 
 -- no page is left
 pub weaves_end : (name : Aggregate) (all : List Point) (tally : Tally) → Weaves name all [] [] tally → IsTally name all tally
@@ -151,14 +151,14 @@ weaves_end name all tally was = subst (λ l. IsTally name l tally) (sym (was.spl
         nil_cons p ps e = cc
 
 -- where the first statistics do not end before a point that is between them, no point before it is covered
-covered_later : (clean : List Stats) (h q : Point) → AllPairs (λ a b. a.end <ℤ b.start) clean → AreLater (Some q) clean → is_between clean q ≡ true → list_any (λ t. is_in (times_of t) h.time) clean ≡ true → h.time <ℤ q.time → ⊥
+covered_later : (clean : List Stats) (h q : Point) → AllPairs (λ a b. a.end <ℤ b.start) clean → AreLater (Some q) clean → is_between clean q ≡ true → list_any (λ t. is_in (stats_range t) h.time) clean ≡ true → h.time <ℤ q.time → ⊥
 covered_later [] h q order none between any low = false≢true any
 covered_later (s ∷ clean) h q order none between any low = by (in_times s h) refl
   where
     not_in : in_times s q ≡ false
     not_in = first (in_times s q) between
       where
-        first : (b : Bool) → not (b || list_any (λ t. is_in (times_of t) q.time) clean) ≡ true → b ≡ false
+        first : (b : Bool) → not (b || list_any (λ t. is_in (stats_range t) q.time) clean) ≡ true → b ≡ false
         first true e = absurd (false≢true e)
         first false e = refl
 
@@ -166,9 +166,9 @@ covered_later (s ∷ clean) h q order none between any low = by (in_times s h) r
     before = below s.start s.end q.time not_in none
 
     by : (b : Bool) → in_times s h ≡ b → ⊥
-    by true e = let a = (inside (times_of s) h.time e).0 in let b = before in absurd (omega (arith, ints, a, b, low))
+    by true e = let a = (inside (stats_range s) h.time e).0 in let b = before in absurd (omega (arith, ints, a, b, low))
     by false e =
-        let late = any_after s clean h.time (AllPairs-head (λ (a b : Stats). a.end <ℤ b.start) s clean order) (sym (ap (λ b. b || list_any (λ t. is_in (times_of t) h.time) clean) e) ∙ any) in
+        let late = any_after s clean h.time (AllPairs-head (λ (a b : Stats). a.end <ℤ b.start) s clean order) (sym (ap (λ b. b || list_any (λ t. is_in (stats_range t) h.time) clean) e) ∙ any) in
         absurd (omega (arith, ints, late, low, none))
 
 -- a point between the pages is added
@@ -190,14 +190,14 @@ weaves_point name all clean q left tally one more was none joins is = by was.res
       rest = rest;
       split = was.split ∙ ap (λ l. was.done ++ l) split ∙ sym (append_assoc was.done (q ∷ []) rest);
       tally_is = joins was.done (q ∷ []) was.tally_is is;
-      taken = record { statistics = stats clean (subst (λ l. All (λ stats. AreStatsOf (within stats l) stats) clean) split was.taken.statistics) (apart clean between); order = was.taken.order };
+      taken = record { statistics = stats clean (subst (λ l. All (λ stats. AreStatsOf (points_within stats l) stats) clean) split was.taken.statistics) (apart clean between); order = was.taken.order };
       left_is = left_is;
       rising = AllPairs-tail Before q rest (subst IsRising split was.rising);
     }
       where
         apart : (list : List Stats) → is_between list q ≡ true → All (λ (s : Stats). in_times s q ≡ false) list
         apart [] e = All-nil (λ (s : Stats). in_times s q ≡ false)
-        apart (s ∷ list) e = All-cons (λ (s : Stats). in_times s q ≡ false) s list (first (in_times s q) (list_any (λ t. is_in (times_of t) q.time) list) e) (apart list (second (in_times s q) (list_any (λ t. is_in (times_of t) q.time) list) e))
+        apart (s ∷ list) e = All-cons (λ (s : Stats). in_times s q ≡ false) s list (first (in_times s q) (list_any (λ t. is_in (stats_range t) q.time) list) e) (apart list (second (in_times s q) (list_any (λ t. is_in (stats_range t) q.time) list) e))
           where
             first : (a b : Bool) → not (a || b) ≡ true → a ≡ false
             first true b e = absurd (false≢true e)
@@ -207,21 +207,21 @@ weaves_point name all clean q left tally one more was none joins is = by was.res
             second true b e = absurd (false≢true e)
             second false b e = e
 
-        stats : (list : List Stats) → All (λ stats. AreStatsOf (within stats (q ∷ rest)) stats) list → All (λ (s : Stats). in_times s q ≡ false) list → All (λ stats. AreStatsOf (within stats rest) stats) list
-        stats [] all out = All-nil (λ stats. AreStatsOf (within stats rest) stats)
+        stats : (list : List Stats) → All (λ stats. AreStatsOf (points_within stats (q ∷ rest)) stats) list → All (λ (s : Stats). in_times s q ≡ false) list → All (λ stats. AreStatsOf (points_within stats rest) stats) list
+        stats [] all out = All-nil (λ stats. AreStatsOf (points_within stats rest) stats)
         stats (s ∷ list) all out =
-            All-cons (λ stats. AreStatsOf (within stats rest) stats) s list
-            (subst (λ ps. AreStatsOf ps s) (ap (λ b. cond b (q ∷ within s rest) (within s rest)) (All-head (λ (s : Stats). in_times s q ≡ false) s list out)) (All-head (λ stats. AreStatsOf (within stats (q ∷ rest)) stats) s list all))
-            (stats list (All-tail (λ stats. AreStatsOf (within stats (q ∷ rest)) stats) s list all) (All-tail (λ (s : Stats). in_times s q ≡ false) s list out))
+            All-cons (λ stats. AreStatsOf (points_within stats rest) stats) s list
+            (subst (λ ps. AreStatsOf ps s) (ap (λ b. cond b (q ∷ points_within s rest) (points_within s rest)) (All-head (λ (s : Stats). in_times s q ≡ false) s list out)) (All-head (λ stats. AreStatsOf (points_within stats (q ∷ rest)) stats) s list all))
+            (stats list (All-tail (λ stats. AreStatsOf (points_within stats (q ∷ rest)) stats) s list all) (All-tail (λ (s : Stats). in_times s q ≡ false) s list out))
 
     by : (rest : List Point) → was.rest ≡ rest → Weaves name all clean left more
     by [] e = absurd (nil_cons q left (was.left_is ∙ ap (filter (is_between clean)) e))
-    by (h ∷ rest) e = choose (list_any (λ t. is_in (times_of t) h.time) clean) refl
+    by (h ∷ rest) e = choose (list_any (λ t. is_in (stats_range t) h.time) clean) refl
       where
         left_rest : q ∷ left ≡ filter (is_between clean) (h ∷ rest)
         left_rest = was.left_is ∙ ap (filter (is_between clean)) e
 
-        choose : (b : Bool) → list_any (λ t. is_in (times_of t) h.time) clean ≡ b → Weaves name all clean left more
+        choose : (b : Bool) → list_any (λ t. is_in (stats_range t) h.time) clean ≡ b → Weaves name all clean left more
         choose false any =
             let heads : q ∷ left ≡ h ∷ filter (is_between clean) rest = left_rest ∙ ap (λ b. cond (not b) (h ∷ filter (is_between clean) rest) (filter (is_between clean) rest)) any in
             let same : q ≡ h = cc in
@@ -241,7 +241,7 @@ lt_of a b e = grind (arith, ints)
 le_not : (a b : ℤ) → int_lt a b ≡ false → b ≤ℤ a
 le_not a b e = grind (arith, ints)
 
-pub step_clean : (name : Aggregate) (all : List Point) (clean : List Stats) (i : ℕ) (s : Stats) (left : List Point) (point : Option Point) (tally one more : Tally) → i < length clean → s ≡ get_or clean i s → ends_before s point ≡ true → IsNext point left
+pub step_clean : (name : Aggregate) (all : List Point) (clean : List Stats) (i : ℕ) (s : Stats) (left : List Point) (point : Option Point) (tally one more : Tally) → i < length clean → s ≡ get_or clean i s → ends_before s point ≡ true → IsNextPoint point left
     → Weaves name all (drop i clean) left tally → ((xs ys : List Point) → IsTally name xs tally → IsTally name ys one → IsTally name (xs ++ ys) more) → ((points : List Point) → AreStatsOf points s → IsTally name points one) → Weaves name all (drop (i + 1) clean) left more
 step_clean name all clean i s left point tally one more low at ends next was joins is =
     let step : i + 1 ≡ suc i = omega arith in
@@ -249,7 +249,7 @@ step_clean name all clean i s left point tally one more low at ends next was joi
     let now : Weaves name all (s ∷ drop (i + 1) clean) left tally = subst (λ l. Weaves name all l left tally) first was in
     weaves_clean name all s (drop (i + 1) clean) left tally one more now (later point ends next (subst IsRising (sym now.left_is) (AllPairs-filter Before (is_between (s ∷ drop (i + 1) clean)) now.rest now.rising))) joins is
   where
-    later : (point : Option Point) → ends_before s point ≡ true → IsNext point left → IsRising left → (q : Point) → Contains left q → s.end <ℤ q.time
+    later : (point : Option Point) → ends_before s point ≡ true → IsNextPoint point left → IsRising left → (q : Point) → Contains left q → s.end <ℤ q.time
     later None e none rising q has = absurd (Contains-nil q (subst (λ l. Contains l q) none has))
     later (Some p) e next rising q has = by (Contains-cases p q next.0 (subst (λ l. Contains l q) next.1 has))
       where
@@ -283,7 +283,7 @@ pub record Woven (name : Aggregate) (all : List Point) (clean : List Stats) (nex
   pub told : now ≡ Some left
   pub weaves : Weaves name all (drop next clean) left tally
 
-pub next_is : (now after : Option (List Point)) (left : List Point) (point : Option Point) → now ≡ Some left → TakesTold now point after → IsNext point left
+pub next_is : (now after : Option (List Point)) (left : List Point) (point : Option Point) → now ≡ Some left → TakesTold now point after → IsNextPoint point left
 next_is now after left None is takes = takes_none now after left is takes
 next_is now after left (Some q) is takes = let one = takes_one now after left q is takes in (one.0, one.2)
 
@@ -305,5 +305,5 @@ woven_end name all clean next now after left point tally is takes none weaves la
 
 -- the answer of all points that are parted into clean pages and what is left
 pub fold_of : (name : Aggregate) (lists : List (List Point)) (clean : List Stats) (left : Option (List Point)) (answer : Option Value) → IsParted lists clean left
-    → ((all : List Point) → AreTaken clean all → IsRising all → left ≡ Some (filter (is_between clean) all) → answer ≡ aggregate_of name all) → IsFoldOf name lists answer
+    → ((all : List Point) → AreStatsInOrder clean all → IsRising all → left ≡ Some (filter (is_between clean) all) → answer ≡ aggregate_of name all) → IsFoldOf name lists answer
 fold_of name lists clean left answer is folded = record { points = is.points; merge = is.merge; is = folded is.points is.taken is.merge.rising is.left_is }

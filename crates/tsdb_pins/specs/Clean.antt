@@ -22,20 +22,20 @@ module _ {F S R P : Type 0} (name : R → NamedFile) (pages : SeriesPages) where
   TellPages columns = Each (λ column. Each (TellsPages column.schema.path) column.sources) columns
 
   -- the times of each page of the series in a file, as its points are told, or of a part in memory
-  abbrev pub hulls_of : List ℕ → PinnedSource F S R P → List Range
-  hulls_of path (File number born right) = flat_map hull_of (unwrap_or (pages path (name right).number) [])
-  hulls_of path (Part born copies) = hull_of copies
+  abbrev pub page_ranges : List ℕ → PinnedSource F S R P → List Range
+  page_ranges path (File number born right) = flat_map hull_of (unwrap_or (pages path (name right).number) [])
+  page_ranges path (Part born copies) = hull_of copies
 
   -- how many pages of the source at this place meet the range and are not clean; `hulls` has the times of each source
   abbrev pub read_of : List ℕ → Range → List Mark → List (List Range) → ℕ → PinnedSource F S R P → ℕ
   read_of path range marks hulls place (File number born right) =
-      count_read path range marks (others place hulls) born.0 (hulls_of path (File number born right))
+      count_read path range marks (others place hulls) born.0 (page_ranges path (File number born right))
   read_of path range marks hulls place (Part born copies) = 0
 
   -- how many pages of a column meet the range and are not clean
   abbrev pub column_read : Range → List Mark → Column F S R P → ℕ
   column_read range marks column = sum_by (λ entry. read_of column.schema.path range marks
-      (map (hulls_of column.schema.path) column.sources) entry.0 entry.1) (enumerate_from 0 column.sources)
+      (map (page_ranges column.schema.path) column.sources) entry.0 entry.1) (enumerate_from 0 column.sources)
 
   -- so of all columns together
   abbrev pub columns_read : Range → List Mark → List (Column F S R P) → ℕ

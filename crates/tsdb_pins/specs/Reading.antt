@@ -8,8 +8,8 @@ use Rattle.tsdb_base.specs.declared.point.Point.{Point}
 use Rattle.tsdb_base.specs.declared.point.Range.{Range}
 use Rattle.tsdb_base.specs.declared.value.Value.{Value}
 use Rattle.tsdb_streams.specs.Files.{FilePages, IsTold, IsTruth}
-use Rattle.tsdb_streams.specs.declared.source.Source.{Source}
-use Rattle.tsdb_streams.specs.declared.source.Source.TheVariants as lent
+use Rattle.tsdb_streams.specs.declared.source.StreamSource.{StreamSource}
+use Rattle.tsdb_streams.specs.declared.source.StreamSource.TheVariants as lent
 use Rattle.tsdb_model.specs.Folds.{aggregate_of}
 use Rattle.tsdb_marks.specs.declared.marks.Mark.{Mark}
 use Rattle.tsdb_base.specs.Points.{IsRising}
@@ -22,11 +22,11 @@ use Rattle.tsdb_pin.specs.declared.pin.Column.{Column}
 use Rattle.tsdb_pin.specs.declared.pin.PinnedSource.{PinnedSource}
 use Rattle.tsdb_pin.specs.declared.pin.PinnedSource.TheVariants.{File, Part}
 use Rattle.tsdb_streams.specs.Pieces.{joined}
-use Rattle.tsdb_state.specs.State.{Told}
+use Rattle.tsdb_state.specs.State.{ToldContents}
 
 module _ {F S R P : Type 0} where
   -- the same source, lent
-  abbrev pub IsLentAs : PinnedSource F S R P → Source R → Type 0
+  abbrev pub IsLentAs : PinnedSource F S R P → StreamSource R → Type 0
   IsLentAs (File number born right) (lent.File read stamp) = (read.now ≡ right) × (stamp ≡ born)
   IsLentAs (File number born right) (lent.Part points stamp) = ⊥
   IsLentAs (Part born copies) (lent.File read stamp) = ⊥
@@ -85,13 +85,13 @@ module _ {F S R P : Type 0} (name : R → NamedFile) (pages : SeriesPages) where
   HasTold path (Part born copies) points = points ≡ copies
 
   -- what is told of the series in a file are the points that the file of the number has of it
-  abbrev pub TellsPoints : Told → List ℕ → PinnedSource F S R P → Type 0
+  abbrev pub TellsPoints : ToldContents → List ℕ → PinnedSource F S R P → Type 0
   TellsPoints told path (File number born right) =
       (lists : List (List Point)) × (pages path (name right).number ≡ Some lists)
       × ArePointsOf path (joined lists) (told number.0)
   TellsPoints told path (Part born copies) = ⊤
 
-  abbrev pub TellPoints : Told → List (Column F S R P) → Type 0
+  abbrev pub TellPoints : ToldContents → List (Column F S R P) → Type 0
   TellPoints told columns = Each (λ column. Each (TellsPoints told column.schema.path) column.sources) columns
 
   -- These points were read of the column: the merge of those that its sources have in the range and no mark deletes.

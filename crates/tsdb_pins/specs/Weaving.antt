@@ -5,7 +5,7 @@ use Rattle.tsdb_aggregate.specs.declared.tally.Tally.{Tally}
 use Rattle.tsdb_base.specs.declared.answers.Aggregate.{Aggregate}
 use Rattle.tsdb_base.specs.declared.point.Point.{Point}
 use Rattle.tsdb_base.specs.declared.point.Stats.{Stats}
-use Rattle.tsdb_streams.specs.Parted.{AreTaken, is_between}
+use Rattle.tsdb_streams.specs.Parted.{AreStatsInOrder, is_between}
 use Rattle.tsdb_base.specs.Points.{IsRising}
 
 -- the tally is that of the first points, and of the rest the statistics and what is between them are still to be added
@@ -15,14 +15,14 @@ pub record Weaves (name : Aggregate) (all : List Point) (clean : List Stats) (le
   pub rest : List Point
   pub split : all ≡ done ++ rest
   pub tally_is : IsTally name done tally
-  pub taken : AreTaken clean rest
+  pub taken : AreStatsInOrder clean rest
   pub left_is : left ≡ filter (is_between clean) rest
   pub rising : IsRising rest
 
 -- the first point that is left, or none
-abbrev pub IsNext : Option Point → List Point → Type 0
-IsNext None left = left ≡ []
-IsNext (Some point) left = (rest : List Point) × (left ≡ point ∷ rest)
+abbrev pub IsNextPoint : Option Point → List Point → Type 0
+IsNextPoint None left = left ≡ []
+IsNextPoint (Some point) left = (rest : List Point) × (left ≡ point ∷ rest)
 
 -- the statistics end before the point, if there is one
 abbrev pub ends_before : Stats → Option Point → Bool

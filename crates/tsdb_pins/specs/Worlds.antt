@@ -7,7 +7,7 @@ use Rattle.tsdb_base.specs.declared.point.Range.{Range}
 use Rattle.tsdb_base.specs.declared.value.Value.{Value}
 use Rattle.tsdb_model.specs.Apply.{item_value}
 use Rattle.tsdb_model.specs.Folds.{in_order, within}
-use Rattle.tsdb_model.specs.World.{Points, World, points_of}
+use Rattle.tsdb_model.specs.World.{PointMap, World, points_of_series}
 use Rattle.tsdb_marks.specs.declared.marks.Mark.{Mark}
 use Rattle.tsdb_merge.specs.Winners.{IsMergeOf}
 use Rattle.tsdb_pin.specs.Shown.{ArePointsOf}
@@ -15,15 +15,15 @@ use Rattle.tsdb_pin.specs.declared.pin.Column.{Column}
 use Rattle.tsdb_pin.specs.declared.pin.PinnedSource.{PinnedSource}
 use Rattle.tsdb_pin.specs.declared.pin.PinnedSource.TheVariants.{File, Part}
 use Rattle.tsdb_streams.specs.Kept.{is_kept}
-use Rattle.tsdb_state.specs.State.{Told}
+use Rattle.tsdb_state.specs.State.{ToldContents}
 
 -- the points that a series has in a range, in order of time
-abbrev pub series_points : World → Range → List ℕ → Points
-series_points world range path = within range (points_of (get world path))
+abbrev pub series_points : World → Range → List ℕ → PointMap
+series_points world range path = within range (points_of_series (get world path))
 
 module _ {F S R P : Type 0} where
   -- the points in the range that each column has in the world
-  abbrev pub columns_in : World → Range → List (Column F S R P) → List Points
+  abbrev pub columns_in : World → Range → List (Column F S R P) → List PointMap
   columns_in world range columns = map (λ column. series_points world range column.schema.path) columns
 
   -- the aggregates that the columns ask for
@@ -37,7 +37,7 @@ module _ {F S R P : Type 0} where
   born_of (Part born points) = born.0
 
   -- these are all points that a source has of the series, where it is told what files have
-  abbrev pub IsSourceOf : Told → List ℕ → PinnedSource F S R P → List Point → Type 0
+  abbrev pub IsSourceOf : ToldContents → List ℕ → PinnedSource F S R P → List Point → Type 0
   IsSourceOf told path (File number born right) points = ArePointsOf path points (told number.0)
   IsSourceOf told path (Part born copies) points = points ≡ copies
 
@@ -50,7 +50,7 @@ module _ {F S R P : Type 0} where
 
   -- The merge of what the sources of the column have, but for points outside of the range and those that marks delete,
   -- has the points of the series in the world.
-  abbrev pub HasPointsOf : Told → World → Range → List Mark → Column F S R P → Type 0
+  abbrev pub HasPointsOf : ToldContents → World → Range → List Mark → Column F S R P → Type 0
   HasPointsOf told world range marks column = (lists : List (List Point)) (points : List Point)
       → AllZip (IsSourceOf told column.schema.path) column.sources lists
       → IsMergeOf (kept_of column.schema.path range marks column.sources lists) points

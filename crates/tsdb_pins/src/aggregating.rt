@@ -29,7 +29,7 @@ pub fn aggregates<F: Files, L: Ledger>(
     requires nodes { HaveNodes pin.now.columns }
     requires of_store { AreColumnsOf F.Right.file (F.Port.store port.old) pin.now.columns }
     ensures values { (told_pages : SeriesPages) → AreColumnsTrue F.Right.file told_pages pin.now.columns
-        → IfOk result (λ values. (told : state.Told) (shown : state.Pin) (world : World)
+        → IfOk result (λ values. (told : state.ToldContents) (shown : state.PinState) (world : World)
         → TellPoints F.Right.file told_pages told pin.now.columns → IsPinOf pin.now shown → PinStandsFor told shown world
         → values.items ≡ values_in world pin.now.range pin.now.columns) }
     ensures counted { pages.old ≤ pages.new }

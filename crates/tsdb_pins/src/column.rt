@@ -4,7 +4,7 @@ ghost use Rattle.std.specs.Prelude.{◌≡◌, ◌≤◌, All, IfOk, List, Some,
 ghost use Rattle.tsdb_base.specs.declared.point.Point.{Point as PointModel};
 ghost use Rattle.tsdb_streams.specs.Files.{FilePages, HasReason};
 ghost use Rattle.tsdb_streams.specs.Kept.{is_kept};
-ghost use Rattle.tsdb_streams.specs.Lanes.{IsSourceOf, source_left};
+ghost use Rattle.tsdb_streams.specs.Lanes.{IsSourceOfStore, source_left};
 ghost use Rattle.tsdb_streams.specs.Streams.{AreToldSources, AreTrueSources};
 ghost use Rattle.tsdb_base.specs.Points.{IsRising};
 ghost use Rattle.tsdb_merge.specs.Winners.{IsMergeOf};
@@ -19,7 +19,7 @@ use tsdb_marks::Marks;
 use tsdb_outside::{Files, Port, StoreFault};
 use tsdb_path::Path;
 use tsdb_pin::{Column, Pin};
-use tsdb_streams::{Source, open_column, pull};
+use tsdb_streams::{StreamSource, open_stream, pull};
 
 /// The points of a series in a range that no mark deletes, from these sources.
 fn read_points<'a, P: Port>(
@@ -27,11 +27,11 @@ fn read_points<'a, P: Port>(
     series: &'a Path,
     range: &Range,
     marks: &'a Marks,
-    sources: Vec<Source<'a, P::Right>>,
+    sources: Vec<StreamSource<'a, P::Right>>,
     port: &mut P,
 ) -> Result<Vec<Point>, StoreFault>
     requires nodes { 2 ≤ node_count series.now }
-    requires of_store { All (IsSourceOf P.Right.file (P.store port.old)) sources.items }
+    requires of_store { All (IsSourceOfStore P.Right.file (P.store port.old)) sources.items }
     ensures merged { (pages : FilePages) → AreTrueSources P.Right.file series.now pages sources.entry.items
         → IfOk result (λ points. (lists : List (List PointModel)) →
         map (source_left P.Right.file pages (is_kept series.now range.now marks.now.marks)) sources.entry.items
@@ -42,7 +42,7 @@ fn read_points<'a, P: Port>(
     ensures later { P.faults port.old ≤ P.faults port.new }
     ensures same_store { P.store port.new ≡ P.store port.old }
 {
-    let mut stream = open_column(alloc, series, range, marks, sources, port)?;
+    let mut stream = open_stream(alloc, series, range, marks, sources, port)?;
     let mut points = Vec::new(alloc);
     for _ in 0..u64::MAX {
         let Some(point) = pull(&mut stream, port)? else {

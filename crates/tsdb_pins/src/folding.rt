@@ -5,8 +5,8 @@ ghost use Rattle.tsdb_base.specs.declared.point.Point.{Point as PointModel};
 ghost use Rattle.tsdb_streams.specs.Clean.{sources_read};
 ghost use Rattle.tsdb_streams.specs.Files.{FilePages, HasReason};
 ghost use Rattle.tsdb_streams.specs.Kept.{is_kept};
-ghost use Rattle.tsdb_streams.specs.Lanes.{IsSourceOf, source_all, source_left};
-ghost use Rattle.tsdb_streams.specs.Parted.{AreTaken, is_between};
+ghost use Rattle.tsdb_streams.specs.Lanes.{IsSourceOfStore, source_all, source_left};
+ghost use Rattle.tsdb_streams.specs.Parted.{AreStatsInOrder, is_between};
 ghost use Rattle.tsdb_streams.specs.Streams.{AreToldSources, AreTrueSources, IsStreamOfStore, IsToldStream};
 ghost use Rattle.tsdb_streams.specs.Streams.{IsTrueStream, stream_due, stream_left};
 ghost use Rattle.tsdb_model.specs.Folds.{aggregate_of};
@@ -14,7 +14,7 @@ ghost use Rattle.tsdb_base.specs.Points.{IsRising};
 ghost use Rattle.tsdb_path.specs.Nodes.{node_count};
 ghost use Rattle.tsdb_pins.specs.Clean.{TellsPages, column_read};
 ghost use Rattle.tsdb_pins.specs.Reading.{IsFoldOf, IsOfStore, IsToldIn, IsTrueIn, IsValueRead, SeriesPages};
-ghost use Rattle.tsdb_pins.specs.Weaving.{AreLater, IsNext, Weaves, ends_before as ends};
+ghost use Rattle.tsdb_pins.specs.Weaving.{AreLater, IsNextPoint, Weaves, ends_before as ends};
 
 use crate::lending::lend;
 use std::alloc::Global;
@@ -25,7 +25,7 @@ use tsdb_marks::Marks;
 use tsdb_outside::{Files, Port, StoreFault};
 use tsdb_path::Path;
 use tsdb_pin::{Column, Pin};
-use tsdb_streams::{Source, Stream, open_parted, pull};
+use tsdb_streams::{Stream, StreamSource, open_parted, pull};
 
 /// Whether statistics end before a point, if there is one.
 fn ends_before(stats: &Stats, point: &Option<Point>) -> bool
@@ -46,7 +46,7 @@ fn add_clean<'a>(
     point: &Option<Point>,
     tally: &mut Tally<'a>,
 ) -> Result<usize, Memory>
-    ensures added { IfOk result (λ next. (all left : List PointModel) → IsNext point.now left
+    ensures added { IfOk result (λ next. (all left : List PointModel) → IsNextPoint point.now left
         → Weaves name all (drop from clean.now) left tally.old → Weaves name all (drop next clean.now) left tally.new) }
     ensures later { IfOk result (λ next. AreLater point.now (drop next clean.now)) }
 {
@@ -71,7 +71,7 @@ fn fold_stream<P: Port>(
     requires of_store { IsStreamOfStore P.Right.file (P.store port.old) stream.old }
     requires works { stream.old.fault ≡ None }
     ensures folded { (pages : FilePages) → IsTrueStream P.Right.file pages stream.old
-        → IfOk result (λ answer. (all : List PointModel) → AreTaken clean.now all → IsRising all
+        → IfOk result (λ answer. (all : List PointModel) → AreStatsInOrder clean.now all → IsRising all
         → stream_left P.Right.file pages stream.old ≡ Some (filter (is_between clean.now) all)
         → answer ≡ aggregate_of name all) }
     ensures due { stream_due stream.new ≡ stream_due stream.old }
@@ -101,12 +101,12 @@ fn fold_points<'a, P: Port, L: Ledger>(
     series: &'a Path,
     range: &Range,
     marks: &'a Marks,
-    sources: Vec<Source<'a, P::Right>>,
+    sources: Vec<StreamSource<'a, P::Right>>,
     port: &mut P,
     pages: &mut Steps<L>,
 ) -> Result<Option<Value>, StoreFault>
     requires nodes { 2 ≤ node_count series.now }
-    requires of_store { All (IsSourceOf P.Right.file (P.store port.old)) sources.items }
+    requires of_store { All (IsSourceOfStore P.Right.file (P.store port.old)) sources.items }
     ensures folded { (told : FilePages) → AreTrueSources P.Right.file series.now told sources.entry.items
         → IfOk result (λ answer. (all lists : List (List PointModel)) →
         map (source_all P.Right.file told) sources.entry.items ≡ map Some all → All IsRising all →

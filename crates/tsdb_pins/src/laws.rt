@@ -6,22 +6,23 @@ ghost use Rattle.tsdb_streams.specs.Files.{HasPages};
 ghost use Rattle.tsdb_pin.specs.Files.{KeptFiles};
 ghost use Rattle.tsdb_pin.specs.Places.{AreOfStore};
 ghost use Rattle.tsdb_model.specs.declared.command.Item.{Item};
-ghost use Rattle.tsdb_memory.specs.Store.{Store as MemorySeen};
+ghost use Rattle.tsdb_memory.specs.Store.{MemoryState as MemorySeen};
 ghost use Rattle.tsdb_outside.specs.Files.{NamedFile, Store};
 ghost use Rattle.tsdb_path.specs.Nodes.{device_of, measurement_of, node_count};
 ghost use Rattle.tsdb_pin.specs.Pins.{AreColumnsHeld, IsPinFor};
 ghost use Rattle.tsdb_pin.specs.Shown.{ArePointsOf};
 ghost use Rattle.tsdb_pins.specs.Reading.{AreColumnsOf, HaveNodes};
-ghost use Rattle.tsdb_state.specs.Stores.{Files as Kept, IsWhole};
+ghost use Rattle.tsdb_state.specs.Stores.{BytesByNumber as Kept, IsWhole};
 ghost use Rattle.tsdb_streams.specs.Pieces.{joined};
-ghost use Rattle.tsdb_state.specs.State.{File, Told};
+ghost use Rattle.tsdb_state.specs.State.{File, ToldContents};
 
 use tsdb_outside::Files;
 use tsdb_pin::Pin;
 
 /// The pages of a series in a whole file have the points that are told of the file.
 pub fn pages_have_the_points_of_their_file()
-    ensures { (path : List ℕ) (name : NamedFile) (lists : List (List Point)) (files : Kept) (told : Told) (file : File)
+    ensures { (path : List ℕ) (name : NamedFile) (lists : List (List Point)) (files : Kept) (told : ToldContents)
+        (file : File)
         (bytes : List ℕ) → 2 ≤ node_count path → HasPages (device_of path, measurement_of path) name lists
         → IsWhole files told file → name.bytes ≡ Some bytes → files file.number ≡ Some bytes
         → ArePointsOf path (joined lists) (told file.number) }

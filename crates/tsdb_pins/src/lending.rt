@@ -7,15 +7,15 @@ use std::alloc::Global;
 use tsdb_base::Memory;
 use tsdb_outside::Files;
 use tsdb_pin::PinnedSource;
-use tsdb_streams::Source;
+use tsdb_streams::StreamSource;
 
 /// A source, lent.
-fn lend_one<F: Files>(source: &PinnedSource<F>) -> Source<'_, F::Right>
+fn lend_one<F: Files>(source: &PinnedSource<F>) -> StreamSource<'_, F::Right>
     ensures { IsLentAs source.now result }
 {
     match source {
-        PinnedSource::File { right, born, .. } => Source::File { right, born: *born },
-        PinnedSource::Part { points, born } => Source::Part {
+        PinnedSource::File { right, born, .. } => StreamSource::File { right, born: *born },
+        PinnedSource::Part { points, born } => StreamSource::Part {
             points: points.items(),
             born: *born,
         },
@@ -26,7 +26,7 @@ fn lend_one<F: Files>(source: &PinnedSource<F>) -> Source<'_, F::Right>
 pub(crate) fn lend<'a, F: Files>(
     alloc: Global,
     sources: &'a [PinnedSource<F>],
-) -> Result<Vec<Source<'a, F::Right>>, Memory>
+) -> Result<Vec<StreamSource<'a, F::Right>>, Memory>
     ensures { IfOk result (λ lent. AllZip IsLentAs sources.now lent.items) }
 {
     let mut lent = Vec::with_capacity(alloc, sources.len())?;

@@ -2,7 +2,7 @@
 ghost use Rattle.std.specs.Prelude as std;
 ghost use Rattle.std.specs.Prelude.{◌≡◌, ◌↔◌, IfOk, IsTrue, map};
 ghost use Rattle.tsdb_model.specs.Folds as folds;
-ghost use Rattle.tsdb_model.specs.World.{Points};
+ghost use Rattle.tsdb_model.specs.World.{PointMap};
 ghost use Rattle.tsdb_pins.specs.Rows.{BeginsAt, IsFirstTime, IsTakenAt, IsTimeOfFirst, TakesLine, earlier_of};
 ghost use Rattle.tsdb_pins.specs.Rows.{lists_of, vec_lists};
 
@@ -98,7 +98,7 @@ fn open(alloc: Global, columns: Vec<Vec<Point>>) -> Result<Vec<Column>, Memory>
 
 /// The rows of columns, each of which has its points in order of time.
 pub fn rows_of(alloc: Global, columns: Vec<Vec<Point>>) -> Result<Vec<Line>, Memory>
-    ensures rows { IfOk result (λ lines. (points : std.List Points)
+    ensures rows { IfOk result (λ lines. (points : std.List PointMap)
         → vec_lists columns.items ≡ map folds.in_order points → lines.items ≡ folds.rows points) }
 {
     let mut left = open(alloc, columns)?;

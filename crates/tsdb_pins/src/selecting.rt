@@ -54,7 +54,7 @@ pub fn select<F: Files>(
     requires nodes { HaveNodes pin.now.columns }
     requires of_store { AreColumnsOf F.Right.file (F.Port.store port.old) pin.now.columns }
     ensures rows { (pages : SeriesPages) → AreColumnsTrue F.Right.file pages pin.now.columns
-        → IfOk result (λ lines. (told : state.Told) (shown : state.Pin) (world : World)
+        → IfOk result (λ lines. (told : state.ToldContents) (shown : state.PinState) (world : World)
         → TellPoints F.Right.file pages told pin.now.columns → IsPinOf pin.now shown → PinStandsFor told shown world
         → lines.items ≡ rows (columns_in world pin.now.range pin.now.columns)) }
     ensures reason { (pages : SeriesPages) → AreColumnsTrue F.Right.file pages pin.now.columns

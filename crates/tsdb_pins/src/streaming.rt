@@ -47,7 +47,7 @@ fn open_one<'a, F: Files>(
     ensures same_store { F.Port.store port.new ≡ F.Port.store port.old }
 {
     let sources = lend(alloc, column.sources.items())?;
-    tsdb_streams::open_column(
+    tsdb_streams::open_stream(
         alloc,
         &column.schema.path,
         &pin.range,
@@ -71,7 +71,7 @@ pub fn open_column<'a, F: Files>(
     requires nodes { HaveNodes pin.now.columns }
     requires of_store { AreColumnsOf F.Right.file (F.Port.store port.old) pin.now.columns }
     ensures points { (pages : SeriesPages) → AreColumnsTrue F.Right.file pages pin.now.columns
-        → IfOk result (λ stream. (told : state.Told) (shown : state.Pin) (world : World)
+        → IfOk result (λ stream. (told : state.ToldContents) (shown : state.PinState) (world : World)
         → TellPoints F.Right.file pages told pin.now.columns → IsPinOf pin.now shown → PinStandsFor told shown world
         → HasColumnLeft F.Right.file pages world pin.now.range pin.now.columns column stream) }
     ensures truth { (pages : SeriesPages) → AreColumnsTrue F.Right.file pages pin.now.columns

@@ -13,7 +13,7 @@ use Rattle.std.proofs.lemmas.Bool.{cases_eq}
 use Rattle.std.proofs.lemmas.Int.{ints}
 use Rattle.std.proofs.lemmas.Slice.{first_rest}
 use Rattle.tsdb_plan.specs.declared.entry.Hull.{Hull}
-use Rattle.tsdb_plan.specs.Files.{AreRising}
+use Rattle.tsdb_plan.specs.Files.{AreHullsRising}
 use Rattle.tsdb_plan.specs.Steps.{Reaches}
 use Rattle.tsdb_plan.proofs.ListFacts.{Any-head, Any-tail, Any-cases, Any-weaker, Any-with_All, AllPairs-head, AllPairs-tail}
 
@@ -56,17 +56,17 @@ chain a b xs first others zero d l = first
 chain a b xs first others (suc k) d l = nat_list_cmp_total.trans a.device b.device (get_or xs k d).device first (others k d (omega arith))
 
 -- the steps of the walk: the lesser of two devices goes, and of two equal ones both go
-pub step_less : (a b : Hull) (ar br : List Hull) → AreRising (b ∷ br) → slice_cmp nat_cmp a.device b.device ≡ Less → Reaches (a ∷ ar) (b ∷ br) ↔ Reaches ar (b ∷ br)
+pub step_less : (a b : Hull) (ar br : List Hull) → AreHullsRising (b ∷ br) → slice_cmp nat_cmp a.device b.device ≡ Less → Reaches (a ∷ ar) (b ∷ br) ↔ Reaches ar (b ∷ br)
 step_less a b ar br rising less = without_late a ar (b ∷ br) (chain a b br less (AllPairs-head IsBefore b br rising))
 
-pub step_greater : (a b : Hull) (ar br : List Hull) → AreRising (a ∷ ar) → slice_cmp nat_cmp a.device b.device ≡ Greater → Reaches (a ∷ ar) (b ∷ br) ↔ Reaches (a ∷ ar) br
+pub step_greater : (a b : Hull) (ar br : List Hull) → AreHullsRising (a ∷ ar) → slice_cmp nat_cmp a.device b.device ≡ Greater → Reaches (a ∷ ar) (b ∷ br) ↔ Reaches (a ∷ ar) br
 step_greater a b ar br rising greater = without_early (a ∷ ar) b br (chain b a ar (greater_is_before a b greater) (AllPairs-head IsBefore a ar rising))
 
 pub step_found : (a b : Hull) (ar br : List Hull) → slice_cmp nat_cmp a.device b.device ≡ Equal → b.from ≤ℤ a.to → Reaches (a ∷ ar) (b ∷ br)
 step_found a b ar br equal meets =
     Any-head (λ x. Any (Meets x) (b ∷ br)) a ar (Any-head (Meets a) b br (exact_bytes a.device b.device equal, meets))
 
-pub step_equal : (a b : Hull) (ar br : List Hull) → AreRising (a ∷ ar) → AreRising (b ∷ br) → slice_cmp nat_cmp a.device b.device ≡ Equal → (b.from ≤ℤ a.to → ⊥) → Reaches (a ∷ ar) (b ∷ br) ↔ Reaches ar br
+pub step_equal : (a b : Hull) (ar br : List Hull) → AreHullsRising (a ∷ ar) → AreHullsRising (b ∷ br) → slice_cmp nat_cmp a.device b.device ≡ Equal → (b.from ≤ℤ a.to → ⊥) → Reaches (a ∷ ar) (b ∷ br) ↔ Reaches ar br
 step_equal a b ar br rising_a rising_b equal apart =
     let same : a.device ≡ b.device = exact_bytes a.device b.device equal in
     let a_first : All (IsBefore b) ar = All-weaker (IsBefore a) (IsBefore b) (λ x h. ap (λ d. slice_cmp nat_cmp d x.device) (sym same) ∙ h) ar (AllPairs-head IsBefore a ar rising_a) in
@@ -87,26 +87,26 @@ pub head_and_rest : (xs : List Hull) (x : Hull) → 0 < length xs → x ≡ get_
 head_and_rest xs x l e = first_rest xs x l ∙ ap (λ y. y ∷ rest xs) (sym e)
 
 -- one turn of the walk, where what is left of the lists reaches exactly where the whole lists do
-pub walk_less : (late early xs ys : List Hull) (a b : Hull) (ar br : List Hull) → xs ≡ a ∷ ar → ys ≡ b ∷ br → AreRising xs → AreRising ys → Reaches late early ↔ Reaches xs ys → slice_cmp nat_cmp a.device b.device ≡ Less → AreRising ar × (Reaches late early ↔ Reaches ar ys)
+pub walk_less : (late early xs ys : List Hull) (a b : Hull) (ar br : List Hull) → xs ≡ a ∷ ar → ys ≡ b ∷ br → AreHullsRising xs → AreHullsRising ys → Reaches late early ↔ Reaches xs ys → slice_cmp nat_cmp a.device b.device ≡ Less → AreHullsRising ar × (Reaches late early ↔ Reaches ar ys)
 walk_less late early xs ys a b ar br ex ey rx ry same less =
-    let rising_ys : AreRising (b ∷ br) = subst AreRising ey ry in
+    let rising_ys : AreHullsRising (b ∷ br) = subst AreHullsRising ey ry in
     let step : Reaches (a ∷ ar) (b ∷ br) ↔ Reaches ar (b ∷ br) = step_less a b ar br rising_ys less in
     let step_ys : Reaches (a ∷ ar) ys ↔ Reaches ar ys = subst (λ l. Reaches (a ∷ ar) l ↔ Reaches ar l) (sym ey) step in
     let step_xs : Reaches xs ys ↔ Reaches ar ys = subst (λ l. Reaches l ys ↔ Reaches ar ys) (sym ex) step_ys in
-    (AllPairs-tail IsBefore a ar (subst AreRising ex rx), (λ h. step_xs.0 (same.0 h), λ h. same.1 (step_xs.1 h)))
+    (AllPairs-tail IsBefore a ar (subst AreHullsRising ex rx), (λ h. step_xs.0 (same.0 h), λ h. same.1 (step_xs.1 h)))
 
-pub walk_greater : (late early xs ys : List Hull) (a b : Hull) (ar br : List Hull) → xs ≡ a ∷ ar → ys ≡ b ∷ br → AreRising xs → AreRising ys → Reaches late early ↔ Reaches xs ys → slice_cmp nat_cmp a.device b.device ≡ Greater → AreRising br × (Reaches late early ↔ Reaches xs br)
+pub walk_greater : (late early xs ys : List Hull) (a b : Hull) (ar br : List Hull) → xs ≡ a ∷ ar → ys ≡ b ∷ br → AreHullsRising xs → AreHullsRising ys → Reaches late early ↔ Reaches xs ys → slice_cmp nat_cmp a.device b.device ≡ Greater → AreHullsRising br × (Reaches late early ↔ Reaches xs br)
 walk_greater late early xs ys a b ar br ex ey rx ry same greater =
-    let rising_xs : AreRising (a ∷ ar) = subst AreRising ex rx in
+    let rising_xs : AreHullsRising (a ∷ ar) = subst AreHullsRising ex rx in
     let step : Reaches (a ∷ ar) (b ∷ br) ↔ Reaches (a ∷ ar) br = step_greater a b ar br rising_xs greater in
     let step_xs : Reaches xs (b ∷ br) ↔ Reaches xs br = subst (λ l. Reaches l (b ∷ br) ↔ Reaches l br) (sym ex) step in
     let step_ys : Reaches xs ys ↔ Reaches xs br = subst (λ l. Reaches xs l ↔ Reaches xs br) (sym ey) step_xs in
-    (AllPairs-tail IsBefore b br (subst AreRising ey ry), (λ h. step_ys.0 (same.0 h), λ h. same.1 (step_ys.1 h)))
+    (AllPairs-tail IsBefore b br (subst AreHullsRising ey ry), (λ h. step_ys.0 (same.0 h), λ h. same.1 (step_ys.1 h)))
 
-pub walk_equal : (late early xs ys : List Hull) (a b : Hull) (ar br : List Hull) → xs ≡ a ∷ ar → ys ≡ b ∷ br → AreRising xs → AreRising ys → Reaches late early ↔ Reaches xs ys → slice_cmp nat_cmp a.device b.device ≡ Equal → (b.from ≤ℤ a.to → ⊥) → AreRising ar × AreRising br × (Reaches late early ↔ Reaches ar br)
+pub walk_equal : (late early xs ys : List Hull) (a b : Hull) (ar br : List Hull) → xs ≡ a ∷ ar → ys ≡ b ∷ br → AreHullsRising xs → AreHullsRising ys → Reaches late early ↔ Reaches xs ys → slice_cmp nat_cmp a.device b.device ≡ Equal → (b.from ≤ℤ a.to → ⊥) → AreHullsRising ar × AreHullsRising br × (Reaches late early ↔ Reaches ar br)
 walk_equal late early xs ys a b ar br ex ey rx ry same equal apart =
-    let rising_xs : AreRising (a ∷ ar) = subst AreRising ex rx in
-    let rising_ys : AreRising (b ∷ br) = subst AreRising ey ry in
+    let rising_xs : AreHullsRising (a ∷ ar) = subst AreHullsRising ex rx in
+    let rising_ys : AreHullsRising (b ∷ br) = subst AreHullsRising ey ry in
     let step : Reaches (a ∷ ar) (b ∷ br) ↔ Reaches ar br = step_equal a b ar br rising_xs rising_ys equal apart in
     let step_xs : Reaches xs (b ∷ br) ↔ Reaches ar br = subst (λ l. Reaches l (b ∷ br) ↔ Reaches ar br) (sym ex) step in
     let step_ys : Reaches xs ys ↔ Reaches ar br = subst (λ l. Reaches xs l ↔ Reaches ar br) (sym ey) step_xs in
@@ -119,7 +119,7 @@ walk_found late early xs ys a b ar br ex ey same equal meets =
     same.1 (subst (λ l. Reaches xs l) (sym ey) found_xs)
 
 -- a rising prefix with one hull more, from its last hull
-pub rising_more : (hulls : List Hull) (n : ℕ) (x y : Hull) → 1 ≤ n → n < length hulls → x ≡ get_or hulls (n - 1) x → y ≡ get_or hulls n y → AreRising (take n hulls) → IsBefore x y → AreRising (take (n + 1) hulls)
+pub rising_more : (hulls : List Hull) (n : ℕ) (x y : Hull) → 1 ≤ n → n < length hulls → x ≡ get_or hulls (n - 1) x → y ≡ get_or hulls n y → AreHullsRising (take n hulls) → IsBefore x y → AreHullsRising (take (n + 1) hulls)
 rising_more hulls n x y some l ex ey rising before =
     let e : take (n + 1) hulls ≡ take n hulls ++ y ∷ [] = take_more hulls n y l ∙ ap (λ h. take n hulls ++ h ∷ []) (sym ey) in
     let len : length (take n hulls) ≡ n = length-take-le n hulls (omega arith) in
@@ -130,10 +130,10 @@ rising_more hulls n x y some l ex ey rising before =
     (λ other. let step : IsBefore (get_or (take n hulls) k d) (get_or (take n hulls) (n - 1) d) = rising k (n - 1) d (omega arith) (omega arith) in
     nat_list_cmp_total.trans (get_or (take n hulls) k d).device x.device y.device (subst (λ (h : Hull). IsBefore (get_or (take n hulls) k d) h) (last d) step) before)
     (cases_eq k (n - 1)) in
-    subst AreRising (sym e) (all_pairs_push IsBefore (take n hulls) y rising each)
+    subst AreHullsRising (sym e) (all_pairs_push IsBefore (take n hulls) y rising each)
 
 -- two neighbours that do not rise
-pub not_rising : (hulls : List Hull) (n : ℕ) (x y : Hull) → 1 ≤ n → n < length hulls → x ≡ get_or hulls (n - 1) x → y ≡ get_or hulls n y → (IsBefore x y → ⊥) → AreRising hulls → ⊥
+pub not_rising : (hulls : List Hull) (n : ℕ) (x y : Hull) → 1 ≤ n → n < length hulls → x ≡ get_or hulls (n - 1) x → y ≡ get_or hulls n y → (IsBefore x y → ⊥) → AreHullsRising hulls → ⊥
 not_rising hulls n x y some l ex ey never rising =
     let step : IsBefore (get_or hulls (n - 1) x) (get_or hulls n x) = rising (n - 1) n x (omega arith) l in
     let first : IsBefore x (get_or hulls n x) = subst (λ (h : Hull). IsBefore h (get_or hulls n x)) (sym ex) step in

@@ -7,12 +7,12 @@ use Rattle.tsdb_plan.specs.declared.entry.FileEntry.{FileEntry}
 use Rattle.tsdb_plan.specs.declared.entry.Hull.{Hull}
 
 -- one hull for each device, in order of device bytes
-abbrev pub AreRising : List Hull → Type 0
-AreRising hulls = AllPairs (λ a b. slice_cmp nat_cmp a.device b.device ≡ Less) hulls
+abbrev pub AreHullsRising : List Hull → Type 0
+AreHullsRising hulls = AllPairs (λ a b. slice_cmp nat_cmp a.device b.device ≡ Less) hulls
 
 -- the hulls of each file are in order
 abbrev pub HaveRisingHulls : List FileEntry → Type 0
-HaveRisingHulls files = All (λ file. AreRising file.hulls) files
+HaveRisingHulls files = All (λ file. AreHullsRising file.hulls) files
 
 -- no job has claimed any of the files
 abbrev pub AreFree : List FileEntry → Type 0

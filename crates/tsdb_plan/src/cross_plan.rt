@@ -1,6 +1,6 @@
 //! The cross plan: late files with the files in time order that they meet. It depends on `entry` and `overlap`.
 ghost use Rattle.std.specs.Prelude.{◌≡◌, ◌+◌, ◌-◌, ◌≤◌, IfSome, IfNone, IsTrue, ◌↔◌};
-ghost use Rattle.tsdb_plan.specs.Files.{AreRising, HaveRisingHulls, total_bytes};
+ghost use Rattle.tsdb_plan.specs.Files.{AreHullsRising, HaveRisingHulls, total_bytes};
 ghost use Rattle.tsdb_plan.specs.CrossPlan.{IsCrossPlan, HasNoCrossPlan};
 ghost use Rattle.tsdb_plan.specs.Places.{IsFirstPlace, IsPastLast};
 ghost use Rattle.tsdb_plan.specs.Steps.{Reaches};
@@ -26,7 +26,7 @@ fn fits(files: &[FileEntry], room: u64) -> bool
 /// The first file that reaches the hulls, or the number of files.
 fn first_reaching(files: &[FileEntry], hulls: &[Hull]) -> usize
     requires files { HaveRisingHulls files.now }
-    requires hulls { AreRising hulls.now }
+    requires hulls { AreHullsRising hulls.now }
     ensures { IsFirstPlace (λ file. Reaches file.hulls hulls.now) files.now result }
 {
     let least = least_time(hulls);
@@ -41,7 +41,7 @@ fn first_reaching(files: &[FileEntry], hulls: &[Hull]) -> usize
 /// One past the last file that the hulls reach, or 0.
 fn past_reached(files: &[FileEntry], hulls: &[Hull]) -> usize
     requires files { HaveRisingHulls files.now }
-    requires hulls { AreRising hulls.now }
+    requires hulls { AreHullsRising hulls.now }
     ensures { IsPastLast (λ file. Reaches hulls.now file.hulls) files.now result }
 {
     let greatest = greatest_time(hulls);

@@ -1,6 +1,6 @@
 //! The order of hulls, and whether two files overlap in time on some device. It depends on `entry`.
 ghost use Rattle.std.specs.Prelude.{◌↔◌, ◌≤ℤ◌, All, Any, IsTrue};
-ghost use Rattle.tsdb_plan.specs.Files.{AreRising, HaveRisingHulls};
+ghost use Rattle.tsdb_plan.specs.Files.{AreHullsRising, HaveRisingHulls};
 ghost use Rattle.tsdb_plan.specs.Steps.{Reaches};
 
 use crate::entry::{FileEntry, Hull};
@@ -9,7 +9,7 @@ use tsdb_base::Time;
 
 /// Whether there is one hull for each device, in order of device bytes.
 fn are_rising(hulls: &[Hull]) -> bool
-    ensures { IsTrue result ↔ AreRising hulls.now }
+    ensures { IsTrue result ↔ AreHullsRising hulls.now }
 {
     for i in 1..hulls.len() {
         match hulls[i - 1].device.cmp(&hulls[i].device) {
@@ -37,8 +37,8 @@ fn ends_from(hull: &Hull, other: &Hull) -> bool
 /// Whether, on some device of both, `late` has a time at or above the least time of `early`. Both lists are in order
 /// of device bytes and are walked side by side.
 pub fn reaches(late: &[Hull], early: &[Hull]) -> bool
-    requires late { AreRising late.now }
-    requires early { AreRising early.now }
+    requires late { AreHullsRising late.now }
+    requires early { AreHullsRising early.now }
     ensures { IsTrue result ↔ Reaches late.now early.now }
 {
     let mut xs = late;
@@ -100,8 +100,8 @@ pub fn greatest_time(hulls: &[Hull]) -> Time
 /// As `reaches`, where no hull of `early` begins before the time `least`. A file that has no time from `least` on is
 /// told by its times alone, without a look at its devices.
 pub fn reaches_from(late: &[Hull], early: &[Hull], least: Time) -> bool
-    requires late { AreRising late.now }
-    requires early { AreRising early.now }
+    requires late { AreHullsRising late.now }
+    requires early { AreHullsRising early.now }
     requires least { All (λ hull. least ≤ℤ hull.from) early.now }
     ensures { IsTrue result ↔ Reaches late.now early.now }
 {
@@ -110,8 +110,8 @@ pub fn reaches_from(late: &[Hull], early: &[Hull], least: Time) -> bool
 
 /// As `reaches`, where no hull of `late` ends behind the time `greatest`.
 pub fn reaches_up_to(late: &[Hull], early: &[Hull], greatest: Time) -> bool
-    requires late { AreRising late.now }
-    requires early { AreRising early.now }
+    requires late { AreHullsRising late.now }
+    requires early { AreHullsRising early.now }
     requires greatest { All (λ hull. hull.to ≤ℤ greatest) late.now }
     ensures { IsTrue result ↔ Reaches late.now early.now }
 {

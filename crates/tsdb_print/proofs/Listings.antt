@@ -13,7 +13,7 @@ use Rattle.tsdb_base.specs.declared.ids.Space.TheVariants.{Sequence, Unsequence}
 use Rattle.tsdb_model.specs.declared.reply.FileLine.{FileLine}
 use Rattle.tsdb_model.specs.declared.reply.Listing.{Listing}
 use Rattle.tsdb_print.specs.Text.{file_text, line, listing_text, same_space, space_name, working_text}
-use Rattle.tsdb_print.specs.Alike.{IsFileInRange, IsListingInRange, files_of, shown_listing}
+use Rattle.tsdb_print.specs.Alike.{IsFileInRange, IsListingInRange, files_in_space, shown_listing}
 use Rattle.tsdb_print.proofs.Pieces.{file_lines}
 use Rattle.tsdb_print.proofs.Words.{Begins, tail_of, Stops, IsWord, same_word, after_decimal, after_signed}
 
@@ -107,9 +107,9 @@ chosen space file files true e range others = ((same_space-true file.space space
 chosen space file files false e range others = others
 
 -- the files of a space are of that space
-pub AreFiles-of : (space : Space) (files : List FileLine) → AllByRecursion IsFileInRange files → AreFiles space (files_of space files)
+pub AreFiles-of : (space : Space) (files : List FileLine) → AllByRecursion IsFileInRange files → AreFiles space (files_in_space space files)
 AreFiles-of space [] range = tt
-AreFiles-of space (file ∷ files) range = chosen space file (files_of space files) (same_space file.space space) refl range.0 (AreFiles-of space files range.1)
+AreFiles-of space (file ∷ files) range = chosen space file (files_in_space space files) (same_space file.space space) refl range.0 (AreFiles-of space files range.1)
 
 -- what stands behind the files
 abbrev behind_files : Listing → List ℕ
@@ -121,8 +121,8 @@ ends : (s u w1 d1 w2 d2 w3 d3 w4 d4 e : List ℕ)
     ≡ s ++ (u ++ (w1 ++ (d1 ++ (e ++ (w2 ++ (d2 ++ (w3 ++ (d3 ++ (e ++ (w4 ++ (d4 ++ e)))))))))))
 ends s u w1 d1 w2 d2 w3 d3 w4 d4 e = simp append_assoc
 
-listing_parts : (listing : Listing) → listing_text listing ≡ file_lines (files_of Sequence listing.files) ++ (file_lines (files_of Unsequence listing.files) ++ behind_files listing)
-listing_parts l = ends (file_lines (files_of Sequence l.files)) (file_lines (files_of Unsequence l.files)) (codes "frozen ") (decimal l.frozen) (codes "working ")
+listing_parts : (listing : Listing) → listing_text listing ≡ file_lines (files_in_space Sequence listing.files) ++ (file_lines (files_in_space Unsequence listing.files) ++ behind_files listing)
+listing_parts l = ends (file_lines (files_in_space Sequence l.files)) (file_lines (files_in_space Unsequence l.files)) (codes "frozen ") (decimal l.frozen) (codes "working ")
     (decimal (slice_index l.working 0)) (codes " ") (decimal (slice_index l.working 1)) (codes "marks ") (decimal l.marks) (10 ∷ [])
 
 lacks_frozen : (space : Space) (l : Listing) → Lacks space (behind_files l)
@@ -153,7 +153,7 @@ second_small : (xs : List ℕ) → AllByRecursion (λ points. points < 2 ^ 64) x
 second_small [] all = omega arith
 second_small (x ∷ xs) all = first_small xs all.1
 
-same_shown : (a b : Listing) → files_of Sequence a.files ≡ files_of Sequence b.files → files_of Unsequence a.files ≡ files_of Unsequence b.files
+same_shown : (a b : Listing) → files_in_space Sequence a.files ≡ files_in_space Sequence b.files → files_in_space Unsequence a.files ≡ files_in_space Unsequence b.files
     → a.frozen ≡ b.frozen → a.working ≡ b.working → a.marks ≡ b.marks → shown_listing a ≡ shown_listing b
 same_shown a b s u f w m = cc
 
@@ -161,10 +161,10 @@ pub same_listing : (a b : Listing) → IsListingInRange a → IsListingInRange b
 same_listing a b ra rb e =
     let ua = AreFiles-of Unsequence a.files ra.files in
     let ub = AreFiles-of Unsequence b.files rb.files in
-    let s = same_files Sequence (files_of Sequence a.files) (files_of Sequence b.files) (file_lines (files_of Unsequence a.files) ++ behind_files a)
-    (file_lines (files_of Unsequence b.files) ++ behind_files b) (AreFiles-of Sequence a.files ra.files) (AreFiles-of Sequence b.files rb.files)
-    (lacks_sequence (files_of Unsequence a.files) a ua) (lacks_sequence (files_of Unsequence b.files) b ub) (sym (listing_parts a) ∙ e ∙ listing_parts b) in
-    let u = same_files Unsequence (files_of Unsequence a.files) (files_of Unsequence b.files) (behind_files a) (behind_files b) ua ub (lacks_frozen Unsequence a) (lacks_frozen Unsequence b) s.1 in
+    let s = same_files Sequence (files_in_space Sequence a.files) (files_in_space Sequence b.files) (file_lines (files_in_space Unsequence a.files) ++ behind_files a)
+    (file_lines (files_in_space Unsequence b.files) ++ behind_files b) (AreFiles-of Sequence a.files ra.files) (AreFiles-of Sequence b.files rb.files)
+    (lacks_sequence (files_in_space Unsequence a.files) a ua) (lacks_sequence (files_in_space Unsequence b.files) b ub) (sym (listing_parts a) ∙ e ∙ listing_parts b) in
+    let u = same_files Unsequence (files_in_space Unsequence a.files) (files_in_space Unsequence b.files) (behind_files a) (behind_files b) ua ub (lacks_frozen Unsequence a) (lacks_frozen Unsequence b) s.1 in
     let f = after_decimal a.frozen b.frozen _ _ ra.frozen rb.frozen end_of_line end_of_line (append_cancel_left (codes "frozen ") _ _ u.1) in
     let first = after_decimal (slice_index a.working 0) (slice_index b.working 0) _ _ (first_small a.working ra.working) (first_small b.working rb.working) blank blank
     (append_cancel_left (codes "working ") _ _ (tail_of 10 10 _ _ f.1)) in
@@ -186,36 +186,36 @@ begins_files (file ∷ files) x begins =
 pub listing_begins : (listing : Listing) → Begins 32 (listing_text listing)
 listing_begins listing =
     let frozen : Begins 32 (behind_files listing) = record { word = codes "frozen"; rest = _; letters = (omega arith, (omega arith, (omega arith, (omega arith, (omega arith, (omega arith, tt)))))); is = refl } in
-    let all = begins_files (files_of Sequence listing.files) (file_lines (files_of Unsequence listing.files) ++ behind_files listing)
-    (begins_files (files_of Unsequence listing.files) (behind_files listing) frozen) in
+    let all = begins_files (files_in_space Sequence listing.files) (file_lines (files_in_space Unsequence listing.files) ++ behind_files listing)
+    (begins_files (files_in_space Unsequence listing.files) (behind_files listing) frozen) in
     record { word = all.word; rest = all.rest; letters = all.letters; is = listing_parts listing ∙ all.is }
 
-chosen_again : (space : Space) (file : FileLine) (files : List FileLine) (b : Bool) → same_space file.space space ≡ b → files_of space (cond b (file ∷ files) files) ≡ cond b (file ∷ files_of space files) (files_of space files)
-chosen_again space file files true e = ap (λ t. cond t (file ∷ files_of space files) (files_of space files)) e
+chosen_again : (space : Space) (file : FileLine) (files : List FileLine) (b : Bool) → same_space file.space space ≡ b → files_in_space space (cond b (file ∷ files) files) ≡ cond b (file ∷ files_in_space space files) (files_in_space space files)
+chosen_again space file files true e = ap (λ t. cond t (file ∷ files_in_space space files) (files_in_space space files)) e
 chosen_again space file files false e = refl
 
-again : (space : Space) (files : List FileLine) → files_of space (files_of space files) ≡ files_of space files
+again : (space : Space) (files : List FileLine) → files_in_space space (files_in_space space files) ≡ files_in_space space files
 again space [] = refl
 again space (file ∷ files) =
-    chosen_again space file (files_of space files) (same_space file.space space) refl
+    chosen_again space file (files_in_space space files) (same_space file.space space) refl
     ∙ ap (λ l. cond (same_space file.space space) (file ∷ l) l) (again space files)
 
 -- no space is both
-apart_spaces : (space : Space) (file : FileLine) (files : List FileLine) → files_of Unsequence files ≡ [] → files_of Unsequence (cond (same_space space Sequence) (record file { space = space } ∷ files) files) ≡ []
+apart_spaces : (space : Space) (file : FileLine) (files : List FileLine) → files_in_space Unsequence files ≡ [] → files_in_space Unsequence (cond (same_space space Sequence) (record file { space = space } ∷ files) files) ≡ []
 apart_spaces Sequence file files e = e
 apart_spaces Unsequence file files e = e
 
-others_gone : (files : List FileLine) → files_of Unsequence (files_of Sequence files) ≡ []
+others_gone : (files : List FileLine) → files_in_space Unsequence (files_in_space Sequence files) ≡ []
 others_gone [] = refl
-others_gone (file ∷ files) = apart_spaces file.space file (files_of Sequence files) (others_gone files)
+others_gone (file ∷ files) = apart_spaces file.space file (files_in_space Sequence files) (others_gone files)
 
-apart_spaces-too : (space : Space) (file : FileLine) (files : List FileLine) → files_of Sequence files ≡ [] → files_of Sequence (cond (same_space space Unsequence) (record file { space = space } ∷ files) files) ≡ []
+apart_spaces-too : (space : Space) (file : FileLine) (files : List FileLine) → files_in_space Sequence files ≡ [] → files_in_space Sequence (cond (same_space space Unsequence) (record file { space = space } ∷ files) files) ≡ []
 apart_spaces-too Sequence file files e = e
 apart_spaces-too Unsequence file files e = e
 
-others_gone-too : (files : List FileLine) → files_of Sequence (files_of Unsequence files) ≡ []
+others_gone-too : (files : List FileLine) → files_in_space Sequence (files_in_space Unsequence files) ≡ []
 others_gone-too [] = refl
-others_gone-too (file ∷ files) = apart_spaces-too file.space file (files_of Unsequence files) (others_gone-too files)
+others_gone-too (file ∷ files) = apart_spaces-too file.space file (files_in_space Unsequence files) (others_gone-too files)
 
 -- the text of a listing with these files
 abbrev listing_with : List FileLine → List FileLine → Listing → List ℕ
@@ -224,8 +224,8 @@ listing_with s u listing = file_lines s ++ file_lines u ++ line (codes "frozen "
 
 pub listing_shown : (listing : Listing) → listing_text (shown_listing listing) ≡ listing_text listing
 listing_shown listing =
-    let s = files_of Sequence listing.files in
-    let u = files_of Unsequence listing.files in
-    let first : files_of Sequence (s ++ u) ≡ s = filter-append _ s u ∙ ap (λ l. l ++ files_of Sequence u) (again Sequence listing.files) ∙ ap (λ l. s ++ l) (others_gone-too listing.files) ∙ append-nil s in
-    let second : files_of Unsequence (s ++ u) ≡ u = filter-append _ s u ∙ ap (λ l. l ++ files_of Unsequence u) (others_gone listing.files) ∙ again Unsequence listing.files in
-    ap (λ l. listing_with l (files_of Unsequence (s ++ u)) listing) first ∙ ap (λ l. listing_with s l listing) second
+    let s = files_in_space Sequence listing.files in
+    let u = files_in_space Unsequence listing.files in
+    let first : files_in_space Sequence (s ++ u) ≡ s = filter-append _ s u ∙ ap (λ l. l ++ files_in_space Sequence u) (again Sequence listing.files) ∙ ap (λ l. s ++ l) (others_gone-too listing.files) ∙ append-nil s in
+    let second : files_in_space Unsequence (s ++ u) ≡ u = filter-append _ s u ∙ ap (λ l. l ++ files_in_space Unsequence u) (others_gone listing.files) ∙ again Unsequence listing.files in
+    ap (λ l. listing_with l (files_in_space Unsequence (s ++ u)) listing) first ∙ ap (λ l. listing_with s l listing) second

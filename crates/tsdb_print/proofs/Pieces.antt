@@ -3,7 +3,7 @@ use Rattle.std.proofs.Common.{◌≡◌, ℕ, List, [], ◌∷◌, ◌++◌, tru
 use Rattle.std.specs.List.{flat_map}
 use Rattle.tsdb_base.specs.declared.ids.Space.{Space}
 use Rattle.tsdb_model.specs.declared.reply.FileLine.{FileLine}
-use Rattle.tsdb_print.specs.Alike.{files_of}
+use Rattle.tsdb_print.specs.Alike.{files_in_space}
 use Rattle.tsdb_print.specs.Text.{file_text, files_text, line, same_space}
 
 -- one more piece at the end of what was appended so far
@@ -27,5 +27,5 @@ files_by_file space [] = refl
 files_by_file space (file ∷ files) =
     ap (λ l. files_text space (file ∷ []) ++ l) (files_by_file space files)
     ∙ elim (same_space file.space space) as
-    (λ b. file_lines (cond b (file ∷ []) []) ++ file_lines (files_of space files) ≡ file_lines (cond b (file ∷ files_of space files) (files_of space files)))
-    [ true ↦ ap (λ l. l ++ file_lines (files_of space files)) (append-nil (line (file_text file))) | false ↦ refl ]
+    (λ b. file_lines (cond b (file ∷ []) []) ++ file_lines (files_in_space space files) ≡ file_lines (cond b (file ∷ files_in_space space files) (files_in_space space files)))
+    [ true ↦ ap (λ l. l ++ file_lines (files_in_space space files)) (append-nil (line (file_text file))) | false ↦ refl ]

@@ -24,7 +24,7 @@ use Rattle.tsdb_model.specs.Commands.{AreItems, IsWellFormed}
 use Rattle.tsdb_model.specs.History.{IsAllowed}
 use Rattle.tsdb_model.specs.State.{State}
 use Rattle.tsdb_model.specs.World.{World}
-use Rattle.tsdb_print.specs.Alike.{IsInRange, IsRowInRange, IsCellInRange, as_printed, shown_answer, shown_value, shown_values, shown_row}
+use Rattle.tsdb_print.specs.Alike.{IsReplyInRange, IsRowInRange, IsCellInRange, as_printed, shown_answer, shown_value, shown_values, shown_row}
 use Rattle.tsdb_print.specs.Text.{answer_text, cell_text, column_text, item_text, items_of, join_with_commas, line, reply_text, row_text, rows_text, values_text}
 use Rattle.tsdb_print.proofs.Words.{Begins, IsWord, Stops, apart_by_stop}
 use Rattle.tsdb_print.proofs.Cells.{rows_lines, same_rows, same_values}
@@ -194,7 +194,7 @@ rows_apart items a b ra rb e =
 values_apart : (items : List Item) (a b : List (Option Value)) → AllByRecursion IsCellInRange a → AllByRecursion IsCellInRange b → values_text items a ≡ values_text items b → shown_values a ≡ shown_values b
 values_apart items a b ra rb e = same_values a b ra rb (append_cancel_left (line (join_with_commas (map item_text items))) (line (join_with_commas (map cell_text a))) (line (join_with_commas (map cell_text b))) e)
 
-pub apart : (command : Command) (a b : Reply) (state other : State) → IsWellFormed command → IsAllowed state command a → IsAllowed other command b → IsInRange a → IsInRange b
+pub apart : (command : Command) (a b : Reply) (state other : State) → IsWellFormed command → IsAllowed state command a → IsAllowed other command b → IsReplyInRange a → IsReplyInRange b
     → reply_text command a ≡ reply_text command b → as_printed a ≡ as_printed b
 unfolding stop_of
 apart command (Plain a) (Plain b) state other well allowed also ra rb e = ap Plain (same_answer a b e)

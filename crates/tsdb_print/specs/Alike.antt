@@ -39,13 +39,13 @@ abbrev pub shown_row : Line → Line
 shown_row row = record { time = row.time; values = shown_values row.values }
 
 -- the files of a space, in their order
-abbrev pub files_of : Space → List FileLine → List FileLine
-files_of space files = filter (λ file. same_space file.space space) files
+abbrev pub files_in_space : Space → List FileLine → List FileLine
+files_in_space space files = filter (λ file. same_space file.space space) files
 
 -- the sequence files are printed first
 abbrev pub shown_listing : Listing → Listing
 shown_listing listing = record {
-  files = files_of Sequence listing.files ++ files_of Unsequence listing.files;
+  files = files_in_space Sequence listing.files ++ files_in_space Unsequence listing.files;
   frozen = listing.frozen;
   working = listing.working;
   marks = listing.marks;
@@ -87,8 +87,8 @@ pub record IsListingInRange (listing : Listing) : Type 0 where
   pub working : AllByRecursion (λ points. points < 2 ^ 64) listing.working
   pub marks : listing.marks < 2 ^ 64
 
-abbrev pub IsInRange : Reply → Type 0
-IsInRange (Plain answer) = Unit {0}
-IsInRange (Lines rows) = AllByRecursion IsRowInRange rows
-IsInRange (Values values) = AllByRecursion IsCellInRange values
-IsInRange (Files listing) = IsListingInRange listing
+abbrev pub IsReplyInRange : Reply → Type 0
+IsReplyInRange (Plain answer) = Unit {0}
+IsReplyInRange (Lines rows) = AllByRecursion IsRowInRange rows
+IsReplyInRange (Values values) = AllByRecursion IsCellInRange values
+IsReplyInRange (Files listing) = IsListingInRange listing

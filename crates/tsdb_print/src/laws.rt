@@ -5,7 +5,7 @@ ghost use Rattle.tsdb_model.specs.History.{IsAllowed};
 ghost use Rattle.tsdb_model.specs.State.{State};
 ghost use Rattle.tsdb_model.specs.declared.command.Command.{Command};
 ghost use Rattle.tsdb_model.specs.declared.reply.Reply.{Reply};
-ghost use Rattle.tsdb_print.specs.Alike.{IsInRange, as_printed};
+ghost use Rattle.tsdb_print.specs.Alike.{IsReplyInRange, as_printed};
 ghost use Rattle.tsdb_print.specs.Text.{reply_text};
 
 /// Two replies that a command may have, each in some state, print alike exactly where they show the same. They show
@@ -13,7 +13,7 @@ ghost use Rattle.tsdb_print.specs.Text.{reply_text};
 /// files of different spaces in a listing.
 pub fn replies_that_print_alike()
     ensures apart { (command : Command) (a b : Reply) (state other : State) → IsWellFormed command
-        → IsAllowed state command a → IsAllowed other command b → IsInRange a → IsInRange b
+        → IsAllowed state command a → IsAllowed other command b → IsReplyInRange a → IsReplyInRange b
         → reply_text command a ≡ reply_text command b → as_printed a ≡ as_printed b }
     ensures alike { (command : Command) (a b : Reply) → as_printed a ≡ as_printed b
         → reply_text command a ≡ reply_text command b }

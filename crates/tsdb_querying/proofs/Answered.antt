@@ -34,12 +34,12 @@ use Rattle.tsdb_outside.specs.declared.faults.Counted as counted
 use Rattle.tsdb_outside.specs.declared.faults.StoreFault.{StoreFault}
 use Rattle.tsdb_outside.specs.declared.faults.StoreFault.TheVariants as store
 use Rattle.tsdb_base.specs.Causes.{Rose}
-use Rattle.tsdb_memory.specs.Shown.{entry_of}
+use Rattle.tsdb_memory.specs.Shown.{series_entry}
 use Rattle.tsdb_pins.proofs.Items.{pin_columns, pin_values}
 use Rattle.tsdb_pins.proofs.Replies.{fault_replied, rows_replied, types_of, values_replied}
 use Rattle.tsdb_pins.specs.Replies.{IsMapFault}
 use Rattle.tsdb_pins.specs.Worlds.{columns_in, values_in}
-use Rattle.tsdb_pin.specs.Items.{AreFit, IsRefused}
+use Rattle.tsdb_pin.specs.Items.{AreFit, AreItemsRefused}
 use Rattle.tsdb_pin.specs.Pins.{IsPinFor}
 use Rattle.tsdb_pin.specs.Shown.{IsPinOf}
 use Rattle.tsdb_pin.specs.declared.pin.Pin.{Pin}
@@ -52,9 +52,9 @@ use Rattle.tsdb_serving.proofs.Held.{held_more, wider}
 use Rattle.tsdb_serving.proofs.Parts.{more_files}
 use Rattle.tsdb_serving.proofs.Steps.{idle, image_left}
 use Rattle.tsdb_serving.specs.Serving.{IsAnsweredBy, IsDrawn, IsServing, LeavesEither, disk_under, slot_under}
-use Rattle.tsdb_state.specs.Order.{files_of as state_files_of}
+use Rattle.tsdb_state.specs.Order.{all_files as state_files_of}
 use Rattle.tsdb_state.specs.State as state
-use Rattle.tsdb_state.specs.State.{Told}
+use Rattle.tsdb_state.specs.State.{ToldContents}
 use Rattle.tsdb_state.specs.Steps.{PinStandsFor}
 
 -- the map's reply is allowed to a query
@@ -157,15 +157,15 @@ module _ {J F S R P : Type 0} {means : disk.Ghosts J} {counts : counted.Ghosts J
 
   -- the rows that were read are the map's reply
   pub rows_allowed : (device : List ℕ) (items : List Item) (range : Range) → ask_aggregates items ≡ false
-      → AreFit (map entry_of (memory_of (logged_of old)).series) device items
+      → AreFit (map series_entry (memory_of (logged_of old)).series) device items
       → IsPinFor name (files_of old) (memory_of (logged_of old)) device items range pin → (read reply : List Line)
       → reply ≡ read
-      → ((pages : SeriesPages) → AreColumnsTrue name pages pin.columns → (told : Told) (shown : state.Pin) (world : World)
+      → ((pages : SeriesPages) → AreColumnsTrue name pages pin.columns → (told : ToldContents) (shown : state.PinState) (world : World)
       → TellPoints name pages told pin.columns → IsPinOf pin shown → PinStandsFor told shown world
       → read ≡ rows (columns_in world pin.range pin.columns)) → IsMapReply at (Select device items range) (Lines reply)
   rows_allowed device items range asks fit is read reply same rows_are =
       allowed_reply at device items range (Lines reply)
-      (rows_replied (map entry_of (memory_of (logged_of old)).series) at.world device
+      (rows_replied (map series_entry (memory_of (logged_of old)).series) at.world device
       (types_of serving.outside.told (memory_of (logged_of old)) serving.state.store at.world serving.seen.sound.memory
       serving.stands.world) items range fit asks
       ∙ ap (λ l. Lines (rows l)) (sym (pin_columns name (files_of old) (memory_of (logged_of old)) device range at.world items pin is))
@@ -174,15 +174,15 @@ module _ {J F S R P : Type 0} {means : disk.Ghosts J} {counts : counted.Ghosts J
 
   -- the values that were read are the map's reply
   pub values_allowed : (device : List ℕ) (items : List Item) (range : Range) → ask_aggregates items ≡ true
-      → AreFit (map entry_of (memory_of (logged_of old)).series) device items
+      → AreFit (map series_entry (memory_of (logged_of old)).series) device items
       → IsPinFor name (files_of old) (memory_of (logged_of old)) device items range pin → (read reply : List (Option Value))
       → reply ≡ read
-      → ((pages : SeriesPages) → AreColumnsTrue name pages pin.columns → (told : Told) (shown : state.Pin) (world : World)
+      → ((pages : SeriesPages) → AreColumnsTrue name pages pin.columns → (told : ToldContents) (shown : state.PinState) (world : World)
       → TellPoints name pages told pin.columns → IsPinOf pin shown → PinStandsFor told shown world
       → read ≡ values_in world pin.range pin.columns) → IsMapReply at (Select device items range) (Values reply)
   values_allowed device items range asks fit is read reply same values_are =
       allowed_reply at device items range (Values reply)
-      (values_replied (map entry_of (memory_of (logged_of old)).series) at.world device
+      (values_replied (map series_entry (memory_of (logged_of old)).series) at.world device
       (types_of serving.outside.told (memory_of (logged_of old)) serving.state.store at.world serving.seen.sound.memory
       serving.stands.world) items range fit asks
       ∙ ap Values (sym (pin_values name (files_of old) (memory_of (logged_of old)) device range at.world items pin is))
@@ -200,9 +200,9 @@ module _ {J F S R P : Type 0} {means : disk.Ghosts J} {counts : counted.Ghosts J
   -- a refusal is the map's
   pub refused : (old : Core J F S R P means counts) (files : List StoredFile) (at : plain.State) (next : Option plain.State)
       → IsServing old files at next → (device : List ℕ) (items : List Item) (range : Range) (fault : PinFault)
-      → IsRefused (map entry_of (memory_of (logged_of old)).series) device items fault
+      → AreItemsRefused (map series_entry (memory_of (logged_of old)).series) device items fault
       → IsMapFault at.world device items range fault
   refused old files at next serving device items range fault is =
-      fault_replied (map entry_of (memory_of (logged_of old)).series) at.world device
+      fault_replied (map series_entry (memory_of (logged_of old)).series) at.world device
       (types_of serving.outside.told (memory_of (logged_of old)) serving.state.store at.world serving.seen.sound.memory
       serving.stands.world) items range fault is

@@ -6,7 +6,7 @@ use Rattle.tsdb_serving.specs.Core.{files_of, logged_of, next_of}
 use Rattle.tsdb_serving.specs.Pins.{IsNotPinned, IsPinned, IsUnpinned}
 use Rattle.tsdb_serving.specs.CoreType.{Core}
 use Rattle.tsdb_frames.specs.Frames.{slot_of}
-use Rattle.tsdb_pin.specs.Places.{KeptFile, file_at, place_at}
+use Rattle.tsdb_pin.specs.Places.{KeptFile, file_at, place_of_number}
 use Rattle.tsdb_base.specs.Lists.{count}
 use Rattle.tsdb_memory.specs.Logged.{log_of}
 use Rattle.tsdb_model.specs.State as plain
@@ -54,8 +54,8 @@ module _ {J F S R P : Type 0} {means : disk.Ghosts J} {counts : counted.Ghosts J
     pub ready_still : (store : Store) → IsReady store old → IsReady store new
     ready_still store ready = record {
       jobs = gave.rest.jobs [] [] (took.rest.jobs [] [] ready.jobs);
-      unread = λ n. none_out (place_at n (files_of old).places) (place_at n (files_of mid).places)
-          (place_at n (files_of new).places) (count n (column_numbers pin.columns)) (took.rights.places n)
+      unread = λ n. none_out (place_of_number n (files_of old).places) (place_of_number n (files_of mid).places)
+          (place_of_number n (files_of new).places) (count n (column_numbers pin.columns)) (took.rights.places n)
           (gave.rights.places n) (ready.unread n);
       of_store = gave.rest.store store (took.rest.store store ready.of_store);
     }

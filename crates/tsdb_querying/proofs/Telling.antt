@@ -29,7 +29,7 @@ use Rattle.tsdb_pins.specs.Reading.{AreColumnsTold, AreColumnsTrue, HaveNodes, I
 use Rattle.tsdb_pins.specs.Pieces.{joined}
 use Rattle.tsdb_state.specs.Records.{numbers_of}
 use Rattle.tsdb_state.specs.State as state
-use Rattle.tsdb_state.specs.State.{Entries, File, FromFile, FromPart, Source, StoreState, Told}
+use Rattle.tsdb_state.specs.State.{KnownFiles, File, FromFile, FromPart, SourceState, StoreState, ToldContents}
 use Rattle.tsdb_state.specs.Steps.{file_sources, has_series, part_sources, part_within, sources_of}
 use Rattle.tsdb_state.specs.Views.{sequence_layer, unsequence_layer, working_pair}
 
@@ -38,7 +38,7 @@ Pages = List ℕ → ℕ → Option (List (List Point))
 
 -- ---- the pages of files that are kept
 
-module _ (kept : List StoredFile) (told : Told) where
+module _ (kept : List StoredFile) (told : ToldContents) where
   -- the points of each page of a series in the file of a number, if it is one of these
   abbrev pub pages_told : (files : List File) → Each (IsKeptWhole kept told) files → Pages
   pages_told [] all path number = None
@@ -112,7 +112,7 @@ module _ (kept : List StoredFile) (told : Told) where
 
 -- ---- the files that a pin reads are listed
 
-abbrev IsListed : List File → Source → Type 0
+abbrev IsListed : List File → SourceState → Type 0
 IsListed files (FromFile file) = Among file.number (numbers_of files)
 IsListed files (FromPart layer) = Unit {0}
 
@@ -120,7 +120,7 @@ abbrev IsNumbered : {F S R P : Type 0} → List File → PinnedSource F S R P �
 IsNumbered files (pinned.File number born right) = Among number.0 (numbers_of files)
 IsNumbered files (pinned.Part born points) = Unit {0}
 
-each_file : (known : Entries) (path : List ℕ) (files all : List File) → ((file : File) → Among file files → Among file all)
+each_file : (known : KnownFiles) (path : List ℕ) (files all : List File) → ((file : File) → Among file files → Among file all)
     → Each (IsListed all) (file_sources known path files)
 each_file known path [] all within = tt
 each_file known path (file ∷ files) all within = by (has_series known path file)
@@ -137,7 +137,7 @@ each_part : (all : List File) (layer_of : Layer → Layer) (layers : List Layer)
 each_part all layer_of [] = tt
 each_part all layer_of (layer ∷ layers) = (tt, each_part all layer_of layers)
 
-each_listed : (known : Entries) (store : StoreState) (path : List ℕ) (range : Range) (all : List File)
+each_listed : (known : KnownFiles) (store : StoreState) (path : List ℕ) (range : Range) (all : List File)
     → ((file : File) → Among file (store.sequence ++ store.unsequence) → Among file all)
     → Each (IsListed all) (sources_of known store path range)
 each_listed known store path range all within =
@@ -150,13 +150,13 @@ each_listed known store path range all within =
     (λ f among. within f (among_right store.sequence store.unsequence f among)))
     (each_part all (part_within path range) _))
   where
-    first : List Source
+    first : List SourceState
     first = part_sources path range (map sequence_layer (store.frozen ++ working_pair store ∷ []))
 
-    late : List Source
+    late : List SourceState
     late = part_sources path range (map unsequence_layer (store.frozen ++ working_pair store ∷ []))
 
-one_numbered : {F S R P : Type 0} (path : List ℕ) (all : List File) (source : PinnedSource F S R P) (s : Source)
+one_numbered : {F S R P : Type 0} (path : List ℕ) (all : List File) (source : PinnedSource F S R P) (s : SourceState)
     → IsShownAs path source s → IsListed all s → IsNumbered all source
 one_numbered path all (pinned.File number born right) (FromFile file) is there =
     subst (λ n. Among n (numbers_of all)) is.0 there
@@ -164,7 +164,7 @@ one_numbered path all (pinned.File number born right) (FromPart layer) is there 
 one_numbered path all (pinned.Part born points) s is there = tt
 
 zip_numbered : {F S R P : Type 0} (path : List ℕ) (all : List File) (sources : List (PinnedSource F S R P))
-    (shown : List Source) → AllZip (IsShownAs path) sources shown → Each (IsListed all) shown
+    (shown : List SourceState) → AllZip (IsShownAs path) sources shown → Each (IsListed all) shown
     → Each (IsNumbered all) sources
 zip_numbered path all [] [] zip listed = tt
 zip_numbered path all [] (s ∷ shown) zip listed = absurd zip
@@ -188,7 +188,7 @@ named name kept number right (Some file) is told = record {
   bytes_are = ap (λ (n : NamedFile). n.bytes) is ∙ told.1;
 }
 
-module _ {F S R P : Type 0} (name : R → NamedFile) (files : KeptFiles) (kept : List StoredFile) (told : Told)
+module _ {F S R P : Type 0} (name : R → NamedFile) (files : KeptFiles) (kept : List StoredFile) (told : ToldContents)
     (all : List File) (whole : Each (IsKeptWhole kept told) all) (tells : TellTheirBytes files kept) where
   record TellsSource (path : List ℕ) (source : PinnedSource F S R P) : Type 0 where
     pub true_is : IsTrueIn name (pages_told kept told all whole) path source
@@ -238,10 +238,10 @@ module _ {F S R P : Type 0} (name : R → NamedFile) (files : KeptFiles) (kept :
     pub told_are : AreColumnsTold name (pages_told kept told all whole) columns
     pub points : TellPoints name (pages_told kept told all whole) told columns
 
-  pub tells_columns : (known : Entries) (store : StoreState) (range : Range)
+  pub tells_columns : (known : KnownFiles) (store : StoreState) (range : Range)
       → ((file : File) → Among file (store.sequence ++ store.unsequence) → Among file all)
-      → (columns : List (Column F S R P)) (shown : List state.Column) → AllZip IsColumnOf columns shown
-      → Each (λ (column : state.Column). column.sources ≡ sources_of known store column.path range) shown
+      → (columns : List (Column F S R P)) (shown : List state.ColumnState) → AllZip IsColumnOf columns shown
+      → Each (λ (column : state.ColumnState). column.sources ≡ sources_of known store column.path range) shown
       → AreColumnsHeld name files columns → HaveNodes columns → TellsColumns columns
   tells_columns known store range within [] [] zip takes held nodes = record { true_are = tt; told_are = tt; points = tt }
   tells_columns known store range within [] (s ∷ shown) zip takes held nodes = absurd zip

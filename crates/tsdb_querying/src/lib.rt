@@ -8,7 +8,7 @@
 mod query;
 mod values;
 
-pub use query::select;
+pub use query::select_rows;
 pub use tsdb_pins::{Stream, open_column, pull};
 pub use tsdb_serving::{Core, Options, create, delete, flush, insert, show};
-pub use values::aggregates;
+pub use values::select_aggregates;

@@ -10,7 +10,7 @@ ghost use Rattle.tsdb_base.specs.Causes.{Rose};
 ghost use Rattle.tsdb_outside.specs.Files.{StoredFile};
 ghost use Rattle.tsdb_querying.specs.Answers;
 ghost use Rattle.tsdb_serving.specs.Flushing.{IsReady, faults_under};
-ghost use Rattle.tsdb_serving.specs.Serving.{Answers as AreAnswered, IsServing, StaysInPlace};
+ghost use Rattle.tsdb_serving.specs.Serving.{ServesCommand as AreAnswered, IsServing, StaysInPlace};
 ghost use Rattle.tsdb_serving.specs.Sweeping.{LeavesNothing};
 
 use std::alloc::Global;
@@ -26,7 +26,7 @@ use tsdb_serving::{Core, sweep};
 /// Answers the lines, or `NoPath` or `WrongType` as the plain map does. Answers `Device` where a file could not be read,
 /// and `Memory`. A query changes nothing: its pin is given back whatever it answers. Then files on their way out
 /// are removed; one that cannot be removed is passed over.
-pub fn select<J: Journal, F: Files>(
+pub fn select_rows<J: Journal, F: Files>(
     alloc: Global,
     core: &mut Core<J, F>,
     port: &mut F::Port,

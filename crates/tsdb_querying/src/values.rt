@@ -15,7 +15,7 @@ ghost use Rattle.tsdb_pin.specs.Shown.{IsPinOf};
 ghost use Rattle.tsdb_pins.specs.Reading.{AreColumnsOf, AreColumnsTold, AreColumnsTrue, HaveNodes, SeriesPages};
 ghost use Rattle.tsdb_pins.specs.Reading.{TellPoints};
 ghost use Rattle.tsdb_serving.specs.Flushing.{IsReady, faults_under};
-ghost use Rattle.tsdb_serving.specs.Serving.{Answers as AreAnswered, IsServing, StaysInPlace};
+ghost use Rattle.tsdb_serving.specs.Serving.{ServesCommand as AreAnswered, IsServing, StaysInPlace};
 ghost use Rattle.tsdb_serving.specs.Sweeping.{LeavesNothing};
 ghost use Rattle.tsdb_state.specs.State as state;
 ghost use Rattle.tsdb_state.specs.Steps.{PinStandsFor};
@@ -44,7 +44,7 @@ fn read_values<F: Files, L: Ledger>(
     requires nodes { HaveNodes pin.now.columns }
     requires of_store { AreColumnsOf F.Right.file (F.Port.store port.old) pin.now.columns }
     ensures values { (pages : SeriesPages) → AreColumnsTrue F.Right.file pages pin.now.columns
-        → IfOk result (λ values. (told : state.Told) (shown : state.Pin) (world : World)
+        → IfOk result (λ values. (told : state.ToldContents) (shown : state.PinState) (world : World)
         → TellPoints F.Right.file pages told pin.now.columns → IsPinOf pin.now shown → PinStandsFor told shown world
         → values.items ≡ values_in world pin.now.range pin.now.columns) }
     ensures reason { (pages : SeriesPages) → AreColumnsTrue F.Right.file pages pin.now.columns
@@ -62,7 +62,7 @@ fn read_values<F: Files, L: Ledger>(
 /// Answers one value or none for each item, or `NoPath` or `WrongType` as the plain map does. Answers `Device` where a
 /// file could not be read, and `Memory`. A query changes nothing: its pin is given back whatever it answers. Then files
 /// on their way out are removed; one that cannot be removed is passed over.
-pub fn aggregates<J: Journal, F: Files>(
+pub fn select_aggregates<J: Journal, F: Files>(
     alloc: Global,
     core: &mut Core<J, F>,
     port: &mut F::Port,

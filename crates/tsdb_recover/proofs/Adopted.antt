@@ -7,12 +7,12 @@ use Rattle.tsdb_recover.proofs.First.{wanted_is}
 use Rattle.tsdb_recover.proofs.Paths.{have_paths, place_has_path}
 use Rattle.tsdb_recover.proofs.TakingUp.{described_more, first_with, of_each, taken_from, wanted_not_kept}
 use Rattle.tsdb_recover.specs.Adopting.{AreDescribed, AreFirstOf, IsAdopted, IsKeptOf, IsReadOf, TakesUp, next_in, wanted_file}
-use Rattle.tsdb_recover.specs.Steps.{KeepsFiles}
+use Rattle.tsdb_recover.specs.Steps.{KeepsFileLists}
 use Rattle.tsdb_base.specs.declared.ids.Space.{Space}
 use Rattle.tsdb_base.specs.declared.ids.Space.TheVariants.{Sequence, Unsequence}
 use Rattle.tsdb_flush.specs.BuiltParts as built
 use Rattle.tsdb_recover.proofs.DescribedParts.{says_its_points}
-use Rattle.tsdb_recover.specs.DescribedTrees.{HavePaths}
+use Rattle.tsdb_recover.specs.DescribedTrees.{HaveShortPaths}
 use Rattle.tsdb_fileset.specs.Held.{TellTheirBytes, entry_of}
 use Rattle.tsdb_state.specs.Stored.{kept_bytes}
 use Rattle.tsdb_index.specs.declared.index.FileMeta.{FileMeta}
@@ -21,7 +21,7 @@ use Rattle.tsdb_fileset.specs.Places.{AreOfStore, KeptFile}
 use Rattle.tsdb_base.proofs.Lists.{among_left, among_right}
 use Rattle.tsdb_base.specs.Lists.{Among}
 use Rattle.tsdb_log.specs.declared.record.LogRecord.{LogRecord}
-use Rattle.tsdb_memory.specs.Model.{IsSound}
+use Rattle.tsdb_memory.specs.Model.{IsSoundMemory}
 use Rattle.tsdb_memory.specs.Shown.{IsMemoryOf}
 use Rattle.tsdb_memory.specs.Store as memory
 use Rattle.tsdb_outside.specs.Files.{NamedFile, Store, StoredFile}
@@ -29,7 +29,7 @@ use Rattle.tsdb_plan.specs.declared.entry.FileEntry.{FileEntry}
 use Rattle.tsdb_state.specs.Replays.{Replays}
 use Rattle.tsdb_state.specs.Stores.{Recorded, store_steps}
 use Rattle.tsdb_state.specs.Jobs.{Describes}
-use Rattle.tsdb_state.specs.State.{File, StoreState, Told}
+use Rattle.tsdb_state.specs.State.{File, StoreState, ToldContents}
 use Rattle.tsdb_state.specs.StoreOrder.{StoreInOrder}
 
 -- ---- the beginning, and the next file
@@ -68,7 +68,7 @@ wanted_listed files store Unsequence file wanted = among_right store.sequence st
 
 pub is_adopted : (name : NamedFile) (meta : FileMeta) (store : StoreState) (space : Space) (file : File)
     (old made new : KeptFiles) (entry : FileEntry) (series : List (List ℕ))
-    → wanted_file old store ≡ Some (space, file) → IsKeptOf meta file entry series → KeepsFiles old made
+    → wanted_file old store ≡ Some (space, file) → IsKeptOf meta file entry series → KeepsFileLists old made
     → TakesUp space entry (record { name = name; series = series; rights = 0 }) made new
     → IsAdopted name meta store old new
 is_adopted name meta store space file old made new entry series wanted kept keeps taken = record {
@@ -103,9 +103,9 @@ module _ (name : NamedFile) (meta : FileMeta) (store : StoreState) (old new : Ke
       (λ n (f : KeptFile). (f.name.number ≡ n) × (f.name.bytes ≡ kept_bytes kept n)) all
       (same, is ∙ ap (kept_bytes kept) same)
 
-  pub says_more : (told : Told) (held : memory.Store) (items : List LogRecord) (recorded : Recorded)
+  pub says_more : (told : ToldContents) (held : memory.MemoryState) (items : List LogRecord) (recorded : Recorded)
       → store ≡ recorded.store → name.number ≡ adopted.file.number → AreKept old
-      → Replays store_steps store_steps.new_store items recorded → AreFirstOf old store → IsSound held
+      → Replays store_steps store_steps.new_store items recorded → AreFirstOf old store → IsSoundMemory held
       → IsMemoryOf held store → StoreInOrder told store → IsReadOf meta (told name.number) → AreDescribed told old
       → AreDescribed told new
   says_more told held items recorded of number kept replayed first sound is order read says =
@@ -124,7 +124,7 @@ module _ (name : NamedFile) (meta : FileMeta) (store : StoreState) (old new : Ke
       listed : Among adopted.file (store.sequence ++ store.unsequence)
       listed = wanted_listed old store adopted.space adopted.file adopted.wanted
 
-      paths : HavePaths read.whole.tree
+      paths : HaveShortPaths read.whole.tree
       paths = have_paths read.whole.tree (told name.number) read.whole.is read.whole.made read.content_is
           (λ place value has. place_has_path told held store adopted.file place value sound is order listed
           (ap (λ n. get (told n) place) (sym number) ∙ has))

@@ -7,8 +7,8 @@ use Rattle.tsdb_recover.proofs.Known.{known_in}
 use Rattle.tsdb_recover.specs.Adopting.{AreDescribed, AreFirstOf, Describe, wanted_file, wanted_of}
 use Rattle.tsdb_recover.specs.Known.{known_of}
 use Rattle.tsdb_base.specs.declared.ids.FileNumber.{FileNumber}
-use Rattle.tsdb_core.specs.Core.{IsAbove}
-use Rattle.tsdb_fileset.specs.Held.{AreFilesOf, entry_of, leaving, listed}
+use Rattle.tsdb_core.specs.Core.{IsAboveNumbers}
+use Rattle.tsdb_fileset.specs.Held.{AreFilesOf, entry_of, outgoing_file, listed}
 use Rattle.tsdb_state.proofs.ImageLemmas.Numbers.{opened_numbers}
 use Rattle.tsdb_state.proofs.ImageLemmas.Storing.{opened_stored}
 use Rattle.tsdb_state.specs.Stored.{IsKeptWhole, IsStored}
@@ -28,7 +28,7 @@ use Rattle.tsdb_state.proofs.Counting.{is_or_not}
 use Rattle.tsdb_state.specs.Jobs.{Describes, EntriesMatch, NumbersInOrder}
 use Rattle.tsdb_base.specs.Limits.{end_of_numbers}
 use Rattle.tsdb_state.specs.NewStore.{opened}
-use Rattle.tsdb_state.specs.State.{Entries, File, StoreState, Told}
+use Rattle.tsdb_state.specs.State.{KnownFiles, File, StoreState, ToldContents}
 use Rattle.tsdb_state.specs.StoreOrder.{StoreInOrder}
 
 -- ---- the next number
@@ -74,7 +74,7 @@ next_numbers items recorded stored next replayed is end = opened_numbers items r
 
 pub above_kept : (files : KeptFiles) (items : List LogRecord) (recorded : Recorded) (stored : Option FileNumber) (next : ℕ)
     → AreKept files → Replays store_steps store_steps.new_store items recorded → AreFirstOf files recorded.store
-    → next ≡ next_number stored recorded.named → next ≤ end_of_numbers → IsAbove next files
+    → next ≡ next_number stored recorded.named → next ≤ end_of_numbers → IsAboveNumbers next files
 above_kept files items recorded stored next kept replayed first is end =
     let numbers = next_numbers items recorded stored next replayed is end in
     record {
@@ -91,7 +91,7 @@ opened_files files store next kept first none =
     record {
       sequence = all.sequence;
       unsequence = all.unsequence;
-      outgoing = ap (map leaving) first.outgoing;
+      outgoing = ap (map outgoing_file) first.outgoing;
       rights = first.unread;
       entries_in_sequence = known_in files files.sequence kept (λ entry there. among_left files.sequence files.unsequence entry there);
       entries_in_unsequence = known_in files files.unsequence kept
@@ -101,14 +101,14 @@ opened_files files store next kept first none =
 -- ---- what is kept says the points
 
 -- of an entry that is kept, what is known of its number says its points
-both_there : (told : Told) (known : Entries) (entry : FileEntry) (o : Option KeptFile) → 1 ≤ length (if_some o)
+both_there : (told : ToldContents) (known : KnownFiles) (entry : FileEntry) (o : Option KeptFile) → 1 ≤ length (if_some o)
     → IfSome o (λ file. Describes (entry_of entry file.series) (told entry.number.0))
     → IfSome o (λ file. known entry.number.0 ≡ entry_of entry file.series)
     → Describes (known entry.number.0) (told entry.number.0)
 both_there told known entry None some says is = absurd (omega (arith, some))
 both_there told known entry (Some file) some says is = subst (λ e. Describes e (told entry.number.0)) (sym is) says
 
-match_in : (told : Told) (files : KeptFiles) (entries : List FileEntry)
+match_in : (told : ToldContents) (files : KeptFiles) (entries : List FileEntry)
     → ((entry : FileEntry) → Among entry entries → 1 ≤ length (if_some (kept_file entry.number.0 files)))
     → Describe told files entries
     → Each (λ entry. IfSome (kept_file entry.number.0 files)
@@ -120,7 +120,7 @@ match_in told files (entry ∷ entries) there says known = (
   match_in told files entries (λ e among. there e (inr among)) says.1 known.1,
 )
 
-pub entries_match : (told : Told) (files : KeptFiles) (store : StoreState) → AreKept files → AreFirstOf files store
+pub entries_match : (told : ToldContents) (files : KeptFiles) (store : StoreState) → AreKept files → AreFirstOf files store
     → wanted_file files store ≡ None → AreDescribed told files
     → EntriesMatch told (known_of files) (store.sequence ++ store.unsequence)
 entries_match told files store kept first none says =
@@ -141,7 +141,7 @@ entries_match told files store kept first none says =
         (entry_counted files entry among)
 
 -- the engine that is opened is stored
-pub stored_opened : (items : List LogRecord) (kept : List StoredFile) (told : Told) (files : KeptFiles) (recorded : Recorded)
+pub stored_opened : (items : List LogRecord) (kept : List StoredFile) (told : ToldContents) (files : KeptFiles) (recorded : Recorded)
     (stored : Option FileNumber) (next : ℕ) → All IsRecord items
     → Replays store_steps store_steps.new_store items recorded → StoreInOrder told recorded.store
     → Each (IsKeptWhole kept told) (recorded.store.sequence ++ recorded.store.unsequence)

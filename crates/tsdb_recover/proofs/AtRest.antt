@@ -5,7 +5,7 @@ use Rattle.std.specs.Prelude.{is_some, slice_get}
 use Rattle.std.specs.List.{AllByRecursion as Each}
 use Rattle.tsdb_recover.proofs.Counting.{differ}
 use Rattle.tsdb_recover.specs.Adopting.{AreDescribed, Describe, next_in}
-use Rattle.tsdb_recover.specs.Steps.{KeepsFiles}
+use Rattle.tsdb_recover.specs.Steps.{KeepsFileLists}
 use Rattle.tsdb_base.specs.declared.ids.Space.TheVariants.{Sequence}
 use Rattle.tsdb_fileset.specs.Held.{entry_of, listed}
 use Rattle.tsdb_state.specs.Stored.{kept_bytes}
@@ -19,12 +19,12 @@ use Rattle.tsdb_recover.specs.Files.{AreAtRestAgain}
 use Rattle.tsdb_recover.proofs.Rest.{found_again, found_there, none_is_some, not_left, others_left, still_stored}
 use Rattle.tsdb_recover.proofs.Rest.{stored_again}
 use Rattle.tsdb_recover.specs.Damage.{IsTreeFile}
-use Rattle.tsdb_recover.specs.Taking.{AreTaken, IsRest, IsRestIn, IsTakingUp, rests_of}
+use Rattle.tsdb_recover.specs.Taking.{AreTakenUp, IsRest, IsRestIn, IsTakingUp, rests_of}
 use Rattle.tsdb_recover.proofs.Stored.{few_stored}
 use Rattle.tsdb_recover.specs.Stored.{AreStored}
 use Rattle.tsdb_state.proofs.Counting.{is_or_not}
 use Rattle.tsdb_state.specs.Jobs.{Describes}
-use Rattle.tsdb_state.specs.State.{StoreState, Told}
+use Rattle.tsdb_state.specs.State.{StoreState, ToldContents}
 
 told_bytes : (bytes : Option (List ℕ)) (is : List ℕ) → true ≡ is_some bytes → IfSome bytes (λ told. told ≡ is)
     → bytes ≡ Some is
@@ -106,7 +106,7 @@ again_in stored files (Some old) None again up = absurd again
 again_in stored files (Some old) (Some new) again up = again_at_rest stored files old new again up
 
 -- where no file comes or goes
-described_same : (told : Told) (old new : KeptFiles) → KeepsFiles old new → AreDescribed told old
+described_same : (told : ToldContents) (old new : KeptFiles) → KeepsFileLists old new → AreDescribed told old
     → AreDescribed told new
 described_same told old new keeps says = record {
   sequence = subst (Describe told new) (sym keeps.lists.sequence) (same old.sequence says.sequence);
@@ -123,7 +123,7 @@ described_same told old new keeps says = record {
         (λ (file : KeptFile). Describes (entry_of entry file.series) (told entry.number.0)))
         (sym (keeps.places.files entry.number.0)) is) entries are
 
-rest_same : (stored : List StoredFile) (rest : Option (List StoredFile)) (old new : KeptFiles) → KeepsFiles old new
+rest_same : (stored : List StoredFile) (rest : Option (List StoredFile)) (old new : KeptFiles) → KeepsFileLists old new
     → IsRestIn stored old rest → IsRestIn stored new rest
 rest_same stored None old new keeps up = absurd up
 rest_same stored (Some rest) old new keeps up = record {
@@ -131,8 +131,8 @@ rest_same stored (Some rest) old new keeps up = record {
   each = λ n. up.each n ∙ ap (λ found. rests_of found (kept_bytes stored n)) (sym (keeps.places.files n));
 }
 
-taken_same : (stored : List StoredFile) (store : StoreState) (old new : KeptFiles) → KeepsFiles old new
-    → AreTaken stored store old → AreTaken stored store new
+taken_same : (stored : List StoredFile) (store : StoreState) (old new : KeptFiles) → KeepsFileLists old new
+    → AreTakenUp stored store old → AreTakenUp stored store new
 taken_same stored store old new keeps taken = record {
   told = λ n. subst (λ found. IfSome found (λ (file : KeptFile). (file.name.number ≡ n)
       × (file.name.bytes ≡ kept_bytes stored n))) (sym (keeps.places.files n)) (taken.told n);
@@ -158,7 +158,7 @@ same_files stored store files old new again up = record {
 
 pub no_more : (stored : List StoredFile) (store : StoreState) (old new : KeptFiles) (rest now : Option
     (List StoredFile))
-    → KeepsFiles old new → WhereTold AreAtRestAgain rest now → IsTakingUp stored store old rest
+    → KeepsFileLists old new → WhereTold AreAtRestAgain rest now → IsTakingUp stored store old rest
     → IsTakingUp stored store new now
 no_more stored store old new rest now keeps again up = record {
   taken = taken_same stored store old new keeps up.taken;

@@ -68,7 +68,7 @@ next_counted entries list file first is =
 
 module _ (files : KeptFiles) (store : StoreState) (first : AreFirstOf files store) where
   -- the numbers of kept files are those of the entries
-  sums : (n : ℕ) → count n (kept.numbers_of files)
+  sums : (n : ℕ) → count n (kept.all_numbers files)
       ≡ count n (entry_numbers files.sequence) + count n (entry_numbers files.unsequence)
   sums n = omega (
     arith,
@@ -79,7 +79,7 @@ module _ (files : KeptFiles) (store : StoreState) (first : AreFirstOf files stor
   )
 
   -- a number of a kept file is that of a listed one
-  pub kept_counted : (n : ℕ) → count n (kept.numbers_of files) ≤ count n (numbers_of (store.sequence ++ store.unsequence))
+  pub kept_counted : (n : ℕ) → count n (kept.all_numbers files) ≤ count n (numbers_of (store.sequence ++ store.unsequence))
   kept_counted n = omega (
     arith,
     sums n,
@@ -90,7 +90,7 @@ module _ (files : KeptFiles) (store : StoreState) (first : AreFirstOf files stor
 
   one_fewer : (space : Space) (file : File)
       → of_space space (next_in Sequence files store) (next_in Unsequence files store) ≡ Some file
-      → count file.number (kept.numbers_of files) + 1
+      → count file.number (kept.all_numbers files) + 1
       ≤ count file.number (numbers_of (store.sequence ++ store.unsequence))
   one_fewer Sequence file is = omega (
     arith,
@@ -166,7 +166,7 @@ are_all files store first none =
     }
 
 all_counted : (files : KeptFiles) (store : StoreState) → AreFirstOf files store → AreAll files store → (n : ℕ)
-    → count n (kept.numbers_of files) ≡ count n (numbers_of (store.sequence ++ store.unsequence))
+    → count n (kept.all_numbers files) ≡ count n (numbers_of (store.sequence ++ store.unsequence))
 all_counted files store first all n = omega (
   arith,
   sums files store first n,
@@ -191,7 +191,7 @@ kept_where_listed files store n are first none =
 
 -- an entry of the lists has a number of a kept file
 pub entry_counted : (files : KeptFiles) (entry : FileEntry) → Among entry (files.sequence ++ files.unsequence)
-    → 1 ≤ count entry.number.0 (kept.numbers_of files)
+    → 1 ≤ count entry.number.0 (kept.all_numbers files)
 entry_counted files entry among = omega (
   arith,
   among_counted entry.number.0 (entry_numbers (files.sequence ++ files.unsequence))

@@ -6,19 +6,19 @@ use Rattle.std.proofs.lemmas.List.Elements.{recursion_from_All}
 use Rattle.tsdb_base.specs.declared.value.DataType.{DataType}
 use Rattle.tsdb_base.specs.declared.value.Value.{Value}
 use Rattle.tsdb_flush.proofs.Entries.{described}
-use Rattle.tsdb_flush.specs.BuiltParts.{HasPartPoint, IsContentOfPart, IsPart, IsSeries, entry_of}
+use Rattle.tsdb_flush.specs.BuiltParts.{HasPartPoint, IsContentOfPart, IsPart, IsFilledSeries, entry_of}
 use Rattle.tsdb_recover.proofs.Order.{Comes, in_tree, is_in_part, chunk_among, tree_rises}
 use Rattle.tsdb_recover.specs.DescribedTrees.{filled_of, group_part, tree_part}
 use Rattle.tsdb_path.proofs.Order.{not_itself}
 use Rattle.tsdb_path.specs.Order.{AreNamesBefore}
-use Rattle.tsdb_flush.specs.Built.{IsEntryOf, paths_of}
-use Rattle.tsdb_flush.specs.Parts.{Filled, names_of}
+use Rattle.tsdb_flush.specs.Built.{IsFileEntryOf, paths_of}
+use Rattle.tsdb_flush.specs.Parts.{Filled, schema_names}
 use Rattle.tsdb_base.proofs.Lists.{each_among, each_from_among, each_weaker}
 use Rattle.tsdb_base.specs.Lists.{Among, EachPair}
-use Rattle.tsdb_state.specs.Places.{Content, Place}
+use Rattle.tsdb_state.specs.Places.{Content, PointPlace}
 use Rattle.tsdb_model.specs.declared.command.Schema.{Schema}
 use Rattle.tsdb_pages.specs.Pages.{ArePoints}
-use Rattle.tsdb_pages.specs.Trees.{HasParts, IsChunk, IsGroup, IsMade, IsTree, chunks_of, points_of}
+use Rattle.tsdb_pages.specs.Trees.{HasParts, IsChunk, IsGroup, IsMade, IsTree, chunks_of, page_points}
 use Rattle.tsdb_pages.specs.declared.tree.Chunk.{Chunk}
 use Rattle.tsdb_pages.specs.declared.tree.Group.{Group}
 use Rattle.tsdb_pages.specs.declared.tree.Page.{Page}
@@ -27,7 +27,7 @@ use Rattle.tsdb_path.proofs.Bytes.{IsNode-dotless}
 use Rattle.tsdb_path.proofs.Parts.{node_count-child, parts_some}
 use Rattle.tsdb_path.specs.Nodes.{child_of, device_of, measurement_of, node_count}
 use Rattle.tsdb_plan.specs.declared.entry.FileEntry.{FileEntry}
-use Rattle.tsdb_state.specs.Stores.{HasTreePoint, IsContentOf}
+use Rattle.tsdb_state.specs.Stores.{HasTreePoint, IsTreeContent}
 use Rattle.tsdb_state.specs.Jobs.{Describes}
 
 pairs_weaker : {X : Type 0} (R S : X → X → Type 0) → ((x y : X) → R x y → S x y) → (xs : List X) → EachPair R xs
@@ -38,10 +38,10 @@ pairs_weaker R S weaker (x ∷ xs) pairs =
 
 -- a chunk has a point
 points_some : (data_type : DataType) (pages : List Page) → 0 < length pages
-    → Each (λ page. ArePoints data_type page.points) pages → 0 < length (points_of pages)
+    → Each (λ page. ArePoints data_type page.points) pages → 0 < length (page_points pages)
 points_some data_type [] some good = absurd (omega (arith, some))
 points_some data_type (page ∷ pages) some good =
-    let all = length-append page.points (points_of pages) in
+    let all = length-append page.points (page_points pages) in
     let first = good.0.some in
     omega (arith, all, first)
 
@@ -53,7 +53,7 @@ series_some (group ∷ groups) some good =
     let chunks = good.0.some in
     omega (arith, all, first, chunks)
 
-series_of : (device : List ℕ) (chunk : Chunk) → IsChunk chunk → HasParts chunk → IsSeries (filled_of device chunk)
+series_of : (device : List ℕ) (chunk : Chunk) → IsChunk chunk → HasParts chunk → IsFilledSeries (filled_of device chunk)
 series_of device chunk good parts =
     let nodes = node_count-child device chunk.measurement
     (IsNode-dotless chunk.measurement parts.measurement.node) in
@@ -67,14 +67,14 @@ series_of device chunk good parts =
 
 -- two that stand in order have two paths
 paths_differ : (a b : Filled) → Comes a b → a.schema.path ≢ b.schema.path
-paths_differ a b before same = not_itself (names_of b.schema)
+paths_differ a b before same = not_itself (schema_names b.schema)
     (subst (λ path. AreNamesBefore (device_of path, measurement_of path)
-    (names_of b.schema)) same before)
+    (schema_names b.schema)) same before)
 
 pub tree_is_part : (tree : Tree) → IsTree tree → IsMade tree → IsPart (tree_part tree)
 tree_is_part tree is made = record {
   some = series_some tree.groups is.some groups;
-  each = each_from_among IsSeries (tree_part tree) each;
+  each = each_from_among IsFilledSeries (tree_part tree) each;
   differ = pairs_weaker Comes (λ a b. a.schema.path ≢ b.schema.path) paths_differ (tree_part tree)
       (tree_rises tree is made);
 }
@@ -82,11 +82,11 @@ tree_is_part tree is made = record {
     groups : Each IsGroup tree.groups
     groups = recursion_from_All IsGroup tree.groups is.groups
 
-    each : (filled : Filled) → Among filled (tree_part tree) → IsSeries filled
+    each : (filled : Filled) → Among filled (tree_part tree) → IsFilledSeries filled
     each filled among =
         let found = in_tree tree.groups filled among in
         let group = each_among IsGroup tree.groups found.group groups found.in_tree in
-        subst IsSeries found.is (series_of found.group.device found.chunk
+        subst IsFilledSeries found.is (series_of found.group.device found.chunk
         (each_among IsChunk found.group.chunks found.chunk (recursion_from_All IsChunk found.group.chunks group.chunks)
         found.in_group)
         (each_among HasParts (chunks_of tree.groups) found.chunk
@@ -94,7 +94,7 @@ tree_is_part tree is made = record {
         (chunk_among tree.groups found.group found.chunk found.in_tree found.in_group)))
 
 -- the points of the tree are those of the part
-to_part : (tree : Tree) (place : Place) (value : Value) → HasTreePoint tree place value
+to_part : (tree : Tree) (place : PointPlace) (value : Value) → HasTreePoint tree place value
     → HasPartPoint (tree_part tree) place value
 to_part tree place value has = record {
   filled = filled_of has.group.device has.chunk;
@@ -106,7 +106,7 @@ to_part tree place value has = record {
   has = has.has;
 }
 
-to_tree : (tree : Tree) (place : Place) (value : Value) → HasPartPoint (tree_part tree) place value
+to_tree : (tree : Tree) (place : PointPlace) (value : Value) → HasPartPoint (tree_part tree) place value
     → HasTreePoint tree place value
 to_tree tree place value has =
     let found = in_tree tree.groups has.filled has.in_part in
@@ -122,7 +122,7 @@ to_tree tree place value has =
       has = has.has;
     }
 
-pub content_of_part : (tree : Tree) (content : Content) → IsContentOf tree content
+pub content_of_part : (tree : Tree) (content : Content) → IsTreeContent tree content
     → IsContentOfPart (tree_part tree) content
 content_of_part tree content is = λ place value. (
   λ has. to_part tree place value ((is place value).0 has),
@@ -131,7 +131,7 @@ content_of_part tree content is = λ place value. (
 
 -- what is kept of the file says the points of the tree
 pub says_its_points : (tree : Tree) (number born : ℕ) (bytes : List ℕ) (entry : FileEntry) (content : Content)
-    → IsTree tree → IsMade tree → IsEntryOf number born bytes (tree_part tree) entry → IsContentOf tree content
+    → IsTree tree → IsMade tree → IsFileEntryOf number born bytes (tree_part tree) entry → IsTreeContent tree content
     → Describes (entry_of entry (paths_of (tree_part tree))) content
 says_its_points tree number born bytes entry content is made kept of =
     described (tree_part tree) content (content_of_part tree content of) number born bytes entry

@@ -4,7 +4,7 @@ use Rattle.std.proofs.Common.{IfSome, inl, inr, refl, sym, ap, subst, arith, len
 use Rattle.std.specs.Prelude.{Contains, Err, MatchOption, Ok, OnErr, Result, is_some}
 use Rattle.std.proofs.lemmas.List.Elements.{Contains-append_right}
 use Rattle.tsdb_outside.specs.Disk.{WhereTold}
-use Rattle.tsdb_outside.specs.Files.{NamedFile, PutsBack, StoredFile, TakesOut, numbers_of}
+use Rattle.tsdb_outside.specs.Files.{NamedFile, PutsBack, StoredFile, TakesOut, stored_file_numbers}
 use Rattle.tsdb_recover.specs.Files.{AreAtRestAgain, IsDamagedAmong}
 use Rattle.tsfile_reader.specs.Blame.{IsBlamed, IsNoFile}
 
@@ -20,7 +20,7 @@ same_file number bytes file numbers all =
     let same : made number bytes ≡ made file.number file.bytes = cc in same
 
 -- a file that is not there
-pub missing : (stored : Option (List StoredFile)) (number : ℕ) → IfSome stored (λ files. ¬ Contains (numbers_of files) number)
+pub missing : (stored : Option (List StoredFile)) (number : ℕ) → IfSome stored (λ files. ¬ Contains (stored_file_numbers files) number)
     → IfSome stored (λ files. IsDamagedAmong files number 0)
 missing None number none = tt
 missing (Some files) number none = inl (none, refl)

@@ -11,7 +11,7 @@ use Rattle.tsdb_state.specs.Stored.{kept_bytes}
 use Rattle.tsdb_fileset.specs.Files.{KeptFiles, kept_file}
 use Rattle.tsdb_fileset.specs.Places.{KeptFile}
 use Rattle.tsdb_outside.specs.Disk.{WhereTold}
-use Rattle.tsdb_outside.specs.Files.{NamedFile, StoredFile, TakesOut, numbers_of, plain_numbers}
+use Rattle.tsdb_outside.specs.Files.{NamedFile, StoredFile, TakesOut, stored_file_numbers, plain_numbers}
 use Rattle.tsdb_recover.proofs.Rest.{found_contains, not_left, others_left, still_stored}
 use Rattle.tsdb_recover.specs.Taking.{AreGone, AreGoneIn}
 use Rattle.tsdb_recover.specs.Stored.{AreStored}
@@ -20,7 +20,7 @@ use Rattle.tsdb_state.proofs.Counting.{is_or_not}
 -- ---- one file
 
 -- it is not there
-missing_gone : (number : ℕ) (files : KeptFiles) (old : List StoredFile) → (Contains (numbers_of old) number → ⊥)
+missing_gone : (number : ℕ) (files : KeptFiles) (old : List StoredFile) → (Contains (stored_file_numbers old) number → ⊥)
     → AreStored old → AreGone (number ∷ []) files old old
 missing_gone number files old none are = record {
   stored = are;
@@ -32,7 +32,7 @@ missing_gone number files old none are = record {
     by n (inl nothing) found is = absurd (omega (arith, nothing.1))
     by n (inr same) None is = refl
     by n (inr same) (Some bytes) is =
-        absurd (none (subst (Contains (numbers_of old)) (sym same) (found_contains old n bytes is)))
+        absurd (none (subst (Contains (stored_file_numbers old)) (sym same) (found_contains old n bytes is)))
 
 -- it is taken out
 taken_gone : (number : ℕ) (files : KeptFiles) (name : NamedFile) (old new : List StoredFile) → name.number ≡ number
@@ -64,7 +64,7 @@ taken_gone number files name old new is free taken are =
 -- ---- the same where it is told
 
 pub missing_in : (number : ℕ) (files : KeptFiles) (old new : Option (List StoredFile))
-    → IfSome old (λ files. Contains (numbers_of files) number → ⊥) → new ≡ old → AreGoneIn (number ∷ []) files old new
+    → IfSome old (λ files. Contains (stored_file_numbers files) number → ⊥) → new ≡ old → AreGoneIn (number ∷ []) files old new
 missing_in number files None new none same = tt
 missing_in number files (Some old) new none same =
     subst (λ o. AreGoneIn (number ∷ []) files (Some old) o) (sym same) (missing_gone number files old none)

@@ -9,13 +9,13 @@ use Rattle.std.specs.List.{AllByRecursion as Each, find}
 use Rattle.std.specs.Option.{IsSomeAnd}
 use Rattle.tsdb_recover.proofs.Counting.{entries_are, kept_where_listed}
 use Rattle.tsdb_recover.proofs.AdoptedCore.{same_wanted}
-use Rattle.tsdb_recover.specs.Adopting.{AreFirstOf, HasAdoptedAll, IsAdoptingOf, files_of, opening_of}
+use Rattle.tsdb_recover.specs.Adopting.{AreFirstOf, HasAdoptedAll, IsAdoptingOf, adopting_files, opening_of}
 use Rattle.tsdb_recover.specs.declared.adopting.Adopting.{Adopting}
 use Rattle.tsdb_core.proofs.Jobs.{is_there}
 use Rattle.tsdb_fileset.specs.Held.{listed}
 use Rattle.tsdb_state.proofs.ImageLemmas.Kept.{found_bytes, has_number}
 use Rattle.tsdb_state.specs.Stored.{kept_bytes}
-use Rattle.tsdb_fileset.specs.Closing.{ArePutBack, AreRising, names_at}
+use Rattle.tsdb_fileset.specs.Closing.{ArePutBack, AreNumbersRising, names_at}
 use Rattle.tsdb_fileset.specs.Files.{AreKept, KeptFiles, entry_numbers, kept_file, none_kept, outgoing_numbers}
 use Rattle.tsdb_fileset.specs.Files as kept
 use Rattle.tsdb_fileset.specs.Places.{KeptFile, file_at}
@@ -34,12 +34,12 @@ use Rattle.tsdb_recover.proofs.Rest.{behind, found_each, none_is_some, none_ther
 use Rattle.tsdb_recover.specs.Damage.{IsTreeFile}
 use Rattle.tsdb_recover.specs.Left.{AreLeft, IsUnlisted, NoneMayGo}
 use Rattle.tsdb_recover.specs.Opened.{IsReplay}
-use Rattle.tsdb_recover.specs.Taking.{AreGone, AreGoneIn, AreTaken, HasTakenUp, IsRest, IsTakingUp, NoDamage, rests_of}
+use Rattle.tsdb_recover.specs.Taking.{AreGone, AreGoneIn, AreTakenUp, HasTakenUp, IsRest, IsTakingUp, NoDamage, rests_of}
 use Rattle.tsdb_state.specs.Replays.{Replays}
 use Rattle.tsdb_state.specs.Stores.{Recorded, store_steps}
 use Rattle.tsdb_fileset.proofs.StoredPlaces.{IsToldAt, at_place, each_stored, found, named, stored_at}
 use Rattle.tsdb_recover.proofs.Stored.{few_stored, places_stored}
-use Rattle.tsdb_recover.specs.Stored.{AreStored, DifferInNumber, IsNumbered}
+use Rattle.tsdb_recover.specs.Stored.{AreStored, DifferInNumber, HasFileNumber}
 use Rattle.tsdb_state.specs.Records.{numbers_of as state_numbers}
 use Rattle.tsdb_state.specs.State.{File, StoreState}
 
@@ -85,8 +85,8 @@ each_number P (file ∷ files) n all (inr among) = each_number P files n all.1 a
 -- ---- the kept files go back
 
 module _ (stored : List StoredFile) (store : StoreState) (files : KeptFiles) (are : AreStored stored)
-    (are_kept : AreKept files) (rising : AreRising files.places) (first : AreFirstOf files store)
-    (taken : AreTaken stored store files) where
+    (are_kept : AreKept files) (rising : AreNumbersRising files.places) (first : AreFirstOf files store)
+    (taken : AreTakenUp stored store files) where
   record Known (n : ℕ) (file : KeptFile) : Type 0 where
     pub number : file.name.number ≡ n
     pub bytes : List ℕ
@@ -94,7 +94,7 @@ module _ (stored : List StoredFile) (store : StoreState) (files : KeptFiles) (ar
     pub there : kept_bytes stored n ≡ Some bytes
     pub is_number : IsFileNumber n
 
-  numbers_are : kept.numbers_of files ≡ state_numbers (map listed files.sequence ++ map listed files.unsequence)
+  numbers_are : kept.all_numbers files ≡ state_numbers (map listed files.sequence ++ map listed files.unsequence)
   numbers_are = ap (λ l. (entry_numbers files.sequence ++ entry_numbers files.unsequence) ++ outgoing_numbers l)
       first.outgoing ∙ append-nil (entry_numbers files.sequence ++ entry_numbers files.unsequence)
       ∙ (λ i. sym (entries_are files.sequence) i ++ sym (entries_are files.unsequence) i)
@@ -103,7 +103,7 @@ module _ (stored : List StoredFile) (store : StoreState) (files : KeptFiles) (ar
   -- a kept file is stored
   known : (n : ℕ) (file : KeptFile) → kept_file n files ≡ Some file → Known n file
   known n file is =
-      let among = subst (Among n) numbers_are (is_there n (kept.numbers_of files)
+      let among = subst (Among n) numbers_are (is_there n (kept.all_numbers files)
       (let c = are_kept n ∙ ap (λ f. length (if_some f)) is in omega (arith, c))) in
       let whole = each_number (IsTreeFile (kept_bytes stored))
       (map listed files.sequence ++ map listed files.unsequence) n taken.whole among in
@@ -115,7 +115,7 @@ module _ (stored : List StoredFile) (store : StoreState) (files : KeptFiles) (ar
         bytes = whole.2.bytes;
         told = tells.1 ∙ there;
         there = there;
-        is_number = found_each IsNumbered stored n whole.2.bytes are.each there;
+        is_number = found_each HasFileNumber stored n whole.2.bytes are.each there;
       }
 
   known_at : (place : ℕ × Option KeptFile) → Among place files.places → IfSome place.1 (λ file.
@@ -168,7 +168,7 @@ module _ (stored : List StoredFile) (store : StoreState) (files : KeptFiles) (ar
     all_stored : AreStored (rest ++ back)
     all_stored = record {
       differ = pairs_joined rest back are_rest.differ back_stored.differ apart;
-      each = each_append IsNumbered rest back are_rest.each back_stored.each;
+      each = each_append HasFileNumber rest back are_rest.each back_stored.each;
     }
 
     at_number : (n : ℕ) (found : Option KeptFile) → kept_file n files ≡ found
@@ -233,18 +233,18 @@ module _ {F S R P : Type 0} (old new : Adopting F S R P) (opening : Opening)
     → Replays store_steps store_steps.new_store items recorded → IsAdoptingOf old recorded) where
   -- what is at rest after an error, once each token is given back
   pub has_left : (store : Store) (start mid now : Option (List StoredFile)) (answer : OpenFault)
-      → files_of old ≡ none_kept → HasTakenUp store old new start mid (Err answer)
-      → WhereTold (ArePutBack (names_at (files_of new).places)) mid now → AreRising (files_of new).places
-      → AreKept (files_of new) → IfSome start (λ stored. (items : List LogRecord) (recorded : Recorded)
+      → adopting_files old ≡ none_kept → HasTakenUp store old new start mid (Err answer)
+      → WhereTold (ArePutBack (names_at (adopting_files new).places)) mid now → AreNumbersRising (adopting_files new).places
+      → AreKept (adopting_files new) → IfSome start (λ stored. (items : List LogRecord) (recorded : Recorded)
       → IsReplay opening items recorded → AreStored stored → IsSomeAnd now (AreLeft (IsUnlisted recorded.store) stored))
   has_left store None mid now answer none takes puts rising are_kept = tt
   has_left store (Some stored) mid now answer none takes puts rising are_kept = λ items recorded replay are.
       let adopting = begins items recorded replay.shown replay.replayed in
       by recorded are (takes.goes_on.adopting recorded adopting) takes.left.before mid takes.left.gone
-      (takes.left.taken stored recorded adopting (begun stored recorded.store (files_of old) none are)) puts
+      (takes.left.taken stored recorded adopting (begun stored recorded.store (adopting_files old) none are)) puts
     where
       files : KeptFiles
-      files = files_of new
+      files = adopting_files new
 
       by : (recorded : Recorded) → AreStored stored → IsAdoptingOf new recorded → (before mid : Option (List StoredFile))
           → (mid ≡ before) ⊎ (HasAdoptedAll new × AreGoneIn [] files before mid × NoDamage answer)
@@ -277,19 +277,19 @@ module _ {F S R P : Type 0} (old new : Adopting F S R P) (opening : Opening)
 
   -- a damaged store has each of its files
   pub has_kept : (store : Store) (start mid now : Option (List StoredFile)) (answer : OpenFault)
-      → files_of old ≡ none_kept → HasTakenUp store old new start mid (Err answer)
-      → WhereTold (ArePutBack (names_at (files_of new).places)) mid now → AreRising (files_of new).places
-      → AreKept (files_of new) → IfSome start (λ stored. (items : List LogRecord) (recorded : Recorded)
+      → adopting_files old ≡ none_kept → HasTakenUp store old new start mid (Err answer)
+      → WhereTold (ArePutBack (names_at (adopting_files new).places)) mid now → AreNumbersRising (adopting_files new).places
+      → AreKept (adopting_files new) → IfSome start (λ stored. (items : List LogRecord) (recorded : Recorded)
       → IsReplay opening items recorded → AreStored stored → (part : Part) (at : ℕ) → answer ≡ fault.Damaged part at
       → IsSomeAnd now (AreLeft NoneMayGo stored))
   has_kept store None mid now answer none takes puts rising are_kept = tt
   has_kept store (Some stored) mid now answer none takes puts rising are_kept = λ items recorded replay are part at is.
       let adopting = begins items recorded replay.shown replay.replayed in
       by recorded are (takes.goes_on.adopting recorded adopting) takes.left.before mid part at is takes.left.gone
-      (takes.left.taken stored recorded adopting (begun stored recorded.store (files_of old) none are)) puts
+      (takes.left.taken stored recorded adopting (begun stored recorded.store (adopting_files old) none are)) puts
     where
       files : KeptFiles
-      files = files_of new
+      files = adopting_files new
 
       by : (recorded : Recorded) → AreStored stored → IsAdoptingOf new recorded → (before mid : Option (List StoredFile))
           → (part : Part) (at : ℕ) → answer ≡ fault.Damaged part at

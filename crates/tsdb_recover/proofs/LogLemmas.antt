@@ -10,7 +10,7 @@ use Rattle.tsdb_outside.specs.declared.disk.Disk as disk
 use Rattle.tsdb_outside.specs.declared.disk.Slot.TheVariants.{A}
 use Rattle.tsdb_outside.specs.declared.faults.Counted as counted
 use Rattle.tsdb_frames.specs.Readers.{IsReading}
-use Rattle.tsdb_frames.specs.Slots.{ArePlaced, GoesOn, HasRecords, IsPayload, IsTornBehind, open_records, payloads_of}
+use Rattle.tsdb_frames.specs.Slots.{ArePlaced, HasRecordsThenGate, HasRecords, IsPayload, IsTornBehind, open_records, payloads_of}
 use Rattle.tsdb_frames.specs.Slots.{with_length}
 use Rattle.tsdb_frames.specs.declared.fault.ScanFault.{ScanFault}
 use Rattle.tsdb_frames.specs.declared.fault.ScanFault.TheVariants as scan
@@ -75,7 +75,7 @@ here_all P (x ∷ xs) y ys all = here_all P xs y ys (All-tail P x (xs ++ y ∷ y
 
 -- a log in which a frame behind others has no replay is damaged there
 refused_damaged : (frames : List Frame) (frame : Frame) (opening : Opening) (bytes : List ℕ) → ArePlaced (frames ++ frame ∷ [])
-    → GoesOn (payloads_of (frames ++ frame ∷ [])) bytes → IsReadFrom frames opening → IsFrameRefused opening frame
+    → HasRecordsThenGate (payloads_of (frames ++ frame ∷ [])) bytes → IsReadFrom frames opening → IsFrameRefused opening frame
     → IsDamaged store_steps frame.at bytes
 refused_damaged frames frame opening bytes placed goes read none =
     let before = payloads_of frames in

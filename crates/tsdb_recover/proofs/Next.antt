@@ -20,8 +20,8 @@ use Rattle.tsdb_pages.specs.declared.tree.Tree.{Tree}
 use Rattle.tsdb_plan.specs.declared.entry.FileEntry.{FileEntry}
 use Rattle.tsdb_recover.proofs.AtRest.{more_kept, tells_stored, was_stored}
 use Rattle.tsdb_recover.proofs.Trees.{next_is, tree_with}
-use Rattle.tsdb_recover.specs.Taking.{AreTaken, IsNext, IsRest, IsTakingUp, kept_count}
-use Rattle.tsdb_state.specs.State.{File, StoreState, Told}
+use Rattle.tsdb_recover.specs.Taking.{AreTakenUp, IsNextFile, IsRest, IsTakingUp, kept_count}
+use Rattle.tsdb_state.specs.State.{File, StoreState, ToldContents}
 use Rattle.tsdb_state.specs.StoreOrder.{StoreInOrder}
 use Rattle.tsfile_reader.specs.Blame.{IsMetaOfTree}
 use Rattle.tsfile_reader.specs.Meta.{IsMetaOf}
@@ -47,7 +47,7 @@ pub one_more : (name : NamedFile) (meta : FileMeta) (store : StoreState) (old ne
 one_more name meta store old new adopted = counted_more adopted.space adopted.entry old new adopted.taken.list
 
 module _ (stored : List StoredFile) (number : ℕ) (name : NamedFile) (meta : FileMeta) (store : StoreState)
-    (old new : KeptFiles) (is : name.number ≡ number) (next : IsNext number old store)
+    (old new : KeptFiles) (is : name.number ≡ number) (next : IsNextFile number old store)
     (adopted : IsAdopted name meta store old new) where
   -- the file of the list has the number of the token
   file_is : adopted.file.number ≡ name.number
@@ -66,7 +66,7 @@ module _ (stored : List StoredFile) (number : ℕ) (name : NamedFile) (meta : Fi
     bytes_are = tells_stored stored name rest now old taken up tells
 
     -- what was read of it is of the points that are told of it
-    read_is : (told : Told) → IfSome name.bytes (λ bytes. (tree : Tree) → IsTree tree → IsMade tree → IsFile tree bytes
+    read_is : (told : ToldContents) → IfSome name.bytes (λ bytes. (tree : Tree) → IsTree tree → IsMade tree → IsFile tree bytes
         → IsMetaOf tree bytes meta) → IsKeptWhole stored told adopted.file → IsReadOf meta (told name.number)
     read_is told says whole =
         let same = bytes_are ∙ ap (kept_bytes stored) (sym file_is) ∙ whole.there in
@@ -89,9 +89,9 @@ module _ (stored : List StoredFile) (number : ℕ) (name : NamedFile) (meta : Fi
         → IsMetaOf tree bytes meta)
         → ((kept : List StoredFile) → TellTheirBytes old kept → name.bytes ≡ kept_bytes kept name.number
         → TellTheirBytes new kept)
-        → ((told : Told) → StoreInOrder told store → IsReadOf meta (told name.number) → AreDescribed told old
+        → ((told : ToldContents) → StoreInOrder told store → IsReadOf meta (told name.number) → AreDescribed told old
         → AreDescribed told new)
-        → AreTaken stored store old → IsTakingUp stored store new (Some now)
+        → AreTakenUp stored store old → IsTakingUp stored store new (Some now)
     taken_up whole says tell describe kept =
         let there = was_stored stored name rest now old taken up in
         let tree = subst (λ told. IfSome told (λ bytes. IsMetaOfTree bytes meta)) (bytes_are ∙ there) whole in
@@ -127,7 +127,7 @@ module _ (stored : List StoredFile) (number : ℕ) (name : NamedFile) (meta : Fi
       → IsMetaOf tree bytes meta)
       → ((kept : List StoredFile) → TellTheirBytes old kept → name.bytes ≡ kept_bytes kept name.number
       → TellTheirBytes new kept)
-      → ((told : Told) → StoreInOrder told store → IsReadOf meta (told name.number) → AreDescribed told old
+      → ((told : ToldContents) → StoreInOrder told store → IsReadOf meta (told name.number) → AreDescribed told old
       → AreDescribed told new)
       → IsTakingUp stored store old rest → IsTakingUp stored store new now
   takes_up None now taken tells whole says tell describe up = absurd up.others

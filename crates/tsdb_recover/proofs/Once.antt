@@ -8,7 +8,7 @@ use Rattle.tsdb_recover.proofs.Rest.{found_each, none_is_some}
 use Rattle.tsdb_recover.specs.Damage.{IsBadAt, IsDamagedFile, IsTreeFile}
 use Rattle.tsdb_outside.specs.Limits.{FitsSlot}
 use Rattle.tsdb_recover.specs.Taking.{HaveLengths}
-use Rattle.tsdb_state.specs.Stores.{Files}
+use Rattle.tsdb_state.specs.Stores.{BytesByNumber}
 use Rattle.tsdb_state.specs.State.{File, StoreState}
 use Rattle.tsfile_reader.proofs.Blames.{one_blame}
 
@@ -16,7 +16,7 @@ some_is : (a b : List ℕ) → Some a ≡ Some b → a ≡ b
 some_is a b same = cc
 
 -- a file that is that of a tree is not bad
-not_both : (files : Files) (file : File) (at : ℕ) → IsTreeFile files file → IsBadAt (files file.number) at → ⊥
+not_both : (files : BytesByNumber) (file : File) (at : ℕ) → IsTreeFile files file → IsBadAt (files file.number) at → ⊥
 not_both files file at whole bad = by (files file.number) refl bad
   where
     by : (found : Option (List ℕ)) → files file.number ≡ found → IsBadAt found at → ⊥
@@ -26,7 +26,7 @@ not_both files file at whole bad = by (files file.number) refl bad
         (subst (λ l. IsBadAt (Some l) at) (sym same) bad).0 whole.tree whole.is_tree whole.is_made whole.is_file
 
 -- where all listed files are those of trees, none is bad
-pub none_damaged : (files : Files) (store : StoreState) (number at : ℕ)
+pub none_damaged : (files : BytesByNumber) (store : StoreState) (number at : ℕ)
     → Each (IsTreeFile files) (store.sequence ++ store.unsequence) → IsDamagedFile files store number at → ⊥
 none_damaged files store number at all damaged =
     not_both files damaged.file at

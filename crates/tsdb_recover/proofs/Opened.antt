@@ -3,7 +3,7 @@ use Rattle.std.proofs.Common.{◌≡◌, ◌⊎◌, ◌∙◌, ℕ, List, [], Op
 use Rattle.std.proofs.Common.{sym, ap, subst}
 use Rattle.std.specs.Prelude.{IfErr, OnErr, OnOk}
 use Rattle.std.specs.List.{All}
-use Rattle.tsdb_recover.specs.Adopting.{HasAdoptedAll, IsAdoptingOf, files_of}
+use Rattle.tsdb_recover.specs.Adopting.{HasAdoptedAll, IsAdoptingOf, adopting_files}
 use Rattle.tsdb_recover.specs.declared.adopting.Adopting.{Adopting}
 use Rattle.tsdb_base.specs.declared.ids.FileNumber.{FileNumber}
 use Rattle.tsdb_state.specs.Stored.{kept_bytes}
@@ -16,9 +16,9 @@ use Rattle.tsdb_recover.specs.declared.fault.Part.{Part}
 use Rattle.tsdb_recover.proofs.Greatest.{IsListOf, below_end, stored_greatest}
 use Rattle.tsdb_recover.proofs.Rest.{found_contains, found_each, none_found}
 use Rattle.tsdb_recover.specs.Damage.{IsFileDamaged}
-use Rattle.tsdb_recover.specs.Taking.{AreAllTaken, AreGone, AreGoneIn, GoesOn, HasLeft, HasTaken}
-use Rattle.tsdb_recover.specs.Stored.{AreStored, IsNumbered}
-use Rattle.tsdb_recover.specs.Taking.{HasTakenUp, IsGreatest}
+use Rattle.tsdb_recover.specs.Taking.{AreAllTaken, AreGone, AreGoneIn, KeepsAdopting, HasLeft, HasTakenMore}
+use Rattle.tsdb_recover.specs.Stored.{AreStored, HasFileNumber}
+use Rattle.tsdb_recover.specs.Taking.{HasTakenUp, IsGreatestNumber}
 use Rattle.tsdb_recover.specs.Taking.{IsRest, IsTakingUp, rests_of}
 use Rattle.tsdb_state.specs.Stores.{Recorded}
 use Rattle.tsdb_state.specs.State.{StoreState}
@@ -55,46 +55,46 @@ none_left stored files list mid now are rest gone exact =
     by n None is None kept =
         still n (gone.others n) (rest.each n ∙ ap (λ k. rests_of k (kept_bytes stored n)) kept ∙ is)
     by n (Some bytes) is None kept =
-        gone.gone n ((exact n (found_each IsNumbered stored n bytes are.each is)).1
+        gone.gone n ((exact n (found_each HasFileNumber stored n bytes are.each is)).1
         (found_contains stored n bytes is)) kept
 
 module _ {F S R P : Type 0} (old new : Adopting F S R P) where
   all_taken : (rest mid now : Option (List StoredFile)) (list : List ℕ) (last : Option FileNumber)
-      → files_of old ≡ none_kept → HasTaken old new rest mid → AreGoneIn list (files_of new) mid now
-      → IfSome rest (λ files. IsListOf files list) → All IsFileNumber list → IsGreatest last list
+      → adopting_files old ≡ none_kept → HasTakenMore old new rest mid → AreGoneIn list (adopting_files new) mid now
+      → IfSome rest (λ files. IsListOf files list) → All IsFileNumber list → IsGreatestNumber last list
       → IfSome rest (λ stored. (recorded : Recorded) → IsAdoptingOf old recorded → AreStored stored
-      → AreAllTaken stored recorded.store (files_of new) last now)
+      → AreAllTaken stored recorded.store (adopting_files new) last now)
   all_taken None mid now list last none taken gone exact all is = tt
   all_taken (Some stored) mid now list last none taken gone exact all is = λ recorded adopting are.
       by recorded are mid now gone (taken stored recorded adopting (begun stored recorded.store
-      (files_of old) none are))
+      (adopting_files old) none are))
     where
       by : (recorded : Recorded) → AreStored stored → (mid now : Option (List StoredFile))
-          → AreGoneIn list (files_of new) mid now → IsTakingUp stored recorded.store (files_of new) mid
-          → AreAllTaken stored recorded.store (files_of new) last now
+          → AreGoneIn list (adopting_files new) mid now → IsTakingUp stored recorded.store (adopting_files new) mid
+          → AreAllTaken stored recorded.store (adopting_files new) last now
       by recorded are None now gone up = absurd up.others
       by recorded are (Some mid) None gone up = absurd gone
       by recorded are (Some mid) (Some now) gone up = record {
         taken = up.taken;
         greatest = stored_greatest last list stored is exact all are;
-        none = ap Some (none_left stored (files_of new) list mid now are up.others (gone up.others.are_stored) exact);
+        none = ap Some (none_left stored (adopting_files new) list mid now are up.others (gone up.others.are_stored) exact);
       }
 
   -- what a part that failed says of the damage
   abbrev Damages : Option (List StoredFile) → OpenFault → Type 0
   Damages rest answer = (part : Part) (at : ℕ) → answer ≡ fault.Damaged part at → (stored : List StoredFile)
-      (recorded : Recorded) → IsAdoptingOf old recorded → IsTakingUp stored recorded.store (files_of old) rest
+      (recorded : Recorded) → IsAdoptingOf old recorded → IsTakingUp stored recorded.store (adopting_files old) rest
       → IsFileDamaged (kept_bytes stored) recorded.store part at
 
-  damage_is : (rest : Option (List StoredFile)) (answer : OpenFault) → files_of old ≡ none_kept → Damages rest answer
+  damage_is : (rest : Option (List StoredFile)) (answer : OpenFault) → adopting_files old ≡ none_kept → Damages rest answer
       → (part : Part) (at : ℕ) → answer ≡ fault.Damaged part at → IfSome rest (λ stored. (recorded : Recorded)
       → IsAdoptingOf old recorded → AreStored stored → IsFileDamaged (kept_bytes stored) recorded.store part at)
   damage_is None answer none damages part at is = tt
   damage_is (Some stored) answer none damages part at is = λ recorded adopting are.
-      damages part at is stored recorded adopting (begun stored recorded.store (files_of old) none are)
+      damages part at is stored recorded adopting (begun stored recorded.store (adopting_files old) none are)
 
-  pub is_refused : (store : Store) (rest now : Option (List StoredFile)) (answer : OpenFault) → files_of old ≡ none_kept
-      → GoesOn store old new → Damages rest answer → HasLeft old new rest now answer
+  pub is_refused : (store : Store) (rest now : Option (List StoredFile)) (answer : OpenFault) → adopting_files old ≡ none_kept
+      → KeepsAdopting store old new → Damages rest answer → HasLeft old new rest now answer
       → HasTakenUp store old new rest now (Err answer)
   is_refused store rest now answer none goes damages left = record {
     left = left;
@@ -107,9 +107,9 @@ module _ {F S R P : Type 0} (old new : Adopting F S R P) where
   }
 
   pub is_taken_up : (store : Store) (rest mid now : Option (List StoredFile)) (list : List ℕ) (last : Option FileNumber)
-      → files_of old ≡ none_kept → GoesOn store old new → HasAdoptedAll new → HasTaken old new rest mid
-      → AreGoneIn list (files_of new) mid now → IfSome rest (λ files. IsListOf files list) → All IsFileNumber list
-      → IsGreatest last list → HasTakenUp store old new rest now (Ok last)
+      → adopting_files old ≡ none_kept → KeepsAdopting store old new → HasAdoptedAll new → HasTakenMore old new rest mid
+      → AreGoneIn list (adopting_files new) mid now → IfSome rest (λ files. IsListOf files list) → All IsFileNumber list
+      → IsGreatestNumber last list → HasTakenUp store old new rest now (Ok last)
   is_taken_up store rest mid now list last none goes all taken gone exact numbers is = record {
     goes_on = goes;
     all = all;

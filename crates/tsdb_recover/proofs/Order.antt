@@ -6,7 +6,7 @@ use Rattle.std.proofs.lemmas.List.Elements.{recursion_from_All}
 use Rattle.tsdb_recover.proofs.Says.{device_of_filled}
 use Rattle.tsdb_recover.specs.DescribedTrees.{filled_of, group_part, tree_part}
 use Rattle.tsdb_path.specs.Order.{AreNamesBefore}
-use Rattle.tsdb_flush.specs.Parts.{Filled, names_of}
+use Rattle.tsdb_flush.specs.Parts.{Filled, schema_names}
 use Rattle.tsdb_base.proofs.Lists.{among_left, among_map, among_right, each_among, each_both, each_left, each_map, each_right}
 use Rattle.tsdb_base.specs.Lists.{Among, EachPair}
 use Rattle.tsdb_memory.proofs.Counts.{among_either, pairs_append}
@@ -22,7 +22,7 @@ use Rattle.tsdb_path.specs.Nodes.{child_of, device_of, measurement_of}
 
 -- the one series comes before the other
 abbrev pub Comes : Filled → Filled → Type 0
-Comes a b = AreNamesBefore (names_of a.schema) (names_of b.schema)
+Comes a b = AreNamesBefore (schema_names a.schema) (schema_names b.schema)
 
 pub each_pair : {X : Type 0} (R : X → X → Type 0) (xs : List X) → AllPairs R xs → EachPair R xs
 each_pair R [] pairs = tt

@@ -9,36 +9,36 @@ use Rattle.tsdb_base.specs.declared.point.Point.{Point}
 use Rattle.tsdb_base.specs.declared.value.DataType.{DataType}
 use Rattle.tsdb_base.specs.declared.value.Value.{Value}
 use Rattle.tsdb_recover.proofs.DescribedParts.{content_of_part, tree_is_part}
-use Rattle.tsdb_recover.specs.DescribedTrees.{HavePaths, tree_part}
+use Rattle.tsdb_recover.specs.DescribedTrees.{HaveShortPaths, tree_part}
 use Rattle.tsdb_flush.specs.Parts.{Filled}
 use Rattle.tsdb_base.proofs.Lists.{each_among, each_from_among}
 use Rattle.tsdb_state.specs.Layers.{HasPoint, Layer}
 use Rattle.tsdb_base.specs.Lists.{Among}
-use Rattle.tsdb_state.specs.Places.{Content, Place}
+use Rattle.tsdb_state.specs.Places.{Content, PointPlace}
 use Rattle.tsdb_model.specs.declared.command.Schema.{Schema}
-use Rattle.tsdb_flush.specs.BuiltParts.{IsSeries}
-use Rattle.tsdb_memory.specs.Model.{IsFormed, IsSound}
-use Rattle.tsdb_memory.specs.Shown.{IsMemoryOf, entry_of}
-use Rattle.tsdb_memory.specs.Store.{Store}
+use Rattle.tsdb_flush.specs.BuiltParts.{IsFilledSeries}
+use Rattle.tsdb_memory.specs.Model.{IsFormed, IsSoundMemory}
+use Rattle.tsdb_memory.specs.Shown.{IsMemoryOf, series_entry}
+use Rattle.tsdb_memory.specs.Store.{MemoryState}
 use Rattle.tsdb_pages.specs.Trees.{IsMade, IsTree}
 use Rattle.tsdb_pages.specs.declared.tree.Tree.{Tree}
 use Rattle.tsdb_path.specs.Nodes.{IsPath}
-use Rattle.tsdb_state.specs.Stores.{IsContentOf}
-use Rattle.tsdb_state.specs.State.{File, StoreState, Told}
+use Rattle.tsdb_state.specs.Stores.{IsTreeContent}
+use Rattle.tsdb_state.specs.State.{File, StoreState, ToldContents}
 use Rattle.tsdb_state.specs.StoreOrder.{IsOfSeries, StoreInOrder}
 use Rattle.tsdb_state.specs.Views.{file_layers}
 
-has_left : (xs ys : List Layer) (place : Place) (value : Value) → HasPoint xs place value → HasPoint (xs ++ ys) place value
+has_left : (xs ys : List Layer) (place : PointPlace) (value : Value) → HasPoint xs place value → HasPoint (xs ++ ys) place value
 has_left [] ys place value has = absurd has
 has_left (x ∷ xs) ys place value (inl is) = inl is
 has_left (x ∷ xs) ys place value (inr has) = inr (has_left xs ys place value has)
 
-has_right : (xs ys : List Layer) (place : Place) (value : Value) → HasPoint ys place value → HasPoint (xs ++ ys) place value
+has_right : (xs ys : List Layer) (place : PointPlace) (value : Value) → HasPoint ys place value → HasPoint (xs ++ ys) place value
 has_right [] ys place value has = has
 has_right (x ∷ xs) ys place value has = inr (has_right xs ys place value has)
 
 -- a point of a listed file is one of the layers of its list
-in_layers : (told : Told) (files : List File) (file : File) (place : Place) (value : Value) → Among file files
+in_layers : (told : ToldContents) (files : List File) (file : File) (place : PointPlace) (value : Value) → Among file files
     → get (told file.number) place ≡ Some value → HasPoint (file_layers told files) place value
 in_layers told [] file place value among has = absurd among
 in_layers told (first ∷ files) file place value (inl is) has =
@@ -51,7 +51,7 @@ either (y ∷ xs) ys x (inl is) = inl (inl is)
 either (y ∷ xs) ys x (inr among) = ⊎_elim (λ a. inl (inr a)) (λ b. inr b) (either xs ys x among)
 
 -- a point of a listed file is of a series that was created
-of_series : (told : Told) (store : StoreState) (file : File) (place : Place) (value : Value) → StoreInOrder told store
+of_series : (told : ToldContents) (store : StoreState) (file : File) (place : PointPlace) (value : Value) → StoreInOrder told store
     → Among file (store.sequence ++ store.unsequence) → get (told file.number) place ≡ Some value
     → IsOfSeries store.schemas place.path (type_of value)
 of_series told store file place value order among has = order.series.typed place value
@@ -66,13 +66,13 @@ of_series told store file place value order among has = order.series.typed place
 
 -- a series that was created has a path
 created_path : (series : List Schema) (path : List ℕ) (data_type : DataType) → Each IsFormed series
-    → IsOfSeries (map entry_of series) path data_type → IsPath path
+    → IsOfSeries (map series_entry series) path data_type → IsPath path
 created_path [] path data_type formed of = absurd of
 created_path (schema ∷ series) path data_type formed (inl is) = subst IsPath is.0 formed.0.path
 created_path (schema ∷ series) path data_type formed (inr of) = created_path series path data_type formed.1 of
 
-pub place_has_path : (told : Told) (memory : Store) (store : StoreState) (file : File) (place : Place) (value : Value)
-    → IsSound memory → IsMemoryOf memory store → StoreInOrder told store
+pub place_has_path : (told : ToldContents) (memory : MemoryState) (store : StoreState) (file : File) (place : PointPlace) (value : Value)
+    → IsSoundMemory memory → IsMemoryOf memory store → StoreInOrder told store
     → Among file (store.sequence ++ store.unsequence) → get (told file.number) place ≡ Some value → IsPath place.path
 place_has_path told memory store file place value sound is order among has =
     created_path memory.series place.path (type_of value) (recursion_from_All IsFormed memory.series sound.formed)
@@ -84,11 +84,11 @@ first_point [] some = absurd (omega (arith, some))
 first_point (point ∷ points) some = (point, inl refl)
 
 -- the series of the file's tree have paths
-pub have_paths : (tree : Tree) (content : Content) → IsTree tree → IsMade tree → IsContentOf tree content
-    → ((place : Place) (value : Value) → get content place ≡ Some value → IsPath place.path) → HavePaths tree
+pub have_paths : (tree : Tree) (content : Content) → IsTree tree → IsMade tree → IsTreeContent tree content
+    → ((place : PointPlace) (value : Value) → get content place ≡ Some value → IsPath place.path) → HaveShortPaths tree
 have_paths tree content is made of all = each_from_among (λ (filled : Filled). IsPath filled.schema.path) (tree_part tree)
     (λ filled among.
-    let series = each_among IsSeries (tree_part tree) filled (tree_is_part tree is made).each among in
+    let series = each_among IsFilledSeries (tree_part tree) filled (tree_is_part tree is made).each among in
     let first = first_point filled.points series.some in
     all (record { path = filled.schema.path; time = first.0.time }) first.0.value
     ((content_of_part tree content of (record { path = filled.schema.path; time = first.0.time }) first.0.value).1

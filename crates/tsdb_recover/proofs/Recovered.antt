@@ -6,7 +6,7 @@ use Rattle.std.specs.Prelude.{IfErr, IfOk, IsErrAnd}
 use Rattle.std.specs.List.{All, AllByRecursion as Each}
 use Rattle.std.specs.Option.{IsSomeAnd}
 use Rattle.tsdb_recover.proofs.AdoptedCore.{same_wanted}
-use Rattle.tsdb_recover.specs.Adopting.{AreDescribed, IsAdoptingOf, files_of, opening_of}
+use Rattle.tsdb_recover.specs.Adopting.{AreDescribed, IsAdoptingOf, adopting_files, opening_of}
 use Rattle.tsdb_recover.specs.Known.{known_of}
 use Rattle.tsdb_recover.specs.declared.adopting.Adopting.{Adopting}
 use Rattle.tsdb_base.specs.declared.ids.FileNumber.{FileNumber}
@@ -47,7 +47,7 @@ use Rattle.tsdb_state.specs.Damage as log_damage
 use Rattle.tsdb_state.specs.Replays.{IsReplayOf, Replays}
 use Rattle.tsdb_state.specs.Stores.{IsSound, IsStateOf, IsStoreOf, Recorded, store_steps, store_steps_determinate}
 use Rattle.tsdb_state.specs.NewStore.{opened}
-use Rattle.tsdb_state.specs.State.{Told}
+use Rattle.tsdb_state.specs.State.{ToldContents}
 use Rattle.tsdb_state.specs.StoreOrder.{StoreInOrder}
 
 module _ {F S R P : Type 0} (old : Adopting F S R P) (opening : Opening)
@@ -56,13 +56,13 @@ module _ {F S R P : Type 0} (old : Adopting F S R P) (opening : Opening)
   pub has_opened : {J : Type 0} {means : disk.Ghosts J} {counts : counted.Ghosts J} (new : Adopting F S R P)
       (core : Core J F S R P means counts) (log : Frames J means counts) (store : Store)
       (rest now : Option (List StoredFile)) (last : Option FileNumber) → HasTakenUp store old new rest now (Ok last)
-      → ((items : List LogRecord) (recorded : Recorded) (kept : List StoredFile) (told : Told)
+      → ((items : List LogRecord) (recorded : Recorded) (kept : List StoredFile) (told : ToldContents)
       → IsLog log (map spelling items) None → All IsRecord items
       → Replays store_steps store_steps.new_store items recorded → IsAdoptingOf new recorded
       → StoreInOrder told recorded.store
       → Each (IsKeptWhole kept told) (recorded.store.sequence ++ recorded.store.unsequence)
-      → AreDescribed told (files_of new) → TellTheirBytes (files_of new) kept
-      → IsSeen core (record { items = items; kept = kept; told = told; known = known_of (files_of new) })
+      → AreDescribed told (adopting_files new) → TellTheirBytes (adopting_files new) kept
+      → IsSeen core (record { items = items; kept = kept; told = told; known = known_of (adopting_files new) })
       (opened (next_of core) recorded.store))
       → ((recorded : Recorded) → IsOpeningOf (opening_of new) recorded → next_of core ≡ next_number last recorded.named)
       → IfSome rest (λ stored. (items : List LogRecord) (recorded : Recorded) → IsReplay opening items recorded
@@ -74,7 +74,7 @@ module _ {F S R P : Type 0} (old : Adopting F S R P) (opening : Opening)
       let all = takes.taken recorded adopting are in
       record {
         seen = λ told is_log good order whole. record {
-          outside = record { items = items; kept = stored; told = told; known = known_of (files_of new) };
+          outside = record { items = items; kept = stored; told = told; known = known_of (adopting_files new) };
           kept = refl;
           told_is = refl;
           seen = seen items recorded stored told is_log good replay.replayed later order whole
@@ -82,8 +82,8 @@ module _ {F S R P : Type 0} (old : Adopting F S R P) (opening : Opening)
         };
         next = said_number last stored recorded.named (next_of core) all.greatest (next recorded later.opening);
         none = all.none;
-        whole = all_trees stored recorded.store (files_of new) later.first
-            (same_wanted (files_of new) (opening_of new) takes.all.recorded recorded takes.all.is.opening later.opening
+        whole = all_trees stored recorded.store (adopting_files new) later.first
+            (same_wanted (adopting_files new) (opening_of new) takes.all.recorded recorded takes.all.is.opening later.opening
             takes.all.all) all.taken.whole;
       }
 

@@ -10,9 +10,9 @@ use Rattle.tsdb_state.specs.Stored.{kept_bytes}
 use Rattle.tsdb_base.proofs.Lists.{each_append, each_both, each_left, each_middle, each_weaker, each_without, pairs_of_one}
 use Rattle.tsdb_base.proofs.Lists.{pairs_push, pairs_without}
 use Rattle.tsdb_base.specs.Lists.{EachPair}
-use Rattle.tsdb_outside.specs.Files.{StoredFile, numbers_of}
+use Rattle.tsdb_outside.specs.Files.{StoredFile, stored_file_numbers}
 use Rattle.tsdb_state.specs.Stores.{HoldsKept}
-use Rattle.tsdb_recover.specs.Stored.{AreStored, DifferInNumber, IsNumbered}
+use Rattle.tsdb_recover.specs.Stored.{AreStored, DifferInNumber, HasFileNumber}
 
 other_number : (a b : ℕ) → a ≢ b → nat_eq a b ≡ false
 other_number a b differ = by (nat_eq a b) refl
@@ -91,18 +91,18 @@ contains_found (f ∷ fs) file differ there =
 
 -- a file that is found is there
 pub found_contains : (files : List StoredFile) (n : ℕ) (bytes : List ℕ) → kept_bytes files n ≡ Some bytes
-    → Contains (numbers_of files) n
+    → Contains (stored_file_numbers files) n
 found_contains [] n bytes is = absurd (none_is_some bytes is)
 found_contains (f ∷ fs) n bytes is = by (nat_eq f.number n) refl (found_contains fs n bytes) is
   where
     here : (m : ℕ) (ms : List ℕ) → Contains (m ∷ ms) m
     here m ms = search rules
 
-    by : (b : Bool) → nat_eq f.number n ≡ b → (kept_bytes fs n ≡ Some bytes → Contains (numbers_of fs) n)
-        → found_bytes (cond b (Some f) (find (has_number n) fs)) ≡ Some bytes → Contains (f.number ∷ numbers_of fs) n
+    by : (b : Bool) → nat_eq f.number n ≡ b → (kept_bytes fs n ≡ Some bytes → Contains (stored_file_numbers fs) n)
+        → found_bytes (cond b (Some f) (find (has_number n) fs)) ≡ Some bytes → Contains (f.number ∷ stored_file_numbers fs) n
     by true same rest is =
-        subst (λ m. Contains (f.number ∷ numbers_of fs) m) (eqb-true f.number n same) (here f.number (numbers_of fs))
-    by false other rest is = Contains-append_right (f.number ∷ []) (numbers_of fs) n (rest is)
+        subst (λ m. Contains (f.number ∷ stored_file_numbers fs) m) (eqb-true f.number n same) (here f.number (stored_file_numbers fs))
+    by false other rest is = Contains-append_right (f.number ∷ []) (stored_file_numbers fs) n (rest is)
 
 -- and what holds of each file holds of it
 pub found_each : (P : StoredFile → Type 0) (files : List StoredFile) (n : ℕ) (bytes : List ℕ) → Each P files
@@ -161,7 +161,7 @@ module _ (before : List StoredFile) (file : StoredFile) (after : List StoredFile
   pub still_stored : AreStored (before ++ after)
   still_stored = record {
     differ = pairs_without DifferInNumber before file after are.differ;
-    each = each_without IsNumbered before file after are.each;
+    each = each_without HasFileNumber before file after are.each;
   }
 
   -- put back behind the others, it is found again
@@ -183,6 +183,6 @@ module _ (before : List StoredFile) (file : StoredFile) (after : List StoredFile
   stored_again = record {
     differ = pairs_push DifferInNumber (before ++ after) file still_stored.differ
         (each_weaker (DifferInNumber file) (λ f. DifferInNumber f file) (turn file) (before ++ after) apart);
-    each = each_append IsNumbered (before ++ after) (file ∷ []) still_stored.each
-        (each_middle IsNumbered before file after are.each, tt);
+    each = each_append HasFileNumber (before ++ after) (file ∷ []) still_stored.each
+        (each_middle HasFileNumber before file after are.each, tt);
   }

@@ -2,11 +2,11 @@
 use Rattle.std.proofs.Common.{◌≡◌, ℕ, ◌+◌, List, [], ◌∷◌, ◌++◌, length, map, sym, ap, ◌∙◌, subst}
 use Rattle.std.specs.List.{AllByRecursion as Each, AllZip, flat_map}
 use Rattle.std.proofs.lemmas.List.Elements.{recursion_from_All}
-use Rattle.tsdb_recover.specs.DescribedSteps.{Says}
+use Rattle.tsdb_recover.specs.DescribedSteps.{SaysSeries}
 use Rattle.tsdb_recover.specs.DescribedTrees.{filled_of, group_part, tree_part}
 use Rattle.tsdb_index.specs.declared.index.IndexEntry.{IndexEntry}
 use Rattle.tsdb_base.proofs.Lists.{each_left, each_right}
-use Rattle.tsdb_pages.specs.File.{AreEntries, AreEntriesIn, AreEntriesOf, IsEntry, chunk_field, group_field, group_head, head}
+use Rattle.tsdb_pages.specs.File.{AreEntries, AreEntriesIn, AreEntriesOf, IsChunkEntry, chunk_field, group_field, group_head, head}
 use Rattle.tsdb_pages.specs.Trees.{HasParts, IsChunk, IsGroup, IsMade, IsTree, chunks_of}
 use Rattle.tsdb_pages.specs.declared.tree.Chunk.{Chunk}
 use Rattle.tsdb_pages.specs.declared.tree.Group.{Group}
@@ -28,8 +28,8 @@ pub device_of_filled : (device : List ℕ) (chunk : Chunk) → HasParts chunk
 device_of_filled device chunk parts =
     device_of-child device chunk.measurement (IsNode-dotless chunk.measurement parts.measurement.node)
 
-says_of : (device : List ℕ) (place : ℕ) (chunk : Chunk) (entry : IndexEntry) → IsEntry device place chunk entry
-    → IsChunk chunk → HasParts chunk → Says entry (filled_of device chunk)
+says_of : (device : List ℕ) (place : ℕ) (chunk : Chunk) (entry : IndexEntry) → IsChunkEntry device place chunk entry
+    → IsChunk chunk → HasParts chunk → SaysSeries entry (filled_of device chunk)
 says_of device place chunk entry is good parts = record {
   path = ap (child_of device) (sym is.measurement_is) ∙ ap (λ d. child_of d entry.measurement) (sym is.device_is);
   device = device_of_filled device chunk parts ∙ sym is.device_is;
@@ -39,7 +39,7 @@ says_of device place chunk entry is good parts = record {
 
 chunks_say : (device : List ℕ) (place : ℕ) (chunks : List Chunk) (entries : List IndexEntry)
     → AreEntries device place chunks entries → Each IsChunk chunks → Each HasParts chunks
-    → AllZip Says entries (map (filled_of device) chunks)
+    → AllZip SaysSeries entries (map (filled_of device) chunks)
 chunks_say device place [] [] are good parts = tt
 chunks_say device place [] (entry ∷ entries) are good parts = absurd are
 chunks_say device place (chunk ∷ chunks) [] are good parts = absurd are
@@ -50,12 +50,12 @@ chunks_say device place (chunk ∷ chunks) (entry ∷ entries) are good parts = 
 
 groups_say : (place : ℕ) (groups : List Group) (by_group : List (List IndexEntry)) → AreEntriesOf place groups by_group
     → Each IsGroup groups → Each HasParts (chunks_of groups)
-    → AllZip Says (flat_map (λ list. list) by_group) (flat_map group_part groups)
+    → AllZip SaysSeries (flat_map (λ list. list) by_group) (flat_map group_part groups)
 groups_say place [] [] are good parts = tt
 groups_say place [] (entries ∷ others) are good parts = absurd are
 groups_say place (group ∷ groups) [] are good parts = absurd are
 groups_say place (group ∷ groups) (entries ∷ others) are good parts =
-    zip_append Says entries (group_part group) (flat_map (λ list. list) others) (flat_map group_part groups)
+    zip_append SaysSeries entries (group_part group) (flat_map (λ list. list) others) (flat_map group_part groups)
     (chunks_say group.device (place + length (group_head group)) group.chunks entries are.0
     (recursion_from_All IsChunk group.chunks good.0.chunks) (each_left HasParts group.chunks (chunks_of groups) parts))
     (groups_say (place + length (group_field group)) groups others are.1 good.1
@@ -63,7 +63,7 @@ groups_say place (group ∷ groups) (entries ∷ others) are good parts =
 
 -- each entry is that of the series at its place
 pub entries_say : (tree : Tree) (entries : List IndexEntry) → IsTree tree → IsMade tree → AreEntriesIn tree entries
-    → AllZip Says entries (tree_part tree)
-entries_say tree entries is made are = subst (λ list. AllZip Says list (tree_part tree)) are.all
+    → AllZip SaysSeries entries (tree_part tree)
+entries_say tree entries is made are = subst (λ list. AllZip SaysSeries list (tree_part tree)) are.all
     (groups_say (length head) tree.groups are.by_group are.say (recursion_from_All IsGroup tree.groups is.groups)
     (recursion_from_All HasParts (chunks_of tree.groups) made.chunks))

@@ -2,7 +2,7 @@
 use Rattle.std.proofs.Common.{◌≡◌, ◌∙◌, ◌+◌, ◌-◌, ◌<◌, ◌≤◌, List, length, map, Option, sym, ap, subst, arith}
 use Rattle.std.proofs.Common.{length-append}
 use Rattle.std.proofs.lemmas.List.{length-map}
-use Rattle.tsdb_recover.specs.Adopting.{AreFirst, AreFirstOf, IsAdoptingOf, files_of, opening_of}
+use Rattle.tsdb_recover.specs.Adopting.{AreFirst, AreFirstOf, IsAdoptingOf, adopting_files, opening_of}
 use Rattle.tsdb_recover.specs.declared.adopting.Adopting.{Adopting}
 use Rattle.tsdb_fileset.specs.Held.{listed}
 use Rattle.tsdb_fileset.specs.Files.{KeptFiles}
@@ -13,7 +13,7 @@ use Rattle.tsdb_redo.specs.declared.lists.ListedFile.{ListedFile}
 use Rattle.tsdb_redo.specs.declared.opening.Opening.{Opening}
 use Rattle.tsdb_outside.specs.Files.{Store, StoredFile}
 use Rattle.tsdb_plan.specs.declared.entry.FileEntry.{FileEntry}
-use Rattle.tsdb_recover.specs.Taking.{GoesOn, HasTaken, kept_count}
+use Rattle.tsdb_recover.specs.Taking.{KeepsAdopting, HasTakenMore, kept_count}
 use Rattle.tsdb_state.specs.Stores.{Recorded}
 use Rattle.tsdb_state.specs.State.{File}
 
@@ -37,34 +37,34 @@ few_kept opening recorded files is first =
     omega (arith, sequence, unsequence)
 
 module _ {F S R P : Type 0} where
-  pub goes_nowhere : (store : Store) (a : Adopting F S R P) → GoesOn store a a
+  pub goes_nowhere : (store : Store) (a : Adopting F S R P) → KeepsAdopting store a a
   goes_nowhere store a = record {
     opening = λ i. opening_of a;
     adopting = λ recorded is. is;
     of_store = λ are. are;
   }
 
-  pub goes_then : (store now : Store) (a b c : Adopting F S R P) → now ≡ store → GoesOn store a b → GoesOn now b c
-      → GoesOn store a c
+  pub goes_then : (store now : Store) (a b c : Adopting F S R P) → now ≡ store → KeepsAdopting store a b → KeepsAdopting now b c
+      → KeepsAdopting store a c
   goes_then store now a b c same one two = record {
     opening = two.opening ∙ one.opening;
     adopting = λ recorded is. two.adopting recorded (one.adopting recorded is);
-    of_store = λ are. subst (λ s. AreOfStore s (files_of c).places) same
-        (two.of_store (subst (λ s. AreOfStore s (files_of b).places) (sym same) (one.of_store are)));
+    of_store = λ are. subst (λ s. AreOfStore s (adopting_files c).places) same
+        (two.of_store (subst (λ s. AreOfStore s (adopting_files b).places) (sym same) (one.of_store are)));
   }
 
   pub takes_then : (store : Store) (a b c : Adopting F S R P) (rest mid now : Option (List StoredFile))
-      → GoesOn store a b
-      → HasTaken a b rest mid → HasTaken b c mid now → HasTaken a c rest now
+      → KeepsAdopting store a b
+      → HasTakenMore a b rest mid → HasTakenMore b c mid now → HasTakenMore a c rest now
   takes_then store a b c rest mid now goes one two =
       λ stored recorded is up. two stored recorded (goes.adopting recorded is) (one stored recorded is up)
 
   -- fewer files are left
   pub fewer_left : (store now : Store) (a b c : Adopting F S R P) (recorded : Recorded) → IsAdoptingOf a recorded
-      → GoesOn store a b → GoesOn now b c → kept_count (files_of c) ≡ kept_count (files_of b) + 1
-      → listed_in (opening_of c) - kept_count (files_of c) < listed_in (opening_of b) - kept_count (files_of b)
+      → KeepsAdopting store a b → KeepsAdopting now b c → kept_count (adopting_files c) ≡ kept_count (adopting_files b) + 1
+      → listed_in (opening_of c) - kept_count (adopting_files c) < listed_in (opening_of b) - kept_count (adopting_files b)
   fewer_left store now a b c recorded is one two more =
       let later = two.adopting recorded (one.adopting recorded is) in
-      let few = few_kept (opening_of c) recorded (files_of c) later.opening later.first in
+      let few = few_kept (opening_of c) recorded (adopting_files c) later.opening later.first in
       let same = ap listed_in two.opening in
       omega (arith, few, same, more)

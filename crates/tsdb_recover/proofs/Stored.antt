@@ -7,33 +7,33 @@ use Rattle.std.proofs.lemmas.Bool.{false≢true}
 use Rattle.std.proofs.lemmas.Bool.Decides.{nat_tests}
 use Rattle.std.specs.List.{AllByRecursion as Each, IsDistinct, list_any}
 use Rattle.std.specs.Prelude.{IfSome, ◌||◌}
-use Rattle.tsdb_fileset.specs.Closing.{AreRising}
+use Rattle.tsdb_fileset.specs.Closing.{AreNumbersRising}
 use Rattle.tsdb_fileset.proofs.StoredPlaces.{differing, each_stored, stored_at}
 use Rattle.tsdb_fileset.specs.Places.{KeptFile, Places}
 use Rattle.tsdb_base.proofs.Lists.{each_map, each_weaker}
 use Rattle.tsdb_base.specs.Lists.{EachPair}
-use Rattle.tsdb_outside.specs.Files.{IsFileNumber, StoredFile, numbers_of}
-use Rattle.tsdb_recover.specs.Stored.{AreStored, DifferInNumber, IsNumbered}
+use Rattle.tsdb_outside.specs.Files.{IsFileNumber, StoredFile, stored_file_numbers}
+use Rattle.tsdb_recover.specs.Stored.{AreStored, DifferInNumber, HasFileNumber}
 
 -- files of rising numbers are stored as files are
-pub places_stored : (places : Places) → AreRising places
+pub places_stored : (places : Places) → AreNumbersRising places
     → Each (λ (place : ℕ × Option KeptFile). IfSome place.1 (λ file. IsFileNumber place.0)) places
     → AreStored (stored_at places)
 places_stored places rising numbers = record {
   differ = differing places rising;
-  each = each_stored IsNumbered places (each_weaker
+  each = each_stored HasFileNumber places (each_weaker
       (λ (place : ℕ × Option KeptFile). IfSome place.1 (λ file. IsFileNumber place.0))
       (λ (place : ℕ × Option KeptFile). IfSome place.1 (λ file. (bytes : List ℕ) → file.name.bytes ≡ Some bytes
-      → IsNumbered (record { number = place.0; bytes = bytes }))) numbered places numbers);
+      → HasFileNumber (record { number = place.0; bytes = bytes }))) numbered places numbers);
 }
   where
     numbered : (place : ℕ × Option KeptFile) → IfSome place.1 (λ file. IsFileNumber place.0)
         → IfSome place.1 (λ file. (bytes : List ℕ) → file.name.bytes ≡ Some bytes
-        → IsNumbered (record { number = place.0; bytes = bytes }))
+        → HasFileNumber (record { number = place.0; bytes = bytes }))
     numbered (n, None) is = tt
     numbered (n, Some file) is = λ bytes told. is
 
-distinct : (files : List StoredFile) → EachPair DifferInNumber files → IsDistinct nat_eq (numbers_of files)
+distinct : (files : List StoredFile) → EachPair DifferInNumber files → IsDistinct nat_eq (stored_file_numbers files)
 unfolding IsDistinct
 distinct [] differ = tt
 distinct (file ∷ files) differ = (
@@ -49,13 +49,13 @@ distinct (file ∷ files) differ = (
 equal : (a b : ℕ) → nat_eq a b ≡ true → a ≡ b
 equal a b e = grind (arith, nat_tests, e)
 
-in_files : (files : List StoredFile) (q : ℕ) → Each IsNumbered files → list_any (nat_eq q) (numbers_of files) ≡ true
+in_files : (files : List StoredFile) (q : ℕ) → Each HasFileNumber files → list_any (nat_eq q) (stored_file_numbers files) ≡ true
     → q < 2 ^ 63
 in_files [] q all is = absurd (false≢true is)
 in_files (file ∷ files) q all is = by (nat_eq q file.number) refl (in_files files q all.1) is
   where
-    by : (b : Bool) → nat_eq q file.number ≡ b → (list_any (nat_eq q) (numbers_of files) ≡ true → q < 2 ^ 63)
-        → (b || list_any (nat_eq q) (numbers_of files)) ≡ true → q < 2 ^ 63
+    by : (b : Bool) → nat_eq q file.number ≡ b → (list_any (nat_eq q) (stored_file_numbers files) ≡ true → q < 2 ^ 63)
+        → (b || list_any (nat_eq q) (stored_file_numbers files)) ≡ true → q < 2 ^ 63
     by true same rest is = let high = all.0.high in omega (arith, high, equal q file.number same)
     by false other rest is = rest is
 
@@ -63,9 +63,9 @@ in_files (file ∷ files) q all is = by (nat_eq q file.number) refl (in_files fi
 pub few_stored : (files : List StoredFile) → AreStored files → length files < 2 ^ 63
 unfolding IsDistinct
 few_stored files are =
-    let many = length-le_from_distinct_below (0 ∷ numbers_of files) (2 ^ 63) (
+    let many = length-le_from_distinct_below (0 ∷ stored_file_numbers files) (2 ^ 63) (
       each_map (λ n. nat_eq 0 n ≡ false) (λ (file : StoredFile). file.number) files
-          (each_weaker IsNumbered (λ file. nat_eq 0 file.number ≡ false) (λ file is. not_zero file.number is.low) files
+          (each_weaker HasFileNumber (λ file. nat_eq 0 file.number ≡ false) (λ file is. not_zero file.number is.low) files
           are.each),
       distinct files are.differ,
     ) below in
@@ -74,9 +74,9 @@ few_stored files are =
     not_zero : (n : ℕ) → 1 ≤ n → nat_eq 0 n ≡ false
     not_zero n low = grind (arith, nat_tests, low)
 
-    below : (q : ℕ) → list_any (nat_eq q) (0 ∷ numbers_of files) ≡ true → q < 2 ^ 63
+    below : (q : ℕ) → list_any (nat_eq q) (0 ∷ stored_file_numbers files) ≡ true → q < 2 ^ 63
     below q is = by (nat_eq q 0) refl is
       where
-        by : (b : Bool) → nat_eq q 0 ≡ b → (b || list_any (nat_eq q) (numbers_of files)) ≡ true → q < 2 ^ 63
+        by : (b : Bool) → nat_eq q 0 ≡ b → (b || list_any (nat_eq q) (stored_file_numbers files)) ≡ true → q < 2 ^ 63
         by true same is = omega (arith, equal q 0 same)
         by false other is = in_files files q are.each is

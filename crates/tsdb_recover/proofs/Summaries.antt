@@ -11,7 +11,7 @@ use Rattle.tsdb_base.specs.declared.value.Value.{Value}
 use Rattle.tsdb_base.specs.declared.value.Value.TheVariants as value
 use Rattle.tsdb_recover.proofs.Order.{Comes, tree_rises}
 use Rattle.tsdb_recover.proofs.Says.{entries_say}
-use Rattle.tsdb_recover.specs.DescribedSteps.{AddsHull, AddsPath, IsSummary, Says}
+use Rattle.tsdb_recover.specs.DescribedSteps.{AddsHull, AddsPath, IsSummary, SaysSeries}
 use Rattle.tsdb_recover.specs.DescribedTrees.{tree_part}
 use Rattle.tsdb_recover.specs.declared.summary.Summary.{Summary}
 use Rattle.tsdb_flush.proofs.PartsInMaking.{before_middle}
@@ -77,7 +77,7 @@ paths_more : (part : List Filled) (filled : Filled) → paths_of (part ++ filled
 paths_more [] filled = refl
 paths_more (f ∷ part) filled = ap (λ (l : List (List ℕ)). f.schema.path ∷ l) (paths_more part filled)
 
-pub summary_more : (part : List Filled) (filled : Filled) (entry : IndexEntry) (old new : Summary) → Says entry filled
+pub summary_more : (part : List Filled) (filled : Filled) (entry : IndexEntry) (old new : Summary) → SaysSeries entry filled
     → ComeBefore part filled.schema → IsSummary part old → new.points ≡ old.points + entry.stats.count
     → AddsHull entry old.hulls.items new.hulls.items → AddsPath entry old.series.items new.series.items
     → IsSummary (part ++ filled ∷ []) new
@@ -95,7 +95,7 @@ summary_more part filled entry old new says before is count hull path = record {
 
 -- what is summed up are the first entries, whatever series in order they are of
 abbrev pub HasSummed : List IndexEntry → ℕ → Summary → Type 0
-HasSummed entries place summary = (part : List Filled) → AllZip Says (take place entries) part → EachPair Comes part
+HasSummed entries place summary = (part : List Filled) → AllZip SaysSeries (take place entries) part → EachPair Comes part
     → IsSummary part summary
 
 pub none_summed : (entries : List IndexEntry) (summary : Summary) → IsSummary [] summary → HasSummed entries 0 summary
@@ -128,7 +128,7 @@ zip_last R (w ∷ xs) x (y ∷ ys) zip =
 
 pub one_summed : (entries : List IndexEntry) (place : ℕ) (entry : IndexEntry) (old new : Summary)
     → place < length entries → get_or entries place entry ≡ entry
-    → ((part : List Filled) (filled : Filled) → Says entry filled → ComeBefore part filled.schema → IsSummary part old
+    → ((part : List Filled) (filled : Filled) → SaysSeries entry filled → ComeBefore part filled.schema → IsSummary part old
     → IsSummary (part ++ filled ∷ []) new)
     → HasSummed entries place old → HasSummed entries (place + 1) new
 one_summed entries place entry old new within at step summed = λ part zip pairs.
@@ -136,7 +136,7 @@ one_summed entries place entry old new within at step summed = λ part zip pairs
     let more : take (place + 1) entries ≡ take place entries ++ entry ∷ [] =
     ap (λ (n : ℕ). take n entries) (sym next) ∙ take-suc entries place entry within
     ∙ ap (λ (e : IndexEntry). take place entries ++ e ∷ []) at in
-    let ends = zip_last Says (take place entries) entry part (subst (λ l. AllZip Says l part) more zip) in
+    let ends = zip_last SaysSeries (take place entries) entry part (subst (λ l. AllZip SaysSeries l part) more zip) in
     let split : EachPair Comes (ends.front ++ ends.last ∷ []) = subst (EachPair Comes) ends.is pairs in
     subst (λ p. IsSummary p new) (sym ends.is)
     (step ends.front ends.last ends.here (before_middle Comes ends.front ends.last [] split)
@@ -146,5 +146,5 @@ pub all_summed : (entries : List IndexEntry) (place : ℕ) (summary : Summary) �
     → HasSummed entries place summary → (tree : Tree) → IsTree tree → IsMade tree → AreEntriesIn tree entries
     → IsSummary (tree_part tree) summary
 all_summed entries place summary behind summed tree is made are = summed (tree_part tree)
-    (subst (λ l. AllZip Says l (tree_part tree)) (sym (take_all place entries behind))
+    (subst (λ l. AllZip SaysSeries l (tree_part tree)) (sym (take_all place entries behind))
     (entries_say tree entries is made are)) (tree_rises tree is made)

@@ -6,14 +6,14 @@ use Rattle.std.specs.List.{AllByRecursion as Each}
 use Rattle.tsdb_recover.proofs.Counting.{differ, not_kept}
 use Rattle.tsdb_recover.proofs.First.{first_more, wanted_is}
 use Rattle.tsdb_recover.proofs.Numbers.{replay_numbers}
-use Rattle.tsdb_recover.specs.Adopting.{AreDescribed, AreFirst, AreFirstOf, Describe, IsFree, TakesUp, next_in}
+use Rattle.tsdb_recover.specs.Adopting.{AreDescribed, AreFirst, AreFirstOf, Describe, HasNoClaim, TakesUp, next_in}
 use Rattle.tsdb_recover.specs.Adopting.{wanted_file}
-use Rattle.tsdb_recover.specs.Steps.{KeepsFiles}
+use Rattle.tsdb_recover.specs.Steps.{KeepsFileLists}
 use Rattle.tsdb_base.specs.declared.ids.Space.{Space}
 use Rattle.tsdb_base.specs.declared.ids.Space.TheVariants.{Sequence, Unsequence}
 use Rattle.tsdb_fileset.specs.Held.{entry_of, listed}
 use Rattle.tsdb_fileset.proofs.Counts.{counted}
-use Rattle.tsdb_fileset.specs.Files.{AreKept, KeptFiles, entry_numbers, kept_file, numbers_of, outgoing_numbers}
+use Rattle.tsdb_fileset.specs.Files.{AreKept, KeptFiles, entry_numbers, kept_file, all_numbers, outgoing_numbers}
 use Rattle.tsdb_fileset.specs.Places.{AreOfStore, KeptFile}
 use Rattle.tsdb_base.proofs.Lists.{among_left, among_map, among_right, any_among, each_among, each_append, each_from_among}
 use Rattle.tsdb_base.specs.Lists.{Among, if_some}
@@ -24,16 +24,16 @@ use Rattle.tsdb_state.specs.Replays.{Replays}
 use Rattle.tsdb_state.specs.Stores.{Recorded, store_steps}
 use Rattle.tsdb_state.proofs.Counting.{is_or_not}
 use Rattle.tsdb_state.specs.Jobs.{Describes}
-use Rattle.tsdb_state.specs.State.{File, StoreState, Told}
+use Rattle.tsdb_state.specs.State.{File, StoreState, ToldContents}
 
-in_sequence : (files : KeptFiles) (entry : FileEntry) → Among entry files.sequence → Among entry.number.0 (numbers_of files)
+in_sequence : (files : KeptFiles) (entry : FileEntry) → Among entry files.sequence → Among entry.number.0 (all_numbers files)
 in_sequence files entry there = among_left (entry_numbers files.sequence ++ entry_numbers files.unsequence)
     (outgoing_numbers files.outgoing) entry.number.0
     (among_left (entry_numbers files.sequence) (entry_numbers files.unsequence) entry.number.0
     (among_map (λ (entry : FileEntry). entry.number.0) files.sequence entry there))
 
 in_unsequence : (files : KeptFiles) (entry : FileEntry) → Among entry files.unsequence
-    → Among entry.number.0 (numbers_of files)
+    → Among entry.number.0 (all_numbers files)
 in_unsequence files entry there = among_left (entry_numbers files.sequence ++ entry_numbers files.unsequence)
     (outgoing_numbers files.outgoing) entry.number.0
     (among_right (entry_numbers files.sequence) (entry_numbers files.unsequence) entry.number.0
@@ -41,10 +41,10 @@ in_unsequence files entry there = among_left (entry_numbers files.sequence ++ en
 
 -- a file that is not kept has none of the numbers of the kept ones
 number_differs : (files : KeptFiles) (number other : ℕ) → AreKept files → kept_file number files ≡ None
-    → Among other (numbers_of files) → number ≢ other
+    → Among other (all_numbers files) → number ≢ other
 number_differs files number other kept free among same =
-    let some = counted other (numbers_of files)
-    (any_among (nat_eq other) (numbers_of files) other among (eq-eqb other other refl)) in
+    let some = counted other (all_numbers files)
+    (any_among (nat_eq other) (all_numbers files) other among (eq-eqb other other refl)) in
     let none : length (if_some (kept_file other files)) ≡ 0 =
     ap (λ found. length (if_some found)) (subst (λ n. kept_file n files ≡ None) same free) in
     omega (arith, some, none, kept other)
@@ -62,7 +62,7 @@ module _ (space : Space) (entry : FileEntry) (token : KeptFile) (old new : KeptF
   -- what holds of the entries of a list goes on to hold
   still : (P : FileEntry → KeptFile → Type 0) (entries : List FileEntry) → AreKept old
       → kept_file entry.number.0 old ≡ None
-      → ((other : FileEntry) → Among other entries → Among other.number.0 (numbers_of old))
+      → ((other : FileEntry) → Among other entries → Among other.number.0 (all_numbers old))
       → Each (λ other. IfSome (kept_file other.number.0 old) (P other)) entries
       → Each (λ other. IfSome (kept_file other.number.0 new) (P other)) entries
   still P entries kept free among all = each_from_among _ entries (λ other there.
@@ -75,7 +75,7 @@ module _ (space : Space) (entry : FileEntry) (token : KeptFile) (old new : KeptF
   here_too P this = subst (λ found. IfSome found (P entry)) (sym taken.here) this
 
 -- the entries go on to say the points of their files
-pub described_more : (told : Told) (space : Space) (entry : FileEntry) (token : KeptFile) (old new : KeptFiles)
+pub described_more : (told : ToldContents) (space : Space) (entry : FileEntry) (token : KeptFile) (old new : KeptFiles)
     → TakesUp space entry token old new → AreKept old → kept_file entry.number.0 old ≡ None → AreDescribed told old
     → Describes (entry_of entry token.series) (told entry.number.0) → AreDescribed told new
 described_more told Sequence entry token old new taken kept free are says =
@@ -106,7 +106,7 @@ listed_is entry file number born = λ i. record { number = number i; born = born
 -- the kept files are the first of the lists, with one more
 pub first_with : (store : StoreState) (space : Space) (file : File) (entry : FileEntry) (token : KeptFile)
     (old new : KeptFiles) → TakesUp space entry token old new → wanted_file old store ≡ Some (space, file)
-    → entry.number.0 ≡ file.number → entry.born.0 ≡ file.born → IsFree entry → token.rights ≡ 0 → AreFirstOf old store
+    → entry.number.0 ≡ file.number → entry.born.0 ≡ file.born → HasNoClaim entry → token.rights ≡ 0 → AreFirstOf old store
     → AreFirstOf new store
 first_with store Sequence file entry token old new taken wanted number born free unread first = record {
   sequence = subst (λ l. AreFirst (map listed l) store.sequence) (sym taken.list.0)
@@ -115,9 +115,9 @@ first_with store Sequence file entry token old new taken wanted number born free
       (listed_is entry file number born));
   unsequence = subst (λ l. AreFirst (map listed l) store.unsequence) (sym taken.list.1) first.unsequence;
   free = record {
-    sequence = subst (Each IsFree) (sym taken.list.0)
-        (each_append IsFree old.sequence (entry ∷ []) first.free.sequence (free, tt));
-    unsequence = subst (Each IsFree) (sym taken.list.1) first.free.unsequence;
+    sequence = subst (Each HasNoClaim) (sym taken.list.0)
+        (each_append HasNoClaim old.sequence (entry ∷ []) first.free.sequence (free, tt));
+    unsequence = subst (Each HasNoClaim) (sym taken.list.1) first.free.unsequence;
   };
   outgoing = taken.outgoing ∙ first.outgoing;
   unread = of_each Sequence entry token old new taken (λ n (f : KeptFile). f.rights ≡ 0) first.unread unread;
@@ -129,36 +129,36 @@ first_with store Unsequence file entry token old new taken wanted number born fr
       (wanted_is (next_in Sequence old store) (next_in Unsequence old store) Unsequence file wanted)
       (listed_is entry file number born));
   free = record {
-    sequence = subst (Each IsFree) (sym taken.list.0) first.free.sequence;
-    unsequence = subst (Each IsFree) (sym taken.list.1)
-        (each_append IsFree old.unsequence (entry ∷ []) first.free.unsequence (free, tt));
+    sequence = subst (Each HasNoClaim) (sym taken.list.0) first.free.sequence;
+    unsequence = subst (Each HasNoClaim) (sym taken.list.1)
+        (each_append HasNoClaim old.unsequence (entry ∷ []) first.free.unsequence (free, tt));
   };
   outgoing = taken.outgoing ∙ first.outgoing;
   unread = of_each Unsequence entry token old new taken (λ n (f : KeptFile). f.rights ≡ 0) first.unread unread;
 }
 
 -- where no file comes or goes, the first files stay
-pub first_same : (store : StoreState) (old new : KeptFiles) → KeepsFiles old new → AreFirstOf old store
+pub first_same : (store : StoreState) (old new : KeptFiles) → KeepsFileLists old new → AreFirstOf old store
     → AreFirstOf new store
 first_same store old new keeps first = record {
   sequence = subst (λ l. AreFirst (map listed l) store.sequence) (sym keeps.lists.sequence) first.sequence;
   unsequence = subst (λ l. AreFirst (map listed l) store.unsequence) (sym keeps.lists.unsequence) first.unsequence;
   free = record {
-    sequence = subst (Each IsFree) (sym keeps.lists.sequence) first.free.sequence;
-    unsequence = subst (Each IsFree) (sym keeps.lists.unsequence) first.free.unsequence;
+    sequence = subst (Each HasNoClaim) (sym keeps.lists.sequence) first.free.sequence;
+    unsequence = subst (Each HasNoClaim) (sym keeps.lists.unsequence) first.free.unsequence;
   };
   outgoing = keeps.lists.outgoing ∙ first.outgoing;
   unread = λ n. subst (λ found. IfSome found (λ (f : KeptFile). f.rights ≡ 0)) (sym (keeps.places.files n)) (first.unread n);
 }
 
-pub store_same : (store : Store) (old new : KeptFiles) → KeepsFiles old new → AreOfStore store old.places
+pub store_same : (store : Store) (old new : KeptFiles) → KeepsFileLists old new → AreOfStore store old.places
     → AreOfStore store new.places
 store_same store old new keeps are = λ n.
     subst (λ found. IfSome found (λ (f : KeptFile). f.name.store ≡ store)) (sym (keeps.places.files n)) (are n)
 
 -- places are made, and then a file is taken up
 pub taken_from : (space : Space) (entry : FileEntry) (token : KeptFile) (old made new : KeptFiles)
-    → KeepsFiles old made → TakesUp space entry token made new → TakesUp space entry token old new
+    → KeepsFileLists old made → TakesUp space entry token made new → TakesUp space entry token old new
 taken_from Sequence entry token old made new keeps taken = record {
   list = (taken.list.0 ∙ ap (λ l. l ++ entry ∷ []) keeps.lists.sequence, taken.list.1 ∙ keeps.lists.unsequence);
   outgoing = taken.outgoing ∙ keeps.lists.outgoing;

@@ -19,7 +19,7 @@ use Rattle.tsdb_plan.specs.declared.entry.FileEntry.{FileEntry}
 use Rattle.tsdb_recover.specs.Files.{IsDamagedAmong}
 use Rattle.tsdb_recover.proofs.Rest.{contains_found, found_contains, none_is_some}
 use Rattle.tsdb_recover.specs.Damage.{IsBadAt, IsDamagedFile, IsTreeFile}
-use Rattle.tsdb_recover.specs.Taking.{IsNext, IsRestIn, rests_of}
+use Rattle.tsdb_recover.specs.Taking.{IsNextFile, IsRestIn, rests_of}
 use Rattle.tsdb_recover.specs.Stored.{AreStored}
 use Rattle.tsdb_state.specs.State.{File, StoreState}
 
@@ -38,7 +38,7 @@ late_wanted (Some x) late file is =
 -- ---- the number of the wanted file
 
 pub next_is : (number : ℕ) (files : KeptFiles) (store : StoreState) (wanted : Space × File)
-    → wanted_file files store ≡ Some wanted → IsNext number files store → wanted.1.number ≡ number
+    → wanted_file files store ≡ Some wanted → IsNextFile number files store → wanted.1.number ≡ number
 next_is number files store wanted is next = by (wanted_file files store) is next
   where
     by : (found : Option (Space × File)) → found ≡ Some wanted → IsSomeAnd found (λ w. w.1.number ≡ number)
@@ -144,7 +144,7 @@ module _ (stored : List StoredFile) (store : StoreState) where
         bad = bad;
       }
 
-  pub damaged_next : (files : KeptFiles) (number at : ℕ) → AreFirstOf files store → IsNext number files store
+  pub damaged_next : (files : KeptFiles) (number at : ℕ) → AreFirstOf files store → IsNextFile number files store
       → Are files → IsBadAt (kept_bytes stored number) at → IsDamagedFile (kept_bytes stored) store number at
   damaged_next files number at first next all bad = by (wanted_file files store) refl
     where

@@ -5,10 +5,10 @@ use Rattle.std.specs.Option.{IsSomeAnd, option_map}
 use Rattle.tsdb_recover.specs.declared.adopting.Adopting.{Adopting}
 use Rattle.tsdb_base.specs.declared.ids.Space.{Space}
 use Rattle.tsdb_base.specs.declared.ids.Space.TheVariants.{Sequence, Unsequence}
-use Rattle.tsdb_recover.specs.DescribedTrees.{HavePaths, tree_part}
+use Rattle.tsdb_recover.specs.DescribedTrees.{HaveShortPaths, tree_part}
 use Rattle.tsdb_fileset.specs.Held.{entry_of, listed}
 use Rattle.tsdb_index.specs.declared.index.FileMeta.{FileMeta}
-use Rattle.tsdb_flush.specs.Built.{IsEntryOf, paths_of}
+use Rattle.tsdb_flush.specs.Built.{IsFileEntryOf, paths_of}
 use Rattle.tsdb_fileset.specs.Files.{Appends, KeptFiles, entries_in, kept_file}
 use Rattle.tsdb_fileset.specs.Places.{AreUnread, KeptFile}
 use Rattle.tsdb_state.specs.Places.{Content}
@@ -18,9 +18,9 @@ use Rattle.tsdb_redo.specs.declared.opening.Opening.{Opening}
 use Rattle.tsdb_outside.specs.Files.{NamedFile}
 use Rattle.tsdb_plan.specs.declared.entry.FileEntry.{FileEntry}
 use Rattle.tsdb_state.specs.Replays.{Replays}
-use Rattle.tsdb_state.specs.Stores.{IsContentOf, Recorded, store_steps}
+use Rattle.tsdb_state.specs.Stores.{IsTreeContent, Recorded, store_steps}
 use Rattle.tsdb_state.specs.Jobs.{Describes}
-use Rattle.tsdb_state.specs.State.{File, StoreState, Told}
+use Rattle.tsdb_state.specs.State.{File, StoreState, ToldContents}
 use Rattle.tsfile_reader.specs.Blame.{IsMetaOfTree}
 
 -- the first file of the list that is not taken up
@@ -42,19 +42,19 @@ pub record AreFirst (files list : List File) : Type 0 where
   pub is : list ≡ files ++ others
 
 -- no job has claimed the file
-abbrev pub IsFree : FileEntry → Type 0
-IsFree entry = entry.claimed ≡ false
+abbrev pub HasNoClaim : FileEntry → Type 0
+HasNoClaim entry = entry.claimed ≡ false
 
 -- the same of all listed files
-pub record AreFree (files : KeptFiles) : Type 0 where
-  pub sequence : Each IsFree files.sequence
-  pub unsequence : Each IsFree files.unsequence
+pub record HaveNoClaims (files : KeptFiles) : Type 0 where
+  pub sequence : Each HasNoClaim files.sequence
+  pub unsequence : Each HasNoClaim files.unsequence
 
 -- the files that are kept are the first of each list; none is claimed or on its way out, and no right to read one is out
 pub record AreFirstOf (files : KeptFiles) (store : StoreState) : Type 0 where
   pub sequence : AreFirst (map listed files.sequence) store.sequence
   pub unsequence : AreFirst (map listed files.unsequence) store.unsequence
-  pub free : AreFree files
+  pub free : HaveNoClaims files
   pub outgoing : files.outgoing ≡ []
   pub unread : AreUnread files.places
 
@@ -64,27 +64,27 @@ module _ {F S R P : Type 0} where
   opening_of adopting = adopting.opening
 
   -- the files that are taken up
-  abbrev pub files_of : Adopting F S R P → KeptFiles
-  files_of adopting = adopting.files
+  abbrev pub adopting_files : Adopting F S R P → KeptFiles
+  adopting_files adopting = adopting.files
 
   -- records of a log have led to the state, and the first of its listed files are kept
   pub record IsAdoptingOf (adopting : Adopting F S R P) (recorded : Recorded) : Type 0 where
     pub opening : IsOpeningOf (opening_of adopting) recorded
     pub items : List LogRecord
     pub replayed : Replays store_steps store_steps.new_store items recorded
-    pub first : AreFirstOf (files_of adopting) recorded.store
+    pub first : AreFirstOf (adopting_files adopting) recorded.store
 
   -- the file of this number is the one that is taken up next
   pub record MayAdopt (number : ℕ) (adopting : Adopting F S R P) : Type 0 where
     pub recorded : Recorded
     pub is : IsAdoptingOf adopting recorded
-    pub wanted : IsSomeAnd (wanted_file (files_of adopting) recorded.store) (λ wanted. wanted.1.number ≡ number)
+    pub wanted : IsSomeAnd (wanted_file (adopting_files adopting) recorded.store) (λ wanted. wanted.1.number ≡ number)
 
   -- all listed files are kept
   pub record HasAdoptedAll (adopting : Adopting F S R P) : Type 0 where
     pub recorded : Recorded
     pub is : IsAdoptingOf adopting recorded
-    pub all : wanted_file (files_of adopting) recorded.store ≡ None
+    pub all : wanted_file (adopting_files adopting) recorded.store ≡ None
 
 -- a file goes to the end of its list with its token, and all others stay
 pub record TakesUp (space : Space) (entry : FileEntry) (token : KeptFile) (old new : KeptFiles) : Type 0 where
@@ -97,10 +97,10 @@ pub record TakesUp (space : Space) (entry : FileEntry) (token : KeptFile) (old n
 pub record IsKeptOf (meta : FileMeta) (file : File) (entry : FileEntry) (series : List (List ℕ)) : Type 0 where
   pub number : entry.number.0 ≡ file.number
   pub born : entry.born.0 ≡ file.born
-  pub free : IsFree entry
+  pub free : HasNoClaim entry
   pub entry_is : (bytes : List ℕ) (whole : IsMetaOfTree bytes meta)
-      → IsEntryOf file.number file.born bytes (tree_part whole.tree) entry
-  pub series_are : (bytes : List ℕ) (whole : IsMetaOfTree bytes meta) → HavePaths whole.tree
+      → IsFileEntryOf file.number file.born bytes (tree_part whole.tree) entry
+  pub series_are : (bytes : List ℕ) (whole : IsMetaOfTree bytes meta) → HaveShortPaths whole.tree
       → series ≡ paths_of (tree_part whole.tree)
 
 -- the wanted file is taken up, with what was read of it
@@ -114,11 +114,11 @@ pub record IsAdopted (name : NamedFile) (meta : FileMeta) (store : StoreState) (
   pub taken : TakesUp space entry (record { name = name; series = series; rights = 0 }) old new
 
 -- the entries say the points that the files of their numbers have
-abbrev pub Describe : Told → KeptFiles → List FileEntry → Type 0
+abbrev pub Describe : ToldContents → KeptFiles → List FileEntry → Type 0
 Describe told files entries = Each (λ entry. IfSome (kept_file entry.number.0 files)
     (λ file. Describes (entry_of entry file.series) (told entry.number.0))) entries
 
-pub record AreDescribed (told : Told) (files : KeptFiles) : Type 0 where
+pub record AreDescribed (told : ToldContents) (files : KeptFiles) : Type 0 where
   pub sequence : Describe told files files.sequence
   pub unsequence : Describe told files files.unsequence
 
@@ -126,4 +126,4 @@ pub record AreDescribed (told : Told) (files : KeptFiles) : Type 0 where
 pub record IsReadOf (meta : FileMeta) (content : Content) : Type 0 where
   pub bytes : List ℕ
   pub whole : IsMetaOfTree bytes meta
-  pub content_is : IsContentOf whole.tree content
+  pub content_is : IsTreeContent whole.tree content

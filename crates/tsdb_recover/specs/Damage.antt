@@ -10,12 +10,12 @@ use Rattle.tsdb_recover.specs.declared.fault.Part.{Part}
 use Rattle.tsdb_recover.specs.declared.fault.Part.TheVariants as part
 use Rattle.tsdb_state.specs.Damage as log
 use Rattle.tsdb_state.specs.Replays.{IsReplayOf}
-use Rattle.tsdb_state.specs.Stores.{Files, Recorded, store_steps}
+use Rattle.tsdb_state.specs.Stores.{BytesByNumber, Recorded, store_steps}
 use Rattle.tsdb_state.specs.State.{File, StoreState}
 use Rattle.tsfile_reader.specs.Blame.{IsBlamed, IsNoFile}
 
 -- the file is there, and is the file of a tree
-pub record IsTreeFile (files : Files) (file : File) : Type 0 where
+pub record IsTreeFile (files : BytesByNumber) (file : File) : Type 0 where
   pub bytes : List ℕ
   pub tree : Tree
   pub there : files file.number ≡ Some bytes
@@ -29,7 +29,7 @@ IsBadAt None at = at ≡ 0
 IsBadAt (Some bytes) at = IsNoFile bytes × IsBlamed bytes at
 
 -- a listed file is bad, and those before it in the order of the lists are not
-pub record IsDamagedFile (files : Files) (store : StoreState) (number at : ℕ) : Type 0 where
+pub record IsDamagedFile (files : BytesByNumber) (store : StoreState) (number at : ℕ) : Type 0 where
   pub before : List File
   pub file : File
   pub after : List File
@@ -39,12 +39,12 @@ pub record IsDamagedFile (files : Files) (store : StoreState) (number at : ℕ) 
   pub bad : IsBadAt (files number) at
 
 -- the part is such a file
-abbrev pub IsFileDamaged : Files → StoreState → Part → ℕ → Type 0
+abbrev pub IsFileDamaged : BytesByNumber → StoreState → Part → ℕ → Type 0
 IsFileDamaged files store part.Log at = ⊥
 IsFileDamaged files store (part.File number) at = IsDamagedFile files store number.0 at
 
 -- The store with this log and these files is damaged in this part at this place.
-abbrev pub IsDamagedIn : Files → List ℕ → Part → ℕ → Type 0
+abbrev pub IsDamagedIn : BytesByNumber → List ℕ → Part → ℕ → Type 0
 IsDamagedIn files bytes part.Log at = log.IsDamaged store_steps at bytes
 IsDamagedIn files bytes (part.File number) at = (recorded : Recorded) × IsReplayOf store_steps bytes recorded
     × IsDamagedFile files recorded.store number.0 at

@@ -13,7 +13,7 @@ use Rattle.tsdb_plan.specs.declared.entry.Hull.{Hull}
 use Rattle.tsdb_stats.specs.Statistics.{AreStatsOf}
 
 -- the entry is that of the series
-pub record Says (entry : IndexEntry) (filled : Filled) : Type 0 where
+pub record SaysSeries (entry : IndexEntry) (filled : Filled) : Type 0 where
   pub path : filled.schema.path ≡ child_of entry.device entry.measurement
   pub device : device_of filled.schema.path ≡ entry.device
   pub stats : AreStatsOf filled.points entry.stats

@@ -2,7 +2,7 @@
 use Rattle.std.specs.Prelude.{ℕ, List, map}
 use Rattle.std.specs.List.{AllByRecursion as Each, flat_map}
 use Rattle.tsdb_flush.specs.Parts.{Filled}
-use Rattle.tsdb_pages.specs.Trees.{points_of}
+use Rattle.tsdb_pages.specs.Trees.{page_points}
 use Rattle.tsdb_pages.specs.declared.tree.Chunk.{Chunk}
 use Rattle.tsdb_pages.specs.declared.tree.Group.{Group}
 use Rattle.tsdb_pages.specs.declared.tree.Tree.{Tree}
@@ -16,7 +16,7 @@ filled_of device chunk = record {
     data_type = chunk.data_type;
     encoding = chunk.encoding;
   };
-  points = points_of chunk.pages;
+  points = page_points chunk.pages;
 }
 
 -- the series of a group
@@ -28,5 +28,5 @@ abbrev pub tree_part : Tree → List Filled
 tree_part tree = flat_map group_part tree.groups
 
 -- the bytes that name each series are a path: they are not too long
-abbrev pub HavePaths : Tree → Type 0
-HavePaths tree = Each (λ filled. IsPath filled.schema.path) (tree_part tree)
+abbrev pub HaveShortPaths : Tree → Type 0
+HaveShortPaths tree = Each (λ filled. IsPath filled.schema.path) (tree_part tree)

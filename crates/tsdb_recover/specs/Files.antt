@@ -2,7 +2,7 @@
 use Rattle.std.specs.Prelude.{◌≡◌, ◌⊎◌, ℕ, ◌^◌, ◌<◌, ◌≤◌, List, [], ◌∷◌, ◌++◌, length, Contains, Result, IsErrOf}
 use Rattle.tsdb_base.specs.declared.ids.FileNumber.{FileNumber}
 use Rattle.tsdb_base.specs.Causes.{Rose}
-use Rattle.tsdb_outside.specs.Files.{StoredFile, numbers_of}
+use Rattle.tsdb_outside.specs.Files.{StoredFile, stored_file_numbers}
 use Rattle.tsdb_recover.specs.declared.fault.OpenFault.{OpenFault}
 use Rattle.tsdb_recover.specs.declared.fault.OpenFault.TheVariants as fault
 use Rattle.tsdb_recover.specs.declared.fault.Part.TheVariants as part
@@ -11,8 +11,8 @@ use Rattle.tsfile_reader.specs.declared.fault.ReadFault.{ReadFault}
 use Rattle.tsfile_reader.specs.declared.fault.ReadFault.TheVariants as read
 
 -- no file has the number; the place is 0 then
-abbrev pub IsMissing : List StoredFile → ℕ → ℕ → Type 0
-IsMissing files number at = (¬ Contains (numbers_of files) number) × (at ≡ 0)
+abbrev pub IsMissingFile : List StoredFile → ℕ → ℕ → Type 0
+IsMissingFile files number at = (¬ Contains (stored_file_numbers files) number) × (at ≡ 0)
 
 -- the file of the number is that of no tree, and its first bad part is at the place
 pub record IsBadFile (files : List StoredFile) (number at : ℕ) : Type 0 where
@@ -24,7 +24,7 @@ pub record IsBadFile (files : List StoredFile) (number at : ℕ) : Type 0 where
 
 -- the file of the number is damaged at the place
 abbrev pub IsDamagedAmong : List StoredFile → ℕ → ℕ → Type 0
-IsDamagedAmong files number at = IsMissing files number at ⊎ IsBadFile files number at
+IsDamagedAmong files number at = IsMissingFile files number at ⊎ IsBadFile files number at
 
 -- A file was taken out and put back behind the others, of which there are fewer than 2^63.
 pub record IsPutBehind (old new : List StoredFile) : Type 0 where

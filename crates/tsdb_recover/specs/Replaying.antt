@@ -67,10 +67,10 @@ module _ {J : Type 0} {means : disk.Ghosts J} {counts : counted.Ghosts J} where
     pub read : IsReadFrom frames opening
 
   -- of the journal's slot A no frame is read
-  abbrev pub IsUnread : J → FrameReader J means counts → Type 0
-  IsUnread journal reader = IsReading journal A reader []
+  abbrev pub IsUnreadLog : J → FrameReader J means counts → Type 0
+  IsUnreadLog journal reader = IsReading journal A reader []
 
   -- the log is damaged at this place
   abbrev pub IsDamagedLog : FrameReader J means counts → ℕ → Type 0
-  IsDamagedLog old at = (journal : J) → IsUnread journal old
+  IsDamagedLog old at = (journal : J) → IsUnreadLog journal old
       → IfSome (means.state journal).seen (λ image. IsDamaged store_steps at image.a)

@@ -9,11 +9,11 @@ use Rattle.tsdb_redo.specs.declared.lists.ListedFile.{ListedFile}
 use Rattle.tsdb_state.specs.State.{File}
 
 -- a listed file with its space, as the state has it
-abbrev pub shown : Space × ListedFile → Space × File
-shown next = (next.0, file_of next.1)
+abbrev pub state_file : Space × ListedFile → Space × File
+state_file next = (next.0, file_of next.1)
 
 -- no file comes and none goes
-pub record KeepsFiles (old new : KeptFiles) : Type 0 where
+pub record KeepsFileLists (old new : KeptFiles) : Type 0 where
   pub lists : KeepsLists old new
   pub places : OnlyMakesPlaces old.places new.places
 

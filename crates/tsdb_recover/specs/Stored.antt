@@ -8,10 +8,10 @@ abbrev pub DifferInNumber : StoredFile → StoredFile → Type 0
 DifferInNumber a b = a.number ≢ b.number
 
 -- the file's number is one that a file may have
-abbrev pub IsNumbered : StoredFile → Type 0
-IsNumbered file = IsFileNumber file.number
+abbrev pub HasFileNumber : StoredFile → Type 0
+HasFileNumber file = IsFileNumber file.number
 
 -- Their numbers differ, and each is one that a file may have.
 pub record AreStored (files : List StoredFile) : Type 0 where
   pub differ : EachPair DifferInNumber files
-  pub each : Each IsNumbered files
+  pub each : Each HasFileNumber files

@@ -3,7 +3,7 @@ use Rattle.std.specs.Prelude.{◌≡◌, ◌⊎◌, ℕ, ◌+◌, ◌<◌, ◌�
 use Rattle.std.specs.Prelude.{Contains, IfErr, IfOk, IfSome, IsErrOf, OnOk, Result}
 use Rattle.std.specs.List.{AllByRecursion as Each}
 use Rattle.std.specs.Option.{IsSomeAnd}
-use Rattle.tsdb_recover.specs.Adopting.{AreDescribed, HasAdoptedAll, IsAdoptingOf, files_of, next_in, opening_of}
+use Rattle.tsdb_recover.specs.Adopting.{AreDescribed, HasAdoptedAll, IsAdoptingOf, adopting_files, next_in, opening_of}
 use Rattle.tsdb_recover.specs.Adopting.{wanted_file}
 use Rattle.tsdb_recover.specs.declared.adopting.Adopting.{Adopting}
 use Rattle.tsdb_base.specs.declared.ids.FileNumber.{FileNumber}
@@ -13,7 +13,7 @@ use Rattle.tsdb_state.specs.Stored.{IsKeptWhole, kept_bytes}
 use Rattle.tsdb_fileset.specs.Files.{KeptFiles, kept_file}
 use Rattle.tsdb_fileset.specs.Places.{AreOfStore, KeptFile}
 use Rattle.tsdb_base.specs.Causes.{Rose}
-use Rattle.tsdb_outside.specs.Files.{Store, StoredFile, numbers_of}
+use Rattle.tsdb_outside.specs.Files.{Store, StoredFile, stored_file_numbers}
 use Rattle.tsdb_outside.specs.Limits.{FitsSlot}
 use Rattle.tsdb_recover.specs.declared.fault.OpenFault.{OpenFault}
 use Rattle.tsdb_recover.specs.declared.fault.OpenFault.TheVariants as fault
@@ -22,7 +22,7 @@ use Rattle.tsdb_recover.specs.Damage.{IsFileDamaged, IsTreeFile}
 use Rattle.tsdb_state.specs.Stores.{Recorded}
 use Rattle.tsdb_recover.specs.Stored.{AreStored}
 use Rattle.tsdb_base.specs.Limits.{end_of_numbers}
-use Rattle.tsdb_state.specs.State.{StoreState, Told}
+use Rattle.tsdb_state.specs.State.{StoreState, ToldContents}
 use Rattle.tsdb_state.specs.StoreOrder.{StoreInOrder}
 
 -- each file has a length that a file may have
@@ -46,18 +46,18 @@ IsRestIn stored files (Some rest) = IsRest stored files rest
 
 -- The kept files tell what is stored, are files of trees, and say their points where those are told. No unsequence file
 -- is kept before all sequence files are.
-pub record AreTaken (stored : List StoredFile) (store : StoreState) (files : KeptFiles) : Type 0 where
+pub record AreTakenUp (stored : List StoredFile) (store : StoreState) (files : KeptFiles) : Type 0 where
   pub told : TellTheirBytes files stored
   pub whole : Each (IsTreeFile (kept_bytes stored)) (map listed files.sequence ++ map listed files.unsequence)
   pub order : (next_in Sequence files store ≡ None) ⊎ (files.unsequence ≡ [])
-  pub described : (told : Told) → StoreInOrder told store
+  pub described : (told : ToldContents) → StoreInOrder told store
       → Each (IsKeptWhole stored told) (store.sequence ++ store.unsequence) → AreDescribed told files
 
 -- some of the files are taken up, and all others are at rest
 pub record IsTakingUp (stored : List StoredFile) (store : StoreState) (files : KeptFiles)
     (rest : Option (List StoredFile))
     : Type 0 where
-  pub taken : AreTaken stored store files
+  pub taken : AreTakenUp stored store files
   pub others : IsRestIn stored files rest
 
 -- how many files are kept
@@ -65,21 +65,22 @@ abbrev pub kept_count : KeptFiles → ℕ
 kept_count files = length files.sequence + length files.unsequence
 
 -- the file of the number is taken up next
-abbrev pub IsNext : ℕ → KeptFiles → StoreState → Type 0
-IsNext number files store = IsSomeAnd (wanted_file files store) (λ wanted. wanted.1.number ≡ number)
+abbrev pub IsNextFile : ℕ → KeptFiles → StoreState → Type 0
+IsNextFile number files store = IsSomeAnd (wanted_file files store) (λ wanted. wanted.1.number ≡ number)
 
 module _ {F S R P : Type 0} where
   -- the log goes on to say what is listed, and the files stay in their store
-  pub record GoesOn (store : Store) (old new : Adopting F S R P) : Type 0 where
+  pub record KeepsAdopting (store : Store) (old new : Adopting F S R P) : Type 0 where
     pub opening : opening_of new ≡ opening_of old
     pub adopting : (recorded : Recorded) → IsAdoptingOf old recorded → IsAdoptingOf new recorded
-    pub of_store : AreOfStore store (files_of old).places → AreOfStore store (files_of new).places
+    pub of_store : AreOfStore store (adopting_files old).places → AreOfStore store (adopting_files new).places
 
   -- more files are taken up
-  abbrev pub HasTaken : Adopting F S R P → Adopting F S R P → Option (List StoredFile) → Option (List StoredFile)
+  abbrev pub HasTakenMore : Adopting F S R P → Adopting F S R P → Option (List StoredFile) → Option (List StoredFile)
       → Type 0
-  HasTaken old new rest now = (stored : List StoredFile) (recorded : Recorded) → IsAdoptingOf old recorded
-      → IsTakingUp stored recorded.store (files_of old) rest → IsTakingUp stored recorded.store (files_of new) now
+  HasTakenMore old new rest now = (stored : List StoredFile) (recorded : Recorded) → IsAdoptingOf old recorded
+      → IsTakingUp stored recorded.store (adopting_files old) rest
+      → IsTakingUp stored recorded.store (adopting_files new) now
 
 -- What became of files at rest, of which those of these numbers that are not kept are gone. None but these are.
 pub record AreGone (numbers : List ℕ) (files : KeptFiles) (old new : List StoredFile) : Type 0 where
@@ -95,9 +96,9 @@ AreGoneIn numbers files (Some old) None = ⊥
 AreGoneIn numbers files (Some old) (Some new) = AreStored old → AreGone numbers files old new
 
 -- the number is the greatest of these, and there is none where there are none
-abbrev pub IsGreatest : Option FileNumber → List ℕ → Type 0
-IsGreatest None numbers = numbers ≡ []
-IsGreatest (Some greatest) numbers =
+abbrev pub IsGreatestNumber : Option FileNumber → List ℕ → Type 0
+IsGreatestNumber None numbers = numbers ≡ []
+IsGreatestNumber (Some greatest) numbers =
     Contains numbers greatest.0 × ((number : ℕ) → Contains numbers number → number ≤ greatest.0)
 
 -- no damage is answered
@@ -116,8 +117,8 @@ pub record HasOpenCause {T : Type 0} (before now : ℕ) (result : Result T OpenF
 pub record AreAllTaken (stored : List StoredFile) (store : StoreState) (files : KeptFiles) (last : Option FileNumber)
     (rest : Option (List StoredFile))
     : Type 0 where
-  pub taken : AreTaken stored store files
-  pub greatest : IsGreatest last (numbers_of stored)
+  pub taken : AreTakenUp stored store files
+  pub greatest : IsGreatestNumber last (stored_file_numbers stored)
   pub none : rest ≡ Some []
 
 module _ {F S R P : Type 0} where
@@ -126,18 +127,18 @@ module _ {F S R P : Type 0} where
   pub record HasLeft (old new : Adopting F S R P) (rest now : Option (List StoredFile)) (answer : OpenFault)
       : Type 0 where
     pub before : Option (List StoredFile)
-    pub taken : HasTaken old new rest before
-    pub gone : (now ≡ before) ⊎ (HasAdoptedAll new × AreGoneIn [] (files_of new) before now × NoDamage answer)
+    pub taken : HasTakenMore old new rest before
+    pub gone : (now ≡ before) ⊎ (HasAdoptedAll new × AreGoneIn [] (adopting_files new) before now × NoDamage answer)
 
   -- All listed files were taken up and all others removed, or a fault came. Before it these were at rest.
   pub record HasTakenUp (store : Store) (old new : Adopting F S R P) (rest now : Option (List StoredFile))
       (result : Result (Option FileNumber) OpenFault)
       : Type 0 where
-    pub goes_on : GoesOn store old new
+    pub goes_on : KeepsAdopting store old new
     pub all : OnOk result (HasAdoptedAll new)
     pub number : IfOk result (λ last. IfSome last (λ number. number.0 < end_of_numbers))
     pub taken : IfOk result (λ last. IfSome rest (λ stored. (recorded : Recorded) → IsAdoptingOf old recorded
-        → AreStored stored → AreAllTaken stored recorded.store (files_of new) last now))
+        → AreStored stored → AreAllTaken stored recorded.store (adopting_files new) last now))
     pub left : IfErr result (HasLeft old new rest now)
     pub damaged : (part : Part) (at : ℕ) → IsErrOf result (fault.Damaged part at)
         → IfSome rest (λ stored. (recorded : Recorded) → IsAdoptingOf old recorded → AreStored stored

@@ -3,7 +3,7 @@ ghost use Rattle.std.specs.Prelude.{◌≡◌, None, IfErr, IfOk, IfSome, OnErr,
 ghost use Rattle.std.specs.Option.{option_map};
 ghost use Rattle.tsdb_recover.specs.Adopting.{AreDescribed, IsAdopted, IsKeptOf, IsReadOf, TakesUp, next_in};
 ghost use Rattle.tsdb_recover.specs.Adopting.{wanted_file};
-ghost use Rattle.tsdb_recover.specs.Steps.{HasPlaceFor, KeepsFiles, shown};
+ghost use Rattle.tsdb_recover.specs.Steps.{HasPlaceFor, KeepsFileLists, state_file};
 ghost use Rattle.tsdb_fileset.specs.Held.{TellTheirBytes};
 ghost use Rattle.tsdb_state.specs.Stored.{kept_bytes};
 ghost use Rattle.tsdb_fileset.specs.Files.{AreKept, IsOpen, kept_file, none_kept};
@@ -15,11 +15,11 @@ ghost use Rattle.tsdb_redo.specs.Opening.{IsOpeningOf};
 ghost use Rattle.tsdb_outside.specs.Files.{Store, StoredFile};
 ghost use Rattle.tsdb_state.specs.Replays.{Replays};
 ghost use Rattle.tsdb_state.specs.Stores.{Recorded, store_steps};
-ghost use Rattle.tsdb_state.specs.State.{Told};
+ghost use Rattle.tsdb_state.specs.State.{ToldContents};
 ghost use Rattle.tsdb_state.specs.StoreOrder.{StoreInOrder};
-ghost use Rattle.tsdb_memory.specs.Model.{IsSound};
+ghost use Rattle.tsdb_memory.specs.Model.{IsSoundMemory};
 ghost use Rattle.tsdb_memory.specs.Shown.{IsMemoryOf};
-ghost use Rattle.tsdb_memory.specs.Store.{Store as InMemory};
+ghost use Rattle.tsdb_memory.specs.Store.{MemoryState as InMemory};
 ghost use Rattle.std.specs.Prelude.{List as ListOf};
 
 use crate::described::{Described, describe};
@@ -44,14 +44,14 @@ pub struct AdoptRefused<F: Files> {
 }
 
 impl<F: Files> Adopting<F> {
-    ghost use Rattle.tsdb_recover.specs.Adopting.{IsAdoptingOf, MayAdopt, files_of, opening_of};
+    ghost use Rattle.tsdb_recover.specs.Adopting.{IsAdoptingOf, MayAdopt, adopting_files, opening_of};
 
     /// No file so far.
     pub fn new(alloc: Global, opening: Opening) -> Adopting<F>
         ensures begins { (items : ListOf LogRecord) (recorded : Recorded) → IsOpeningOf opening recorded
             → Replays store_steps store_steps.new_store items recorded → IsAdoptingOf result recorded }
         ensures opening { opening_of result ≡ opening }
-        ensures files { files_of result ≡ none_kept }
+        ensures files { adopting_files result ≡ none_kept }
     {
         Adopting {
             alloc,
@@ -64,9 +64,9 @@ impl<F: Files> Adopting<F> {
     pub fn wanted(&self) -> Option<FileNumber>
         ensures first { (recorded : Recorded) → IsOpeningOf (opening_of self.now) recorded
             → option_map (λ number. number.0) result
-            ≡ option_map (λ wanted. wanted.1.number) (wanted_file (files_of self.now) recorded.store) }
+            ≡ option_map (λ wanted. wanted.1.number) (wanted_file (adopting_files self.now) recorded.store) }
         ensures free { (recorded : Recorded) → IsAdoptingOf self.now recorded
-            → IfSome result (λ number. kept_file number.0 (files_of self.now) ≡ None) }
+            → IfSome result (λ number. kept_file number.0 (adopting_files self.now) ≡ None) }
     {
         match self.next() {
             Some((_space, file)) => Some(file.number),
@@ -77,8 +77,8 @@ impl<F: Files> Adopting<F> {
     /// The file that is taken up next, with its list.
     fn next(&self) -> Option<(Space, ListedFile)>
         ensures file { (recorded : Recorded) → IsOpeningOf (opening_of self.now) recorded
-            → option_map shown result ≡ wanted_file (files_of self.now) recorded.store }
-        ensures kept { AreKept (files_of self.now) }
+            → option_map state_file result ≡ wanted_file (adopting_files self.now) recorded.store }
+        ensures kept { AreKept (adopting_files self.now) }
     {
         if let Some(file) = self.next_of(Space::Sequence) {
             return Some((Space::Sequence, file));
@@ -92,8 +92,8 @@ impl<F: Files> Adopting<F> {
     /// The first file of a list that is not kept yet.
     fn next_of(&self, space: Space) -> Option<ListedFile>
         ensures file { (recorded : Recorded) → IsOpeningOf (opening_of self.now) recorded
-            → option_map file_of result ≡ next_in space (files_of self.now) recorded.store }
-        ensures kept { AreKept (files_of self.now) }
+            → option_map file_of result ≡ next_in space (adopting_files self.now) recorded.store }
+        ensures kept { AreKept (adopting_files self.now) }
     {
         let kept = self.files.entries(space).len();
         self.opening.files(space).get(kept).copied()
@@ -101,7 +101,7 @@ impl<F: Files> Adopting<F> {
 
     /// It does nothing, and tells what always holds of the kept files.
     pub(crate) fn tell_kept(&self)
-        ensures { AreKept (files_of self.now) }
+        ensures { AreKept (adopting_files self.now) }
     {
         let _ = self.files.entries(Space::Sequence);
     }
@@ -109,7 +109,7 @@ impl<F: Files> Adopting<F> {
     /// It does nothing, and tells what always holds of what is in memory.
     fn tell_memory(&self)
         ensures { (recorded : Recorded) → IsOpeningOf (opening_of self.now) recorded
-            → (memory : InMemory) × IsSound memory × IsMemoryOf memory recorded.store }
+            → (memory : InMemory) × IsSoundMemory memory × IsMemoryOf memory recorded.store }
     {
         self.opening.memory().sound();
     }
@@ -122,17 +122,18 @@ impl<F: Files> Adopting<F> {
         ensures opening { opening_of self.new ≡ opening_of self.old }
         ensures adopting { (recorded : Recorded) → IsAdoptingOf self.old recorded → IsAdoptingOf self.new recorded }
         ensures adopted { OnOk result ((recorded : Recorded) → IsAdoptingOf self.old recorded
-            → IsAdopted (F.Sealed.file sealed) meta.now recorded.store (files_of self.old) (files_of self.new)) }
-        ensures described { OnOk result ((recorded : Recorded) (told : Told) → IsAdoptingOf self.old recorded
+            → IsAdopted (F.Sealed.file sealed) meta.now recorded.store (adopting_files self.old)
+            (adopting_files self.new)) }
+        ensures described { OnOk result ((recorded : Recorded) (told : ToldContents) → IsAdoptingOf self.old recorded
             → StoreInOrder told recorded.store → IsReadOf meta.now (told (F.Sealed.file sealed).number)
-            → AreDescribed told (files_of self.old) → AreDescribed told (files_of self.new)) }
-        ensures told { OnOk result ((kept : ListOf StoredFile) → TellTheirBytes (files_of self.old) kept
+            → AreDescribed told (adopting_files self.old) → AreDescribed told (adopting_files self.new)) }
+        ensures told { OnOk result ((kept : ListOf StoredFile) → TellTheirBytes (adopting_files self.old) kept
             → (F.Sealed.file sealed).bytes ≡ kept_bytes kept (F.Sealed.file sealed).number
-            → TellTheirBytes (files_of self.new) kept) }
-        ensures store { (store : Store) → AreOfStore store (files_of self.old).places
-            → (F.Sealed.file sealed).store ≡ store → AreOfStore store (files_of self.new).places }
+            → TellTheirBytes (adopting_files self.new) kept) }
+        ensures store { (store : Store) → AreOfStore store (adopting_files self.old).places
+            → (F.Sealed.file sealed).store ≡ store → AreOfStore store (adopting_files self.new).places }
         ensures token { IfErr result (λ refused. refused.sealed ≡ sealed) }
-        ensures same { OnErr result (KeepsFiles (files_of self.old) (files_of self.new)) }
+        ensures same { OnErr result (KeepsFileLists (adopting_files self.old) (adopting_files self.new)) }
     {
         self.tell_memory();
         let Some((space, file)) = self.next() else {
@@ -154,9 +155,10 @@ impl<F: Files> Adopting<F> {
         file: ListedFile,
         meta: &FileMeta,
     ) -> Result<Described, Memory>
-        ensures rest { self.new ≡ record self.old { files = files_of self.new } }
-        ensures files { KeepsFiles (files_of self.old) (files_of self.new) }
-        ensures place { OnOk result (HasPlaceFor space file.number.0 (files_of self.old) (files_of self.new)) }
+        ensures rest { self.new ≡ record self.old { files = adopting_files self.new } }
+        ensures files { KeepsFileLists (adopting_files self.old) (adopting_files self.new) }
+        ensures place { OnOk result (HasPlaceFor space file.number.0 (adopting_files self.old)
+            (adopting_files self.new)) }
         ensures described { IfOk result (λ it. IsKeptOf meta.now (file_of file) it.entry it.series) }
     {
         let described = describe(self.alloc, meta, file.number, file.born)?;
@@ -169,13 +171,13 @@ impl<F: Files> Adopting<F> {
 
     /// The file goes to the end of its list. It takes no memory.
     fn enlist(&mut self, space: Space, sealed: F::Sealed, described: Described)
-        requires place { IsOpen described.entry.number.0 (files_of self.old) }
-        requires room { HasRoom space (files_of self.old).spare }
+        requires place { IsOpen described.entry.number.0 (adopting_files self.old) }
+        requires room { HasRoom space (adopting_files self.old).spare }
         requires no_rights { F.Sealed.rights sealed ≡ 0 }
-        ensures rest { self.new ≡ record self.old { files = files_of self.new } }
+        ensures rest { self.new ≡ record self.old { files = adopting_files self.new } }
         ensures taken { TakesUp space described.entry
             (record { name = F.Sealed.file sealed; series = described.series; rights = 0 })
-            (files_of self.old) (files_of self.new) }
+            (adopting_files self.old) (adopting_files self.new) }
     {
         let Described { entry, series } = described;
         self.files.enlist(

@@ -1,8 +1,8 @@
 //! What is kept of a file. Depends on `summary`.
 ghost use Rattle.std.specs.Prelude.{◌≡◌, ℕ, List as ListOf, IfOk, false};
 ghost use Rattle.tsdb_recover.specs.DescribedSteps.{IsSummary};
-ghost use Rattle.tsdb_recover.specs.DescribedTrees.{HavePaths, tree_part};
-ghost use Rattle.tsdb_flush.specs.Built.{IsEntryOf, paths_of};
+ghost use Rattle.tsdb_recover.specs.DescribedTrees.{HaveShortPaths, tree_part};
+ghost use Rattle.tsdb_flush.specs.Built.{IsFileEntryOf, paths_of};
 ghost use Rattle.tsdb_pages.specs.File.{AreEntriesIn};
 ghost use Rattle.tsdb_pages.specs.Trees.{IsMade, IsTree};
 ghost use Rattle.tsdb_pages.specs.declared.tree.Tree.{Tree};
@@ -34,9 +34,9 @@ pub fn describe(
     ensures born { IfOk result (λ file. file.entry.born ≡ born) }
     ensures free { IfOk result (λ file. file.entry.claimed ≡ false) }
     ensures entry { IfOk result (λ file. (bytes : ListOf ℕ) (whole : IsMetaOfTree bytes meta.now)
-        → IsEntryOf number.0 born.0 bytes (tree_part whole.tree) file.entry) }
+        → IsFileEntryOf number.0 born.0 bytes (tree_part whole.tree) file.entry) }
     ensures series { IfOk result (λ file. (bytes : ListOf ℕ) (whole : IsMetaOfTree bytes meta.now)
-        → HavePaths whole.tree → file.series ≡ paths_of (tree_part whole.tree)) }
+        → HaveShortPaths whole.tree → file.series ≡ paths_of (tree_part whole.tree)) }
 {
     let Summary {
         points,

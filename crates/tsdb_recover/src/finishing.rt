@@ -10,7 +10,7 @@ ghost use Rattle.tsdb_core.specs.Limits.{IsPairLimit};
 ghost use Rattle.tsdb_frames.specs.Frames.{IsLog};
 ghost use Rattle.tsdb_fileset.specs.Held.{TellTheirBytes};
 ghost use Rattle.tsdb_state.specs.Stored.{IsKeptWhole};
-ghost use Rattle.tsdb_fileset.specs.Closing.{ArePutBack, AreRising, names_at};
+ghost use Rattle.tsdb_fileset.specs.Closing.{ArePutBack, AreNumbersRising, names_at};
 ghost use Rattle.tsdb_fileset.specs.Files.{AreKept, kept_file};
 ghost use Rattle.tsdb_fileset.specs.Places.{AreOfStore, AreUnread};
 ghost use Rattle.tsdb_base.specs.Lists.{Among};
@@ -26,24 +26,24 @@ ghost use Rattle.tsdb_state.specs.Stores.{Recorded, store_steps};
 ghost use Rattle.tsdb_base.specs.Limits.{end_of_numbers};
 ghost use Rattle.tsdb_state.specs.NewStore.{opened};
 ghost use Rattle.tsdb_state.specs.Records.{numbers_of};
-ghost use Rattle.tsdb_state.specs.State.{Told};
+ghost use Rattle.tsdb_state.specs.State.{ToldContents};
 ghost use Rattle.tsdb_state.specs.StoreOrder.{StoreInOrder};
 
 use crate::adopting::Adopting;
 use tsdb_base::FileNumber;
 use tsdb_core::{Core, Options};
 use tsdb_frames::Frames;
-use tsdb_memory::Logged;
+use tsdb_memory::LoggedMemory;
 use tsdb_outside::{Files, Journal};
 
 impl<F: Files> Adopting<F> {
-    ghost use Rattle.tsdb_recover.specs.Adopting.{HasAdoptedAll, IsAdoptingOf, files_of, opening_of};
+    ghost use Rattle.tsdb_recover.specs.Adopting.{HasAdoptedAll, IsAdoptingOf, adopting_files, opening_of};
 
     /// Whether the file of the number is kept. Once all listed files are, whether it is listed.
     pub fn is_kept(&self, number: FileNumber) -> bool
-        ensures kept { IsTrue result ↔ IsSome (kept_file number.0 (files_of self.now)) }
+        ensures kept { IsTrue result ↔ IsSome (kept_file number.0 (adopting_files self.now)) }
         ensures listed { (recorded : Recorded) → IsAdoptingOf self.now recorded
-            → wanted_file (files_of self.now) recorded.store ≡ None
+            → wanted_file (adopting_files self.now) recorded.store ≡ None
             → IsTrue result ↔ Among number.0 (numbers_of (recorded.store.sequence ++ recorded.store.unsequence)) }
     {
         self.tell_kept();
@@ -64,20 +64,20 @@ impl<F: Files> Adopting<F> {
         ensures log { log_of (logged_of result) ≡ frames }
         ensures memory { (recorded : Recorded) → IsOpeningOf (opening_of self) recorded
             → IsMemoryOf (memory_of (logged_of result)) recorded.store }
-        ensures files { core_files result ≡ files_of self }
+        ensures files { core_files result ≡ adopting_files self }
         ensures next { (recorded : Recorded) → IsOpeningOf (opening_of self) recorded
             → next_of result ≡ next_number stored recorded.named }
         ensures limit { limit_of result ≡ options.pair_points }
         ensures quiet { KeepsJobs result [] [] }
         ensures unclaimed { IsUnclaimed result }
         ensures none_leaving { (core_files result).outgoing ≡ [] }
-        ensures seen { (items : List LogRecord) (recorded : Recorded) (kept : List StoredFile) (told : Told)
+        ensures seen { (items : List LogRecord) (recorded : Recorded) (kept : List StoredFile) (told : ToldContents)
             → IsLog frames (map spelling items) None → All IsRecord items
             → Replays store_steps store_steps.new_store items recorded → IsAdoptingOf self recorded
             → StoreInOrder told recorded.store
             → Each (IsKeptWhole kept told) (recorded.store.sequence ++ recorded.store.unsequence)
-            → AreDescribed told (files_of self) → TellTheirBytes (files_of self) kept
-            → IsSeen result (record { items = items; kept = kept; told = told; known = known_of (files_of self) })
+            → AreDescribed told (adopting_files self) → TellTheirBytes (adopting_files self) kept
+            → IsSeen result (record { items = items; kept = kept; told = told; known = known_of (adopting_files self) })
             (opened (next_of result) recorded.store) }
     {
         self.tell_kept();
@@ -87,19 +87,19 @@ impl<F: Files> Adopting<F> {
             opening,
             files,
         } = self;
-        let logged = Logged::new(alloc, frames, opening.into_memory());
+        let logged = LoggedMemory::new(alloc, frames, opening.into_memory());
         Core::new(alloc, logged, files, options, next_file)
     }
 
     /// Gives each token back to its store; no other file comes to be at rest. It tells what always holds of the kept
     /// files.
     pub fn end(self, files: &mut F)
-        requires no_rights { AreUnread (files_of self).places }
-        requires store { AreOfStore (F.store files.old) (files_of self).places }
-        ensures at_rest { WhereTold (ArePutBack (names_at (files_of self).places)) (F.at_rest files.old)
+        requires no_rights { AreUnread (adopting_files self).places }
+        requires store { AreOfStore (F.store files.old) (adopting_files self).places }
+        ensures at_rest { WhereTold (ArePutBack (names_at (adopting_files self).places)) (F.at_rest files.old)
             (F.at_rest files.new) }
-        ensures rising { AreRising (files_of self).places }
-        ensures kept { AreKept (files_of self) }
+        ensures rising { AreNumbersRising (adopting_files self).places }
+        ensures kept { AreKept (adopting_files self) }
         ensures same_store { F.store files.new ≡ F.store files.old }
         ensures faults { F.faults files.new ≡ F.faults files.old }
     {

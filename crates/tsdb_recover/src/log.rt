@@ -1,11 +1,12 @@
 //! The log of a store, read and replayed. Depends on `fault`.
 ghost use Rattle.std.specs.Prelude.{◌≡◌, ◌≤◌, ℕ, IfErr, IfOk, IfSome, IsErrAnd, IsErrOf, OnErr, OnOk};
-ghost use Rattle.tsdb_frames.specs.Readers.{HasEnded, disk_read, faults_read};
+ghost use Rattle.tsdb_frames.specs.Readers.{HasNextGate, disk_read, faults_read};
 ghost use Rattle.tsdb_base.specs.Causes.{Rose};
 ghost use Rattle.tsdb_outside.specs.Disk.{Keeps};
 ghost use Rattle.tsdb_recover.specs.Causes.{AnswersDamage};
 ghost use Rattle.tsdb_recover.specs.Log.{IsLogRead};
-ghost use Rattle.tsdb_recover.specs.Replaying.{HasReplayed, IsDamagedLog, IsFrameRedone, IsFrameRefused, IsUnread, of_scan};
+ghost use Rattle.tsdb_recover.specs.Replaying.{HasReplayed, IsDamagedLog, IsFrameRedone, IsFrameRefused, IsUnreadLog};
+ghost use Rattle.tsdb_recover.specs.Replaying.{of_scan};
 ghost use Rattle.tsdb_recover.specs.declared.fault.Part as store_part;
 ghost use Rattle.tsdb_recover.specs.declared.fault.Part.TheVariants as parts;
 ghost use Rattle.tsdb_state.specs.Damage.{IsDamaged};
@@ -49,12 +50,12 @@ pub fn read_log<J: Journal>(
 /// Replays the records of a slot, of which none is read yet, each as it is read. Damaged at the place of the first that is
 /// torn, cannot be read, or has no replay.
 fn replay<J: Journal>(alloc: Global, reader: &mut FrameReader<J>) -> Result<Opening, OpenFault>
-    ensures read { IfOk result (λ opening. (journal : J) → IsUnread journal reader.old
+    ensures read { IfOk result (λ opening. (journal : J) → IsUnreadLog journal reader.old
         → HasReplayed journal reader.new opening) }
-    ensures ended { OnOk result (HasEnded reader.new) }
+    ensures ended { OnOk result (HasNextGate reader.new) }
     ensures damaged { (part : store_part.Part) (at : ℕ) → IsErrOf result (OpenFault.Damaged part at)
         → (part ≡ parts.Log) × IsDamagedLog reader.old at }
-    ensures keeps { OnErr result ((journal : J) → IsUnread journal reader.old
+    ensures keeps { OnErr result ((journal : J) → IsUnreadLog journal reader.old
         → Keeps (J.state journal) (disk_read reader.new)) }
     ensures later { faults_read reader.old ≤ faults_read reader.new }
     ensures failed { IsErrOf result OpenFault.Failed → Rose (faults_read reader.old) (faults_read reader.new) }

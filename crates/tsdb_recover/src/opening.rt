@@ -4,7 +4,7 @@ ghost use Rattle.std.specs.Prelude.{Some, false};
 ghost use Rattle.std.specs.declared.option.Option.{Option};
 ghost use Rattle.std.specs.List.Sorted.{IsStrictlyIncreasing};
 ghost use Rattle.std.specs.Option.{IsSomeAnd};
-ghost use Rattle.tsdb_recover.specs.Adopting.{HasAdoptedAll, IsAdoptingOf, files_of};
+ghost use Rattle.tsdb_recover.specs.Adopting.{HasAdoptedAll, IsAdoptingOf, adopting_files};
 ghost use Rattle.tsdb_core.specs.Core.{KeepsJobs, files_of as core_files, limit_of, logged_of, next_of};
 ghost use Rattle.tsdb_core.specs.Limits.{IsPairLimit};
 ghost use Rattle.tsdb_frames.specs.Frames.{disk_of, faults_of, is_in_doubt, journal_of, slot_of};
@@ -23,8 +23,8 @@ ghost use Rattle.tsdb_recover.specs.declared.fault.Part as store_part;
 ghost use Rattle.tsdb_recover.specs.Damage.{AnswersDamageIn, IsDamagedIn, IsFileDamaged};
 ghost use Rattle.tsdb_recover.specs.Opened.{HasOpened, IsNextNumber, IsRecovered, IsReplay, IsUnclaimed};
 ghost use Rattle.tsdb_recover.specs.Left.{AreLeft, IsStray, IsUnlisted, NoneMayGo};
-ghost use Rattle.tsdb_recover.specs.Taking.{AreGoneIn, GoesOn, HasLeft, HasOpenCause, HasTaken, HasTakenUp};
-ghost use Rattle.tsdb_recover.specs.Taking.{HaveLengths, IsGreatest, IsTakingUp};
+ghost use Rattle.tsdb_recover.specs.Taking.{AreGoneIn, KeepsAdopting, HasLeft, HasOpenCause, HasTakenMore, HasTakenUp};
+ghost use Rattle.tsdb_recover.specs.Taking.{HaveLengths, IsGreatestNumber, IsTakingUp};
 ghost use Rattle.tsdb_state.specs.Replays.{IsReplayOf};
 ghost use Rattle.tsdb_state.specs.Stores.{IsSound, Recorded, store_steps};
 ghost use Rattle.tsdb_recover.specs.Stored.{AreStored};
@@ -155,7 +155,7 @@ fn take_up<F: Files>(
     files: &mut F,
 ) -> Result<Option<FileNumber>, OpenFault>
     requires some { (recorded : Recorded) × IsAdoptingOf adopting.old recorded }
-    requires none { files_of adopting.old ≡ none_kept }
+    requires none { adopting_files adopting.old ≡ none_kept }
     ensures takes { HasTakenUp (F.store files.old) adopting.old adopting.new (F.at_rest files.old) (F.at_rest files.new)
         result }
     ensures same_store { F.store files.new ≡ F.store files.old }
@@ -180,7 +180,7 @@ fn take_up_through<F: Files>(
     port: &mut F::Port,
 ) -> Result<Option<FileNumber>, OpenFault>
     requires some { (recorded : Recorded) × IsAdoptingOf adopting.old recorded }
-    requires none { files_of adopting.old ≡ none_kept }
+    requires none { adopting_files adopting.old ≡ none_kept }
     requires port { F.Port.store port.old ≡ F.store files.old }
     ensures takes { HasTakenUp (F.store files.old) adopting.old adopting.new (F.at_rest files.old) (F.at_rest files.new)
         result }
@@ -212,15 +212,15 @@ fn take_listed<F: Files>(
 ) -> Result<(), OpenFault>
     requires some { (recorded : Recorded) × IsAdoptingOf adopting.old recorded }
     requires port { F.Port.store port.old ≡ F.store files.old }
-    ensures goes_on { GoesOn (F.store files.old) adopting.old adopting.new }
+    ensures goes_on { KeepsAdopting (F.store files.old) adopting.old adopting.new }
     ensures all { OnOk result (HasAdoptedAll adopting.new) }
-    ensures taken { OnOk result ((rest : Option (List StoredFile)) × HasTaken adopting.old adopting.new
-        (F.at_rest files.old) rest × AreGoneIn (plain_numbers numbers.now) (files_of adopting.new) rest
+    ensures taken { OnOk result ((rest : Option (List StoredFile)) × HasTakenMore adopting.old adopting.new
+        (F.at_rest files.old) rest × AreGoneIn (plain_numbers numbers.now) (adopting_files adopting.new) rest
         (F.at_rest files.new)) }
     ensures left { IfErr result (HasLeft adopting.old adopting.new (F.at_rest files.old) (F.at_rest files.new)) }
     ensures damaged { (part : store_part.Part) (at : ℕ) → IsErrOf result (OpenFault.Damaged part at)
         → (stored : List StoredFile) (recorded : Recorded) → IsAdoptingOf adopting.old recorded
-        → IsTakingUp stored recorded.store (files_of adopting.old) (F.at_rest files.old)
+        → IsTakingUp stored recorded.store (adopting_files adopting.old) (F.at_rest files.old)
         → IsFileDamaged (kept_bytes stored) recorded.store part at }
     ensures same_store { F.store files.new ≡ F.store files.old }
     ensures same_port { F.Port.store port.new ≡ F.Port.store port.old }
@@ -236,7 +236,7 @@ fn take_listed<F: Files>(
 /// The last of numbers that rise, where there is one.
 fn greatest_of(numbers: &[FileNumber]) -> Option<FileNumber>
     requires { IsStrictlyIncreasing (plain_numbers numbers.now) }
-    ensures { IsGreatest result (plain_numbers numbers.now) }
+    ensures { IsGreatestNumber result (plain_numbers numbers.now) }
 {
     numbers.last().copied()
 }

@@ -1,6 +1,6 @@
 //! The files that no list has are removed. Depends on `fault` and `adopting`.
 ghost use Rattle.std.specs.Prelude.{◌≡◌, [], ◌∷◌, IfErr, OnErr, OnOk};
-ghost use Rattle.tsdb_recover.specs.Adopting.{files_of};
+ghost use Rattle.tsdb_recover.specs.Adopting.{adopting_files};
 ghost use Rattle.tsdb_outside.specs.Files.{plain_numbers};
 ghost use Rattle.tsdb_recover.specs.Files.{HasFilesCause};
 ghost use Rattle.tsdb_recover.specs.Taking.{AreGoneIn, NoDamage};
@@ -18,9 +18,11 @@ pub(crate) fn remove_strays<F: Files>(
     numbers: &[FileNumber],
 ) -> Result<(), OpenFault>
     requires port { F.Port.store port.old ≡ F.store files.old }
-    ensures gone { OnOk result (AreGoneIn (plain_numbers numbers.now) (files_of adopting.now) (F.at_rest files.old)
+    ensures gone { OnOk result (AreGoneIn (plain_numbers numbers.now) (adopting_files adopting.now)
+        (F.at_rest files.old)
         (F.at_rest files.new)) }
-    ensures others { OnErr result (AreGoneIn [] (files_of adopting.now) (F.at_rest files.old) (F.at_rest files.new)) }
+    ensures others { OnErr result (AreGoneIn [] (adopting_files adopting.now) (F.at_rest files.old)
+        (F.at_rest files.new)) }
     ensures no_damage { IfErr result NoDamage }
     ensures same_store { F.store files.new ≡ F.store files.old }
     ensures same_port { F.Port.store port.new ≡ F.Port.store port.old }
@@ -45,9 +47,10 @@ fn remove_if_stray<F: Files>(
     number: &FileNumber,
 ) -> Result<(), OpenFault>
     requires port { F.Port.store port.old ≡ F.store files.old }
-    ensures gone { OnOk result (AreGoneIn (number.now.0 ∷ []) (files_of adopting.now) (F.at_rest files.old)
+    ensures gone { OnOk result (AreGoneIn (number.now.0 ∷ []) (adopting_files adopting.now) (F.at_rest files.old)
         (F.at_rest files.new)) }
-    ensures others { OnErr result (AreGoneIn [] (files_of adopting.now) (F.at_rest files.old) (F.at_rest files.new)) }
+    ensures others { OnErr result (AreGoneIn [] (adopting_files adopting.now) (F.at_rest files.old)
+        (F.at_rest files.new)) }
     ensures no_damage { IfErr result NoDamage }
     ensures same_store { F.store files.new ≡ F.store files.old }
     ensures same_port { F.Port.store port.new ≡ F.Port.store port.old }

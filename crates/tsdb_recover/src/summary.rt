@@ -1,6 +1,6 @@
 //! What entries of an index say together. Depends on `described_hulls`.
 ghost use Rattle.std.specs.Prelude.{◌≡◌, ◌≢◌, List, [], ◌∷◌, ◌++◌, IfOk, OnOk, Some};
-ghost use Rattle.tsdb_recover.specs.DescribedSteps.{AddsPath, IsSummary, Says};
+ghost use Rattle.tsdb_recover.specs.DescribedSteps.{AddsPath, IsSummary, SaysSeries};
 ghost use Rattle.tsdb_flush.specs.MakingSteps.{ComeBefore};
 ghost use Rattle.tsdb_flush.specs.Parts.{Filled};
 ghost use Rattle.tsdb_path.specs.Nodes.{IsPath, child_of};
@@ -34,7 +34,7 @@ impl Summary {
 
     /// Adds an entry, which comes behind those before in the order of a tree.
     pub(crate) fn add(&mut self, entry: &IndexEntry) -> Result<(), Memory>
-        ensures { OnOk result ((part : List Filled) (filled : Filled) → Says entry.now filled
+        ensures { OnOk result ((part : List Filled) (filled : Filled) → SaysSeries entry.now filled
             → ComeBefore part filled.schema → IsSummary part self.old → IsSummary (part ++ filled ∷ []) self.new) }
     {
         let Some(points) = self.points.checked_add(entry.stats.count) else {

@@ -1,6 +1,6 @@
 //! The listed files are taken up, in the order of their lists. Depends on `fault`, `files` and `adopting`.
 ghost use Rattle.std.specs.Prelude.{◌≡◌, ◌+◌, ℕ, IsErrOf, List, None, OnOk};
-ghost use Rattle.tsdb_recover.specs.Adopting.{HasAdoptedAll, IsAdoptingOf, files_of};
+ghost use Rattle.tsdb_recover.specs.Adopting.{HasAdoptedAll, IsAdoptingOf, adopting_files};
 ghost use Rattle.tsdb_state.specs.Stored.{kept_bytes};
 ghost use Rattle.tsdb_fileset.specs.Files.{kept_file};
 ghost use Rattle.tsdb_outside.specs.Files.{StoredFile};
@@ -8,7 +8,7 @@ ghost use Rattle.tsdb_recover.specs.Files.{HasFilesCause};
 ghost use Rattle.tsdb_recover.specs.declared.fault.Part as store_part;
 ghost use Rattle.tsdb_recover.specs.declared.fault.Part.TheVariants as parts;
 ghost use Rattle.tsdb_recover.specs.Damage.{IsBadAt, IsFileDamaged};
-ghost use Rattle.tsdb_recover.specs.Taking.{GoesOn, HasTaken, IsNext, IsRestIn, IsTakingUp, kept_count};
+ghost use Rattle.tsdb_recover.specs.Taking.{KeepsAdopting, HasTakenMore, IsNextFile, IsRestIn, IsTakingUp, kept_count};
 ghost use Rattle.tsdb_state.specs.Stores.{Recorded};
 
 use crate::adopting::{AdoptRefused, Adopting};
@@ -27,12 +27,12 @@ pub(crate) fn adopt_all<F: Files>(
 ) -> Result<(), OpenFault>
     requires some { (recorded : Recorded) × IsAdoptingOf adopting.old recorded }
     requires port { F.Port.store port.old ≡ F.store files.old }
-    ensures goes_on { GoesOn (F.store files.old) adopting.old adopting.new }
+    ensures goes_on { KeepsAdopting (F.store files.old) adopting.old adopting.new }
     ensures all { OnOk result (HasAdoptedAll adopting.new) }
-    ensures taking { HasTaken adopting.old adopting.new (F.at_rest files.old) (F.at_rest files.new) }
+    ensures taking { HasTakenMore adopting.old adopting.new (F.at_rest files.old) (F.at_rest files.new) }
     ensures damaged { (part : store_part.Part) (at : ℕ) → IsErrOf result (OpenFault.Damaged part at)
         → (stored : List StoredFile) (recorded : Recorded) → IsAdoptingOf adopting.old recorded
-        → IsTakingUp stored recorded.store (files_of adopting.old) (F.at_rest files.old)
+        → IsTakingUp stored recorded.store (adopting_files adopting.old) (F.at_rest files.old)
         → IsFileDamaged (kept_bytes stored) recorded.store part at }
     ensures same_store { F.store files.new ≡ F.store files.old }
     ensures same_port { F.Port.store port.new ≡ F.Port.store port.old }
@@ -58,15 +58,16 @@ fn adopt_next<F: Files>(
 ) -> Result<(), OpenFault>
     requires some { (recorded : Recorded) × IsAdoptingOf adopting.old recorded }
     requires wanted { (recorded : Recorded) → IsAdoptingOf adopting.old recorded
-        → IsNext number.0 (files_of adopting.old) recorded.store }
+        → IsNextFile number.0 (adopting_files adopting.old) recorded.store }
     requires port { F.Port.store port.old ≡ F.store files.old }
-    ensures goes_on { GoesOn (F.store files.old) adopting.old adopting.new }
-    ensures taking { HasTaken adopting.old adopting.new (F.at_rest files.old) (F.at_rest files.new) }
-    ensures one_more { OnOk result (kept_count (files_of adopting.new) ≡ kept_count (files_of adopting.old) + 1) }
+    ensures goes_on { KeepsAdopting (F.store files.old) adopting.old adopting.new }
+    ensures taking { HasTakenMore adopting.old adopting.new (F.at_rest files.old) (F.at_rest files.new) }
+    ensures one_more { OnOk result (kept_count (adopting_files adopting.new)
+        ≡ kept_count (adopting_files adopting.old) + 1) }
     ensures damaged { (part : store_part.Part) (at : ℕ) → IsErrOf result (OpenFault.Damaged part at)
         → (part ≡ parts.File number) × ((stored : List StoredFile)
-        → IsRestIn stored (files_of adopting.old) (F.at_rest files.old)
-        → kept_file number.0 (files_of adopting.old) ≡ None → IsBadAt (kept_bytes stored number.0) at) }
+        → IsRestIn stored (adopting_files adopting.old) (F.at_rest files.old)
+        → kept_file number.0 (adopting_files adopting.old) ≡ None → IsBadAt (kept_bytes stored number.0) at) }
     ensures same_store { F.store files.new ≡ F.store files.old }
     ensures same_port { F.Port.store port.new ≡ F.Port.store port.old }
     ensures cause { HasFilesCause (F.faults files.old) (F.faults files.new) (F.Port.faults port.old)

@@ -8,8 +8,8 @@ use Rattle.std.specs.Prelude.{◌↔◌, IsSome, IsTrue}
 use Rattle.tsdb_state.specs.Places.{is_path}
 use Rattle.tsdb_model.specs.declared.command.Schema.{Schema}
 use Rattle.tsdb_memory.proofs.Types.{there_alike}
-use Rattle.tsdb_memory.specs.Fits.{HasNoPoint}
-use Rattle.tsdb_memory.specs.Shown.{IsFrozenOf, IsMemoryOf, entry_of, number_of}
+use Rattle.tsdb_memory.specs.Fits.{HasNoPairPoint}
+use Rattle.tsdb_memory.specs.Shown.{IsFrozenOf, IsMemoryOf, series_entry, number_of}
 use Rattle.tsdb_memory.specs.Store as value
 use Rattle.tsdb_redo.specs.Changes.{IsCreation, IsDeletion, IsFreezing}
 use Rattle.tsdb_state.specs.Limit.{IsEmptyPair}
@@ -18,7 +18,7 @@ use Rattle.tsdb_state.specs.Records.{CanCreate, CanDelete, CanFreeze}
 use Rattle.tsdb_state.specs.State.{SeriesEntry, StoreState}
 use Rattle.tsdb_state.specs.Worlds.{is_live_at, type_at}
 
-module _ (store : value.Store) (state : StoreState) (is : IsMemoryOf store state) where
+module _ (store : value.MemoryState) (state : StoreState) (is : IsMemoryOf store state) where
   pub creation : (schema : Schema) → IsCreation store schema ↔ CanCreate schema state
   creation schema =
       let same = there_alike store.series schema.path in (
@@ -54,11 +54,11 @@ zip_lengths R (x ∷ xs) [] all = absurd all
 zip_lengths R (x ∷ xs) (y ∷ ys) all = ap suc (zip_lengths R xs ys all.1)
 
 -- as many pairs are frozen in memory as in the state
-pub as_many_frozen : (store : value.Store) (state : StoreState) → IsMemoryOf store state
+pub as_many_frozen : (store : value.MemoryState) (state : StoreState) → IsMemoryOf store state
     → length store.frozen ≡ length state.frozen
 as_many_frozen store state is = zip_lengths (IsFrozenOf store.series) store.frozen state.frozen is.frozen
 
-pub no_place : (store : value.Store) (count : ℕ) → count ≡ length store.frozen → 2 ≤ count → IsFreezing store false
+pub no_place : (store : value.MemoryState) (count : ℕ) → count ≡ length store.frozen → 2 ≤ count → IsFreezing store false
 no_place store count same full = record {
   room = λ yes. absurd (false≢true yes);
   some = λ yes. absurd (false≢true yes);
@@ -68,9 +68,9 @@ no_place store count same full = record {
   );
 }
 
-pub unless_idle : (store : value.Store) (count : ℕ) → count ≡ length store.frozen → count < 2 → (idle : Bool)
+pub unless_idle : (store : value.MemoryState) (count : ℕ) → count ≡ length store.frozen → count < 2 → (idle : Bool)
     → ((state : StoreState) → IsMemoryOf store state → IsTrue idle ↔ IsEmptyPair state.working)
-    → (idle ≡ false → ¬ HasNoPoint store.working) → IsFreezing store (not idle)
+    → (idle ≡ false → ¬ HasNoPairPoint store.working) → IsFreezing store (not idle)
 unless_idle store count same few idle empty some = record {
   room = λ yes. omega (arith, same, few);
   some = λ yes. some (busy idle yes);

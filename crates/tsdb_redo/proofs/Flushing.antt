@@ -15,16 +15,16 @@ use Rattle.tsdb_base.specs.declared.ids.FileNumber.{FileNumber}
 use Rattle.tsdb_log.specs.declared.record.LogRecord.TheVariants.{Flushed}
 use Rattle.tsdb_memory.specs.Least.{IsLeastOf}
 use Rattle.tsdb_redo.proofs.Following.{kept_lists, lists_as, shows_after}
-use Rattle.tsdb_redo.specs.Lists.{AreListsOf, KeepsLists}
+use Rattle.tsdb_redo.specs.Lists.{AreListsOf, KeepsRecordedLists}
 use Rattle.tsdb_redo.specs.Named.{CanName, IsNamed, Named, NamesMore}
 use Rattle.tsdb_redo.specs.Redone.{IsReplayed}
 use Rattle.tsdb_redo.specs.declared.lists.FileLists.{FileLists}
 use Rattle.tsdb_redo.specs.Opening.{IsOpeningOf}
-use Rattle.tsdb_redo.specs.Stored.{HasNoFlush, IsFlushOf}
+use Rattle.tsdb_redo.specs.Stored.{HasNoFlush, CanRedoFlush}
 use Rattle.tsdb_redo.specs.declared.opening.Opening.{Opening}
 use Rattle.tsdb_state.specs.Stores.{Recorded}
 use Rattle.tsdb_state.specs.Records.{AreNew, CanFlush, IsNumberOf, flush_oldest, flushed, new_file, new_numbers}
-use Rattle.tsdb_state.specs.State.{FrozenPair, StoreState}
+use Rattle.tsdb_state.specs.State.{FrozenContent, StoreState}
 
 -- numbers that can be named are new
 
@@ -101,29 +101,29 @@ some_number number = by (nat_eq number 0) refl
 
 -- the oldest pair that is frozen in a state
 record Oldest (state : StoreState) (born : ℕ) : Type 0 where
-  oldest : FrozenPair
-  newer : List FrozenPair
+  oldest : FrozenContent
+  newer : List FrozenContent
   are : state.frozen ≡ oldest ∷ newer
   born_is : oldest.born ≡ born
 
-oldest_of : (store : value.Store) (first : value.FrozenPair) (rest : List value.FrozenPair) (state : StoreState)
+oldest_of : (store : value.MemoryState) (first : value.FrozenPair) (rest : List value.FrozenPair) (state : StoreState)
     → store.frozen ≡ first ∷ rest → IsMemoryOf store state → Oldest state first.born
 oldest_of store first rest state had is =
     by state.frozen refl (subst (λ l. AllZip (IsFrozenOf store.series) l state.frozen) had is.frozen)
   where
-    by : (shown : List FrozenPair) → state.frozen ≡ shown → AllZip (IsFrozenOf store.series) (first ∷ rest) shown
+    by : (shown : List FrozenContent) → state.frozen ≡ shown → AllZip (IsFrozenOf store.series) (first ∷ rest) shown
         → Oldest state first.born
     by [] e all = absurd all
     by (oldest ∷ newer) e all = record { oldest = oldest; newer = newer; are = e; born_is = all.0.born }
 
 module _ (opening : Opening) (sequence unsequence : ℕ) (first : value.FrozenPair) (rest : List value.FrozenPair)
     (had : opening.memory.frozen ≡ first ∷ rest) (has late : Bool)
-    (sequence_has : (state : StoreState) (oldest : FrozenPair) (newer : List FrozenPair) → IsMemoryOf opening.memory state
+    (sequence_has : (state : StoreState) (oldest : FrozenContent) (newer : List FrozenContent) → IsMemoryOf opening.memory state
     → state.frozen ≡ oldest ∷ newer → (IsTrue has ↔ (oldest.pair.sequence ≢ empty)))
-    (unsequence_has : (state : StoreState) (oldest : FrozenPair) (newer : List FrozenPair) → IsMemoryOf opening.memory state
+    (unsequence_has : (state : StoreState) (oldest : FrozenContent) (newer : List FrozenContent) → IsMemoryOf opening.memory state
     → state.frozen ≡ oldest ∷ newer → (IsTrue late ↔ (oldest.pair.unsequence ≢ empty))) where
   pub flush_of : (born : Stamp) → born.0 ≡ first.born → not (nat_eq sequence 0) ≡ has → not (nat_eq unsequence 0) ≡ late
-      → CanName opening.named (new_numbers (sequence ∷ unsequence ∷ [])) → IsFlushOf opening sequence unsequence born
+      → CanName opening.named (new_numbers (sequence ∷ unsequence ∷ [])) → CanRedoFlush opening sequence unsequence born
   flush_of born born_is s u can = record {
     some = subst (λ l. 0 < length l) (sym had) (omega arith);
     new = can;
@@ -166,13 +166,13 @@ none_frozen opening sequence unsequence none = λ recorded is can.
     by recorded.store.frozen can.are (subst (λ l. AllZip (IsFrozenOf opening.memory.series) l recorded.store.frozen) none
     is.memory.frozen)
   where
-    by : {oldest : FrozenPair} {newer : List FrozenPair} (shown : List FrozenPair) → shown ≡ oldest ∷ newer
+    by : {oldest : FrozenContent} {newer : List FrozenContent} (shown : List FrozenContent) → shown ≡ oldest ∷ newer
         → AllZip (IsFrozenOf opening.memory.series) [] shown → ⊥
     by [] e all = absurd cc
     by (x ∷ shown) e all = all
 
 -- the lists after a flush
-lists_flushed : (sequence unsequence born : ℕ) (state : StoreState) (oldest : FrozenPair) (newer : List FrozenPair)
+lists_flushed : (sequence unsequence born : ℕ) (state : StoreState) (oldest : FrozenContent) (newer : List FrozenContent)
     → state.frozen ≡ oldest ∷ newer → oldest.born ≡ born
     → (state.sequence ++ new_file sequence born ≡ (flushed sequence unsequence state).sequence)
     × (state.unsequence ++ new_file unsequence born ≡ (flushed sequence unsequence state).unsequence)
@@ -184,7 +184,7 @@ lists_flushed sequence unsequence born state oldest newer are is = (
 )
 
 module _ (old new : Opening) (middle : FileLists) (sequence unsequence : FileNumber) (born : Stamp)
-    (flush : IsFlushOf old sequence.0 unsequence.0 born) (kept : KeepsLists old.files middle)
+    (flush : CanRedoFlush old sequence.0 unsequence.0 born) (kept : KeepsRecordedLists old.files middle)
     (added : (state : StoreState) → AreListsOf middle state → AreListsOf new.files (record state {
       sequence = state.sequence ++ new_file sequence.0 born.0;
       unsequence = state.unsequence ++ new_file unsequence.0 born.0;

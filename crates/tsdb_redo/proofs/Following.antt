@@ -7,7 +7,7 @@ use Rattle.tsdb_log.specs.declared.record.LogRecord.{LogRecord}
 use Rattle.tsdb_memory.proofs.Counts.{among_either}
 use Rattle.tsdb_memory.specs.Shown.{IsMemoryOf}
 use Rattle.tsdb_memory.specs.Least.{IsLeastOf}
-use Rattle.tsdb_redo.specs.Lists.{AreListsOf, KeepsLists, borns_of, files_of, state_of}
+use Rattle.tsdb_redo.specs.Lists.{AreListsOf, KeepsRecordedLists, borns_of_files, listed_files, state_of}
 use Rattle.tsdb_redo.specs.Named.{IsNamed, Named, NamesMore}
 use Rattle.tsdb_redo.specs.Opening.{IsOpeningOf}
 use Rattle.std.specs.declared.result.Result.{Result}
@@ -80,22 +80,22 @@ pub lists_as : (lists : FileLists) (old new : StoreState) → old.sequence ≡ n
 lists_as lists old new s u are = record {
   sequence = are.sequence ∙ s;
   unsequence = are.unsequence ∙ u;
-  least = subst (λ q. IsLeastOf lists.least (borns_of (q ++ new.unsequence))) s
-      (subst (λ q. IsLeastOf lists.least (borns_of (old.sequence ++ q))) u are.least);
+  least = subst (λ q. IsLeastOf lists.least (borns_of_files (q ++ new.unsequence))) s
+      (subst (λ q. IsLeastOf lists.least (borns_of_files (old.sequence ++ q))) u are.least);
 }
 
 -- lists with more room are of the same state
-pub kept_lists : (old new : FileLists) (state : StoreState) → KeepsLists old new → AreListsOf old state → AreListsOf new state
+pub kept_lists : (old new : FileLists) (state : StoreState) → KeepsRecordedLists old new → AreListsOf old state → AreListsOf new state
 kept_lists old new state kept are = record {
-  sequence = ap files_of kept.sequence ∙ are.sequence;
-  unsequence = ap files_of kept.unsequence ∙ are.unsequence;
-  least = subst (λ o. IsLeastOf o (borns_of (state.sequence ++ state.unsequence))) (sym kept.least) are.least;
+  sequence = ap listed_files kept.sequence ∙ are.sequence;
+  unsequence = ap listed_files kept.unsequence ∙ are.unsequence;
+  least = subst (λ o. IsLeastOf o (borns_of_files (state.sequence ++ state.unsequence))) (sym kept.least) are.least;
 }
 
-pub kept_state : (old new : FileLists) → KeepsLists old new → state_of old ≡ state_of new
+pub kept_state : (old new : FileLists) → KeepsRecordedLists old new → state_of old ≡ state_of new
 kept_state old new kept =
-    ap (λ l. record (state_of old) { sequence = files_of l }) (sym kept.sequence)
-    ∙ ap (λ l. record (state_of new) { unsequence = files_of l }) (sym kept.unsequence)
+    ap (λ l. record (state_of old) { sequence = listed_files l }) (sym kept.sequence)
+    ∙ ap (λ l. record (state_of new) { unsequence = listed_files l }) (sym kept.unsequence)
 
 -- memory ran out, and the same state is shown
 pub out_of_memory : (old new : Opening) (item : LogRecord) (result : Result Unit RedoFault) (fault : RedoFault)

@@ -12,12 +12,12 @@ use Rattle.tsdb_base.specs.declared.ids.FileNumber.{FileNumber}
 use Rattle.tsdb_base.specs.Lists.{Among}
 use Rattle.tsdb_redo.specs.Named.{IsGreatest, IsInRun, IsNamed, Named, run_from}
 use Rattle.tsdb_redo.specs.Opening.{greatest, next_number, with_stored}
-use Rattle.tsdb_redo.specs.Runs.{AreKept, AreRuns, IsLastOf}
+use Rattle.tsdb_redo.specs.Runs.{AreSoundNumbers, AreRuns, IsLastInRuns}
 use Rattle.tsdb_redo.proofs.Runs.{one_end}
 
 -- the last number of the last run is the greatest
 pub last_run : (runs : BTreeMap ℕ ℕ) (first last : ℕ) → AreRuns runs.entries → get nat_cmp runs first ≡ Some last
-    → IsUpperBound nat_cmp runs first → IsLastOf runs.entries last
+    → IsUpperBound nat_cmp runs first → IsLastInRuns runs.entries last
 last_run runs first last are run bound = record {
   reaches = λ other there. reaches other there (cases_lt there.first first);
   has = inr (record { first = first; last = last; is_run = run; from = are.forward first last run; to = omega arith });
@@ -35,14 +35,14 @@ last_run runs first last are run bound = record {
         omega (arith, there.to, end)
 
 -- no run has a number
-pub no_run : (runs : List (ℕ × ℕ)) → runs ≡ [] → IsLastOf runs 0
+pub no_run : (runs : List (ℕ × ℕ)) → runs ≡ [] → IsLastInRuns runs 0
 no_run runs none = record {
   reaches = λ other there. let e : ◌≡◌ {A = Option ℕ} None (Some there.last) = sym (ap (run_from there.first) none) ∙ there.is_run in absurd cc;
   has = inl refl;
 }
 
 -- the newest number counts too
-pub with_newest : (named : Named) (newest last : ℕ) → named.newest ≡ Some newest → IsLastOf named.runs last
+pub with_newest : (named : Named) (newest last : ℕ) → named.newest ≡ Some newest → IsLastInRuns named.runs last
     → IsGreatest named (max last newest)
 with_newest named newest last is of = record {
   reaches = λ other there. ⊎_elim (λ run. omega (arith, of.reaches other run))
@@ -56,7 +56,7 @@ with_newest named newest last is of = record {
     has (inr le) (inl zero) = inl (omega (arith, zero, le))
     has (inr le) (inr run) = let e : last ≡ max last newest = omega (arith, le) in inr (inl (subst (IsInRun named.runs) e run))
 
-pub without_newest : (named : Named) (last : ℕ) → named.newest ≡ None → IsLastOf named.runs last → IsGreatest named last
+pub without_newest : (named : Named) (last : ℕ) → named.newest ≡ None → IsLastInRuns named.runs last → IsGreatest named last
 without_newest named last none of = record {
   reaches = λ other there. ⊎_elim (λ run. of.reaches other run)
       (λ e. let wrong : ◌≡◌ {A = Option ℕ} None (Some other) = sym none ∙ e in absurd cc) there;
@@ -67,7 +67,7 @@ pub no_entries : (runs : List (ℕ × ℕ)) → (0 < length runs → ⊥) → ru
 no_entries [] none = refl
 no_entries (run ∷ runs) none = absurd (none (omega arith))
 
-pub newest_end : (named : Named) (newest : ℕ) → named.newest ≡ Some newest → AreKept named → newest < end_of_numbers
+pub newest_end : (named : Named) (newest : ℕ) → named.newest ≡ Some newest → AreSoundNumbers named → newest < end_of_numbers
 newest_end named newest is kept = (subst (λ o. IfSome o (λ number. (number < end_of_numbers) × (¬ IsInRun named.runs number)))
     is kept.newest).0
 

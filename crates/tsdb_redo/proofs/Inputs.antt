@@ -8,7 +8,7 @@ use Rattle.std.proofs.lemmas.Bool.{eq-eqb, eqb-true, false≢true}
 use Rattle.std.specs.Prelude.{◌↔◌}
 use Rattle.tsdb_base.specs.declared.ids.FileNumber.{FileNumber}
 use Rattle.tsdb_base.specs.declared.ids.Stamp.{Stamp}
-use Rattle.tsdb_redo.specs.Lists.{AreInputs, files_of}
+use Rattle.tsdb_redo.specs.Lists.{AreInputs, listed_files}
 use Rattle.tsdb_redo.specs.declared.lists.ListedFile.{ListedFile}
 use Rattle.tsdb_state.specs.Records.{number_list, numbers_of}
 
@@ -30,13 +30,13 @@ pub inputs_cons : (file : ListedFile) (files : List ListedFile) (number : FileNu
     (born : Stamp) → AreInputs (file ∷ files) (number ∷ numbers) born
     ↔ ((file.number.0 ≡ number.0) × (file.born.0 ≤ born.0) × AreInputs files numbers born)
 inputs_cons file files number numbers born = (
-  λ are. let same = heads file.number.0 number.0 (numbers_of (files_of files)) (number_list numbers) are.0 in
+  λ are. let same = heads file.number.0 number.0 (numbers_of (listed_files files)) (number_list numbers) are.0 in
       (same.0, are.1.0, (same.1, are.1.1)),
   λ parts. (cc_cons parts.0 parts.2.0, (parts.1, parts.2.1)),
 )
   where
-    cc_cons : file.number.0 ≡ number.0 → numbers_of (files_of files) ≡ number_list numbers
-        → numbers_of (files_of (file ∷ files)) ≡ number_list (number ∷ numbers)
+    cc_cons : file.number.0 ≡ number.0 → numbers_of (listed_files files) ≡ number_list numbers
+        → numbers_of (listed_files (file ∷ files)) ≡ number_list (number ∷ numbers)
     cc_cons a b = cc
 
 module _ (files : List ListedFile) (numbers : List FileNumber) (born : Stamp) (i : ℕ) (d : ListedFile) (n : FileNumber)

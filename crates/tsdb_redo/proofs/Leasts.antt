@@ -6,10 +6,10 @@ use Rattle.std.proofs.lemmas.List.{drop_all, map-append}
 use Rattle.tsdb_base.specs.declared.ids.Stamp.{Stamp}
 use Rattle.tsdb_base.specs.Lists.{Among}
 use Rattle.tsdb_base.proofs.Lists.{among_left, among_right, each_among, each_from_among}
-use Rattle.tsdb_memory.specs.Least.{IsLeastOf, least_with, lesser}
+use Rattle.tsdb_memory.specs.Least.{IsLeastOf, least_with, lesser_born}
 use Rattle.tsdb_memory.proofs.Borns.{least_all}
 use Rattle.tsdb_memory.proofs.Counts.{among_either}
-use Rattle.tsdb_redo.specs.Lists.{AreListsOf, borns_of, files_of}
+use Rattle.tsdb_redo.specs.Lists.{AreListsOf, borns_of_files, listed_files}
 use Rattle.tsdb_redo.specs.declared.lists.FileLists.{FileLists}
 use Rattle.tsdb_redo.specs.declared.lists.ListedFile.{ListedFile}
 use Rattle.tsdb_state.specs.State.{File, StoreState}
@@ -17,15 +17,15 @@ use Rattle.tsdb_state.specs.State.{File, StoreState}
 -- the loop over files
 
 pub at_next : (files : List ListedFile) (i : ℕ) (d : ListedFile) (least : Option Stamp) → i < length files
-    → least_with least (borns_of (files_of (drop i files)))
-    ≡ least_with (Some (lesser least (get_or files i d).born.0)) (borns_of (files_of (drop (i + 1) files)))
+    → least_with least (borns_of_files (listed_files (drop i files)))
+    ≡ least_with (Some (lesser_born least (get_or files i d).born.0)) (borns_of_files (listed_files (drop (i + 1) files)))
 at_next files i d least below =
-    ap (λ l. least_with least (borns_of (files_of l)))
+    ap (λ l. least_with least (borns_of_files (listed_files l)))
     (drop-cons files i d below ∙ ap (λ n. get_or files i d ∷ drop n files) (sym (add-one i)))
 
 pub at_end : (files : List ListedFile) (i : ℕ) (least : Option Stamp) → length files ≤ i
-    → least_with least (borns_of (files_of (drop i files))) ≡ least
-at_end files i least end = ap (λ l. least_with least (borns_of (files_of l))) (drop_all i files end)
+    → least_with least (borns_of_files (listed_files (drop i files))) ≡ least
+at_end files i least end = ap (λ l. least_with least (borns_of_files (listed_files l))) (drop_all i files end)
 
 -- it is the least of numbers by what is among them
 least_members : (least : Option Stamp) (a b : List ℕ) → ((n : ℕ) → Among n a → Among n b)
@@ -60,21 +60,21 @@ among_back n a b c d among = ⊎_elim
     (λ in_d. among_right ((a ++ b) ++ c) d n in_d) (among_either b d n bd))
     (among_either (a ++ c) (b ++ d) n among)
 
-borns_append : (xs ys : List File) → borns_of (xs ++ ys) ≡ borns_of xs ++ borns_of ys
+borns_append : (xs ys : List File) → borns_of_files (xs ++ ys) ≡ borns_of_files xs ++ borns_of_files ys
 borns_append xs ys = map-append (λ (file : File). file.born) xs ys
 
 -- the least of two lists, and of what each has more
-pub least_more : (least : Option Stamp) (s u more later : List File) → IsLeastOf least (borns_of (s ++ u))
-    → IsLeastOf (least_with (least_with least (borns_of more)) (borns_of later))
-    (borns_of ((s ++ more) ++ (u ++ later)))
+pub least_more : (least : Option Stamp) (s u more later : List File) → IsLeastOf least (borns_of_files (s ++ u))
+    → IsLeastOf (least_with (least_with least (borns_of_files more)) (borns_of_files later))
+    (borns_of_files ((s ++ more) ++ (u ++ later)))
 least_more least s u more later is =
-    let bs = borns_of s in
-    let bu = borns_of u in
-    let bm = borns_of more in
-    let bl = borns_of later in
+    let bs = borns_of_files s in
+    let bu = borns_of_files u in
+    let bm = borns_of_files more in
+    let bl = borns_of_files later in
     subst (IsLeastOf (least_with (least_with least bm) bl))
     (sym (borns_append (s ++ more) (u ++ later)
-    ∙ ap (λ l. l ++ borns_of (u ++ later)) (borns_append s more)
+    ∙ ap (λ l. l ++ borns_of_files (u ++ later)) (borns_append s more)
     ∙ ap (λ l. (bs ++ bm) ++ l) (borns_append u later)))
     (least_members (least_with (least_with least bm) bl) (((bs ++ bu) ++ bm) ++ bl) ((bs ++ bm) ++ (bu ++ bl))
     (λ n. among_moved n bs bu bm bl) (λ n. among_back n bs bu bm bl)
@@ -83,20 +83,20 @@ least_more least s u more later is =
 
 -- the least of two lists from nothing
 pub least_of_lists : (s u : List File)
-    → IsLeastOf (least_with (least_with None (borns_of s)) (borns_of u)) (borns_of (s ++ u))
-least_of_lists s u = subst (IsLeastOf (least_with (least_with None (borns_of s)) (borns_of u))) (sym (borns_append s u))
-    (least_all (least_with None (borns_of s)) (borns_of s) (borns_of u) (least_all None [] (borns_of s) refl))
+    → IsLeastOf (least_with (least_with None (borns_of_files s)) (borns_of_files u)) (borns_of_files (s ++ u))
+least_of_lists s u = subst (IsLeastOf (least_with (least_with None (borns_of_files s)) (borns_of_files u))) (sym (borns_append s u))
+    (least_all (least_with None (borns_of_files s)) (borns_of_files s) (borns_of_files u) (least_all None [] (borns_of_files s) refl))
 
 -- the lists after a flush
 pub lists_flushed : (old new : FileLists) (more later : List File) (state : StoreState)
-    → files_of new.sequence.items ≡ files_of old.sequence.items ++ more
-    → files_of new.unsequence.items ≡ files_of old.unsequence.items ++ later
-    → new.least ≡ least_with (least_with old.least (borns_of more)) (borns_of later)
+    → listed_files new.sequence.items ≡ listed_files old.sequence.items ++ more
+    → listed_files new.unsequence.items ≡ listed_files old.unsequence.items ++ later
+    → new.least ≡ least_with (least_with old.least (borns_of_files more)) (borns_of_files later)
     → AreListsOf old state
     → AreListsOf new (record state { sequence = state.sequence ++ more; unsequence = state.unsequence ++ later })
 lists_flushed old new more later state s u least are = record {
   sequence = s ∙ ap (λ l. l ++ more) are.sequence;
   unsequence = u ∙ ap (λ l. l ++ later) are.unsequence;
-  least = subst (λ o. IsLeastOf o (borns_of ((state.sequence ++ more) ++ (state.unsequence ++ later)))) (sym least)
+  least = subst (λ o. IsLeastOf o (borns_of_files ((state.sequence ++ more) ++ (state.unsequence ++ later)))) (sym least)
       (least_more old.least state.sequence state.unsequence more later are.least);
 }

@@ -14,9 +14,9 @@ use Rattle.tsdb_base.specs.declared.point.Point.{Point}
 use Rattle.tsdb_base.specs.declared.point.Range.{Range}
 use Rattle.tsdb_base.specs.declared.value.Value.{Value}
 use Rattle.tsdb_log.specs.declared.record.CellRecord.{CellRecord}
-use Rattle.tsdb_memory.specs.Shown.{value_at}
+use Rattle.tsdb_memory.specs.Shown.{point_value_at}
 use Rattle.tsdb_memtable.specs.Pairs.{Pair, points_of}
-use Rattle.tsdb_memtable.specs.Points.{is_within}
+use Rattle.tsdb_memtable.specs.Points.{is_point_within}
 use Rattle.tsdb_redo.specs.Rows.{new_points}
 
 at_one_time : (t p : ℤ) → (int_le t p && int_le p t) ≡ int_eq t p
@@ -28,17 +28,17 @@ at_one_time t p = by (int_eq t p) refl
 
 -- no point is at the one time of a range exactly where there is no value at the time
 none_at : (time : ℤ) (range : Range) → range.from ≡ time → range.to ≡ time → (points : List Point)
-    → (length (filter (is_within range) points) ≡ 0) ↔ (value_at time points ≡ None)
+    → (length (filter (is_point_within range) points) ≡ 0) ↔ (point_value_at time points ≡ None)
 none_at time range from to [] = (λ e. refl, λ e. refl)
-none_at time range from to (point ∷ points) = by (is_within range point) (int_eq time point.time) same (none_at time range from to points)
+none_at time range from to (point ∷ points) = by (is_point_within range point) (int_eq time point.time) same (none_at time range from to points)
   where
-    same : is_within range point ≡ int_eq time point.time
+    same : is_point_within range point ≡ int_eq time point.time
     same = ap (λ t. int_le t point.time && int_le point.time range.to) from
         ∙ ap (λ t. int_le time point.time && int_le point.time t) to ∙ at_one_time time point.time
 
     by : (a b : Bool) → a ≡ b
-        → (length (filter (is_within range) points) ≡ 0) ↔ (value_at time points ≡ None)
-        → (length (cond a (point ∷ filter (is_within range) points) (filter (is_within range) points)) ≡ 0)
+        → (length (filter (is_point_within range) points) ≡ 0) ↔ (point_value_at time points ≡ None)
+        → (length (cond a (point ∷ filter (is_point_within range) points) (filter (is_point_within range) points)) ≡ 0)
         ↔ (option_map (λ (p : Point). p.value) (cond b (Some point) (find (λ (p : Point). int_eq time p.time) points)) ≡ None)
     by true true e rest = (λ zero. absurd (omega (arith, zero)), λ none. absurd cc)
     by false false e rest = rest
@@ -49,8 +49,8 @@ zero_by : (n : ℕ) → IsTrue (n == 0) ↔ (n ≡ 0)
 zero_by n = (λ e. grind (arith, e), λ e. grind (arith, e))
 
 pub is_new_by : (time : ℤ) (range : Range) (points slice : List Point) → range.from ≡ time → range.to ≡ time
-    → slice ≡ filter (is_within range) points → (b : Bool) → b ≡ (length slice == 0)
-    → IsTrue b ↔ (value_at time points ≡ None)
+    → slice ≡ filter (is_point_within range) points → (b : Bool) → b ≡ (length slice == 0)
+    → IsTrue b ↔ (point_value_at time points ≡ None)
 is_new_by time range points slice from to is b e =
     let none = none_at time range from to points in
     let zero = zero_by (length slice) in (
@@ -62,7 +62,7 @@ is_new_by time range points slice from to is b e =
 module _ (space : Space) (time : ℤ) (pair : Pair) (cells : List CellRecord) (i : ℕ) (cell : CellRecord)
     (below : i < length cells) (is : cell ≡ get_or cells i cell) where
   next : new_points space time pair (drop i cells)
-      ≡ cond (is_some (value_at time (points_of space cell.series.0 pair))) 0 1 + new_points space time pair (drop (i + 1) cells)
+      ≡ cond (is_some (point_value_at time (points_of space cell.series.0 pair))) 0 1 + new_points space time pair (drop (i + 1) cells)
   next = ap (new_points space time pair)
       (drop-cons cells i cell below ∙ ap (λ c. c ∷ drop (suc i) cells) (sym is) ∙ ap (λ n. cell ∷ drop n cells) (sym (add-one i)))
 
@@ -74,15 +74,15 @@ module _ (space : Space) (time : ℤ) (pair : Pair) (cells : List CellRecord) (i
   none_if None e = absurd (e refl)
   none_if (Some v) e = refl
 
-  pub counted : (count next_count all : ℕ) → next_count ≡ count + 1 → value_at time (points_of space cell.series.0 pair) ≡ None
+  pub counted : (count next_count all : ℕ) → next_count ≡ count + 1 → point_value_at time (points_of space cell.series.0 pair) ≡ None
       → count + new_points space time pair (drop i cells) ≡ all
       → next_count + new_points space time pair (drop (i + 1) cells) ≡ all
-  counted count next_count all one_more none so_far = omega (arith, one_more, so_far, next, one_if (value_at time (points_of space cell.series.0 pair)) none)
+  counted count next_count all one_more none so_far = omega (arith, one_more, so_far, next, one_if (point_value_at time (points_of space cell.series.0 pair)) none)
 
-  pub not_counted : (count next_count all : ℕ) → next_count ≡ count → (value_at time (points_of space cell.series.0 pair) ≡ None → ⊥)
+  pub not_counted : (count next_count all : ℕ) → next_count ≡ count → (point_value_at time (points_of space cell.series.0 pair) ≡ None → ⊥)
       → count + new_points space time pair (drop i cells) ≡ all
       → next_count + new_points space time pair (drop (i + 1) cells) ≡ all
-  not_counted count next_count all same some so_far = omega (arith, same, so_far, next, none_if (value_at time (points_of space cell.series.0 pair)) some)
+  not_counted count next_count all same some so_far = omega (arith, same, so_far, next, none_if (point_value_at time (points_of space cell.series.0 pair)) some)
 
 pub all_counted : (space : Space) (time : ℤ) (pair : Pair) (cells : List CellRecord) (i count all : ℕ) → length cells ≤ i
     → count + new_points space time pair (drop i cells) ≡ all → count ≡ all

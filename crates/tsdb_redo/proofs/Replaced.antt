@@ -6,7 +6,7 @@ use Rattle.tsdb_memory.specs.Shown.{IsMemoryOf, file_borns}
 use Rattle.tsdb_redo.proofs.Flushing.{are_new}
 use Rattle.tsdb_redo.proofs.Following.{kept_lists, shows_after}
 use Rattle.tsdb_redo.proofs.Standing.{for_state}
-use Rattle.tsdb_redo.specs.Lists.{AreListsOf, KeepsLists, replacement_of}
+use Rattle.tsdb_redo.specs.Lists.{AreListsOf, KeepsRecordedLists, replacement_of}
 use Rattle.tsdb_redo.specs.Named.{NamesMore}
 use Rattle.tsdb_redo.specs.Opening.{IsOpeningOf}
 use Rattle.tsdb_redo.specs.Redone.{IsReplayed}
@@ -37,7 +37,7 @@ replacing opening item recorded is =
     )
 
 module _ (old new : Opening) (middle : FileLists) (item : Replacing) (can : IsReplacing old item)
-    (kept : KeepsLists old.files middle)
+    (kept : KeepsRecordedLists old.files middle)
     (put : (state : StoreState) → AreListsOf middle state
     → AreListsOf new.files (replace_in item.space (replacement_of item) state))
     (effect : (state : StoreState) (item : Replacement) → IsMemoryOf old.memory state

@@ -19,17 +19,17 @@ use Rattle.tsdb_log.specs.declared.record.CellRecord.{CellRecord}
 use Rattle.tsdb_model.specs.declared.command.Schema.{Schema}
 use Rattle.tsdb_memory.proofs.Numbers.{at_map, some_same}
 use Rattle.tsdb_memory.proofs.RowCells.{at_number, path_at}
-use Rattle.tsdb_memory.specs.Model.{IsFitting, IsSound}
-use Rattle.tsdb_memory.specs.Shown.{IsMemoryOf, entry_of, number_of, part_of, value_at, value_found}
-use Rattle.tsdb_memory.specs.Store.{Store}
+use Rattle.tsdb_memory.specs.Model.{IsFitting, IsSoundMemory}
+use Rattle.tsdb_memory.specs.Shown.{IsMemoryOf, series_entry, number_of, part_of, point_value_at, value_found}
+use Rattle.tsdb_memory.specs.Store.{MemoryState}
 use Rattle.tsdb_memtable.specs.Pairs.{Pair, points_of}
 use Rattle.tsdb_memtable.specs.Watermarks.{space_by, watermark}
 use Rattle.tsdb_redo.proofs.Counting.{count_cells, few_fresh, fresh}
-use Rattle.tsdb_redo.specs.Rows.{DifferInSeries, HasNoInsert, HasRoomFor, IsCellOf, IsDeviceOf, IsRowOf, LacksItsSeries, new_points}
+use Rattle.tsdb_redo.specs.Rows.{DifferInSeries, HasNoInsert, TellsRoomFor, IsCellOf, IsDeviceOf, IsRowOf, LacksItsSeries, new_points}
 use Rattle.tsdb_path.specs.Nodes.{child_of, device_of, dot}
 use Rattle.tsdb_state.specs.Limit.{IsEmptyPair, point_count}
 use Rattle.tsdb_base.specs.Limits.{end_of_numbers, max_pair_points}
-use Rattle.tsdb_state.specs.Records.{CanInsert, IsOfDevice, inserted, path_of, place_of}
+use Rattle.tsdb_state.specs.Records.{CanInsert, IsOfDevice, inserted, path_of, cell_place}
 use Rattle.tsdb_state.specs.State.{StoreState}
 
 -- lists by recursion and by places
@@ -59,21 +59,21 @@ cell_at series device cell there =
     record { schema = at.schema; at = at.at; fits = at.holds }
 
 in_state : (series : List Schema) (device : List ℕ) (cell : CellRecord) → IsCellOf series device cell
-    → IsSomeAnd (slice_get (map entry_of series) cell.series.0) (IsOfDevice device cell)
-in_state series device cell there = subst (λ o. IsSomeAnd o (IsOfDevice device cell)) (sym (at_map entry_of series cell.series.0))
+    → IsSomeAnd (slice_get (map series_entry series) cell.series.0) (IsOfDevice device cell)
+in_state series device cell there = subst (λ o. IsSomeAnd o (IsOfDevice device cell)) (sym (at_map series_entry series cell.series.0))
     (by (slice_get series cell.series.0) there)
   where
-    by : (o : Option Schema) → IsSomeAnd o (IsFitting device cell) → IsSomeAnd (option_map entry_of o) (IsOfDevice device cell)
+    by : (o : Option Schema) → IsSomeAnd o (IsFitting device cell) → IsSomeAnd (option_map series_entry o) (IsOfDevice device cell)
     by None none = absurd none
     by (Some schema) fits = record { live = refl; of_device = fits.of_device; type = fits.type }
 
 in_memory : (series : List Schema) (device : List ℕ) (cell : CellRecord)
-    → IsSomeAnd (slice_get (map entry_of series) cell.series.0) (IsOfDevice device cell) → IsCellOf series device cell
+    → IsSomeAnd (slice_get (map series_entry series) cell.series.0) (IsOfDevice device cell) → IsCellOf series device cell
 in_memory series device cell there =
     by (slice_get series cell.series.0)
-    (subst (λ o. IsSomeAnd o (IsOfDevice device cell)) (at_map entry_of series cell.series.0) there)
+    (subst (λ o. IsSomeAnd o (IsOfDevice device cell)) (at_map series_entry series cell.series.0) there)
   where
-    by : (o : Option Schema) → IsSomeAnd (option_map entry_of o) (IsOfDevice device cell) → IsSomeAnd o (IsFitting device cell)
+    by : (o : Option Schema) → IsSomeAnd (option_map series_entry o) (IsOfDevice device cell) → IsSomeAnd o (IsFitting device cell)
     by None none = absurd none
     by (Some schema) fits = record { of_device = fits.of_device; type = fits.type }
 
@@ -88,14 +88,14 @@ own_device series device other (first ∷ cells) is there = inr (by (slice_get s
     by None none fits = absurd none
     by (Some schema) same fits = sym fits.of_device ∙ same
 
-module _ (store : Store) (device : List ℕ) (time : ℤ) (cells : List CellRecord) (state : StoreState)
+module _ (store : MemoryState) (device : List ℕ) (time : ℤ) (cells : List CellRecord) (state : StoreState)
     (is : IsMemoryOf store state) where
-  pub can_insert : IsRowOf store device cells → HasRoomFor store time cells true → CanInsert time cells state
+  pub can_insert : IsRowOf store device cells → TellsRoomFor store time cells true → CanInsert time cells state
   can_insert row room = record {
     device = device;
     there = subst (λ l. Each (λ cell. IsSomeAnd (slice_get l cell.series.0) (IsOfDevice device cell)) cells) (sym is.schemas)
         (each_weaker (IsCellOf store.series device)
-        (λ cell. IsSomeAnd (slice_get (map entry_of store.series) cell.series.0) (IsOfDevice device cell))
+        (λ cell. IsSomeAnd (slice_get (map series_entry store.series) cell.series.0) (IsOfDevice device cell))
         (in_state store.series device) cells row.there);
     differ = row.differ;
     fits = (room state is).0 refl;
@@ -105,7 +105,7 @@ module _ (store : Store) (device : List ℕ) (time : ℤ) (cells : List CellReco
   pub is_row_of : IsDeviceOf store.series cells device → CanInsert time cells state → IsRowOf store device cells
   is_row_of own can =
       let there = each_weaker
-      (λ cell. IsSomeAnd (slice_get (map entry_of store.series) cell.series.0) (IsOfDevice can.device cell))
+      (λ cell. IsSomeAnd (slice_get (map series_entry store.series) cell.series.0) (IsOfDevice can.device cell))
       (IsCellOf store.series can.device) (in_memory store.series can.device) cells
       (subst (λ l. Each (λ cell. IsSomeAnd (slice_get l cell.series.0) (IsOfDevice can.device cell)) cells) is.schemas can.there) in
       record {
@@ -119,7 +119,7 @@ module _ (store : Store) (device : List ℕ) (time : ℤ) (cells : List CellReco
 
   pub lacks_series : LacksItsSeries store.series cells → CanInsert time cells state → ⊥
   lacks_series lacks can = by cells lacks (each_weaker
-      (λ cell. IsSomeAnd (slice_get (map entry_of store.series) cell.series.0) (IsOfDevice can.device cell))
+      (λ cell. IsSomeAnd (slice_get (map series_entry store.series) cell.series.0) (IsOfDevice can.device cell))
       (IsCellOf store.series can.device) (in_memory store.series can.device) cells
       (subst (λ l. Each (λ cell. IsSomeAnd (slice_get l cell.series.0) (IsOfDevice can.device cell)) cells) is.schemas can.there))
     where
@@ -131,15 +131,15 @@ module _ (store : Store) (device : List ℕ) (time : ℤ) (cells : List CellReco
 -- the points that a row adds
 
 has_point : Space → ℤ → Pair → CellRecord → Bool
-has_point space time pair cell = is_some (value_at time (points_of space cell.series.0 pair))
+has_point space time pair cell = is_some (point_value_at time (points_of space cell.series.0 pair))
 
 pub as_fresh : (space : Space) (time : ℤ) (pair : Pair) (cells : List CellRecord)
-    → new_points space time pair cells ≡ fresh (λ cell. is_some (value_at time (points_of space cell.series.0 pair))) cells
+    → new_points space time pair cells ≡ fresh (λ cell. is_some (point_value_at time (points_of space cell.series.0 pair))) cells
 as_fresh space time pair [] = refl
 as_fresh space time pair (cell ∷ cells) =
-    ap (λ n. cond (is_some (value_at time (points_of space cell.series.0 pair))) 0 1 + n) (as_fresh space time pair cells)
+    ap (λ n. cond (is_some (point_value_at time (points_of space cell.series.0 pair))) 0 1 + n) (as_fresh space time pair cells)
 
-module _ (store : Store) (device : List ℕ) (time : ℤ) (sound : IsSound store) (state : StoreState)
+module _ (store : MemoryState) (device : List ℕ) (time : ℤ) (sound : IsSoundMemory store) (state : StoreState)
     (is : IsMemoryOf store state) (space : Space) (rule : space ≡ space_by (watermark store.watermarks device) time) where
   path_is : (cell : CellRecord) (there : IsCellOf store.series device cell)
       → path_of state.schemas cell.series.0 ≡ (cell_at store.series device cell there).schema.path
@@ -167,10 +167,10 @@ module _ (store : Store) (device : List ℕ) (time : ℤ) (sound : IsSound store
       ap (number_of store.series) (path_is cell there) ∙ sound.once cell.series.0 at.schema at.at
 
   point_is : (cell : CellRecord) → IsCellOf store.series device cell
-      → is_some (value_at time (points_of space cell.series.0 store.working))
-      ≡ is_some (get (part_of space state.working) (place_of state.schemas time cell))
+      → is_some (point_value_at time (points_of space cell.series.0 store.working))
+      ≡ is_some (get (part_of space state.working) (cell_place state.schemas time cell))
   point_is cell there = ap is_some (sym (part_is space (path_of state.schemas cell.series.0)
-      ∙ ap (option_and_then (λ number. value_at time (points_of space number store.working))) (number_is cell there)))
+      ∙ ap (option_and_then (λ number. point_value_at time (points_of space number store.working))) (number_is cell there)))
 
   apart : (cells : List CellRecord) → Each (IsCellOf store.series device) cells → DifferInSeries cells
       → EachPair (λ cell other. path_of state.schemas cell.series.0 ≢ path_of state.schemas other.series.0) cells
@@ -192,26 +192,26 @@ module _ (store : Store) (device : List ℕ) (time : ℤ) (sound : IsSound store
       ≡ point_count state.working + new_points space time store.working cells
   points_after cells row =
       count_cells state.schemas state.watermarks space time
-      (λ cell. is_some (value_at time (points_of space cell.series.0 store.working))) cells state.working
+      (λ cell. is_some (point_value_at time (points_of space cell.series.0 store.working))) cells state.working
       (each_weaker (IsCellOf store.series device)
       (λ cell. space_by (get state.watermarks (device_of (path_of state.schemas cell.series.0))) time ≡ space)
       space_at cells row.there)
       (apart cells row.there row.differ)
       (each_weaker (IsCellOf store.series device)
-      (λ cell. is_some (value_at time (points_of space cell.series.0 store.working))
-      ≡ is_some (get (part_of space state.working) (place_of state.schemas time cell))) point_is cells row.there)
+      (λ cell. is_some (point_value_at time (points_of space cell.series.0 store.working))
+      ≡ is_some (get (part_of space state.working) (cell_place state.schemas time cell))) point_is cells row.there)
       ∙ ap (λ n. point_count state.working + n) (sym (as_fresh space time store.working cells))
 
 pub few_new : (space : Space) (time : ℤ) (pair : Pair) (cells : List CellRecord)
     → new_points space time pair cells ≤ length cells
 few_new space time pair cells = subst (λ n. n ≤ length cells) (sym (as_fresh space time pair cells))
-    (few_fresh (λ cell. is_some (value_at time (points_of space cell.series.0 pair))) cells)
+    (few_fresh (λ cell. is_some (point_value_at time (points_of space cell.series.0 pair))) cells)
 
-module _ (store : Store) (device : List ℕ) (time : ℤ) (cells : List CellRecord) (sound : IsSound store)
+module _ (store : MemoryState) (device : List ℕ) (time : ℤ) (cells : List CellRecord) (sound : IsSoundMemory store)
     (row : IsRowOf store device cells) (points : ℕ)
     (total : (state : StoreState) → IsMemoryOf store state → point_count state.working ≡ points) where
   -- the working pair keeps to its points, whichever of the cells have one
-  pub room_for_all : points + length cells ≤ max_pair_points → HasRoomFor store time cells true
+  pub room_for_all : points + length cells ≤ max_pair_points → TellsRoomFor store time cells true
   room_for_all few state is =
       let space = space_by (watermark store.watermarks device) time in (
         λ yes. inr (omega (
@@ -226,7 +226,7 @@ module _ (store : Store) (device : List ℕ) (time : ℤ) (cells : List CellReco
 
   pub room_by_count : (space : Space) → space ≡ space_by (watermark store.watermarks device) time
       → ((state : StoreState) → IsMemoryOf store state → ¬ IsEmptyPair state.working) → (b : Bool)
-      → IsTrue b ↔ (points + new_points space time store.working cells ≤ max_pair_points) → HasRoomFor store time cells b
+      → IsTrue b ↔ (points + new_points space time store.working cells ≤ max_pair_points) → TellsRoomFor store time cells b
   room_by_count space rule some b few state is =
       let after = points_after store device time sound state is space rule cells row in (
         λ yes. inr (omega (arith, few.0 yes, after, total state is)),
@@ -236,11 +236,11 @@ module _ (store : Store) (device : List ℕ) (time : ℤ) (cells : List CellReco
 
 -- a row that does not fit
 
-pub no_room : (store : Store) (time : ℤ) (cells : List CellRecord) (b : Bool) → b ≡ false → HasRoomFor store time cells b
+pub no_room : (store : MemoryState) (time : ℤ) (cells : List CellRecord) (b : Bool) → b ≡ false → TellsRoomFor store time cells b
     → HasNoInsert store time cells
 no_room store time cells b none room = λ state is can. false≢true (sym none ∙ (room state is).1 can.fits)
 
-pub no_row : (store : Store) (device : List ℕ) (time : ℤ) (cells : List CellRecord) (b : Bool) → b ≡ false
+pub no_row : (store : MemoryState) (device : List ℕ) (time : ℤ) (cells : List CellRecord) (b : Bool) → b ≡ false
     → IsDeviceOf store.series cells device → (IsTrue b ↔ IsRowOf store device cells) → HasNoInsert store time cells
 no_row store device time cells b none own row = λ state is can.
     false≢true (sym none ∙ row.1 (is_row_of store device time cells state is own can))
@@ -252,7 +252,7 @@ pub le_at : (points new count most : ℕ) → new ≡ count → IsTrue (nat_le (
 le_at points new count most same = subst (λ n. IsTrue (nat_le (points + new) most) ↔ (points + n ≤ most)) same (le_by (points + new) most)
 
 -- what the effect of a row needs, once memory was taken for it
-pub row_differs : (store : Store) (device : List ℕ) (cells : List CellRecord) → IsRowOf store device cells
+pub row_differs : (store : MemoryState) (device : List ℕ) (cells : List CellRecord) → IsRowOf store device cells
     → AllPairs (λ cell other. cell.series.0 ≢ other.series.0) cells
 row_differs store device cells row = all_pairs (λ (cell other : CellRecord). cell.series.0 ≢ other.series.0) cells row.differ
 

@@ -3,7 +3,7 @@ use Rattle.std.proofs.Common.{◌≡◌, ◌≢◌, ◌⊎◌, inl, inr, ⊎_eli
 use Rattle.std.proofs.Common.{Option, Some, None, sym, ap, subst, ◌∙◌, arith}
 use Rattle.std.proofs.lemmas.Bool.{cases_eq, cases_lt}
 use Rattle.tsdb_redo.specs.Named.{IsInRun, run_from}
-use Rattle.tsdb_redo.specs.Runs.{AreRuns, IsBeginOfRun, EndsWith, HasOneMore, IsLastUpTo}
+use Rattle.tsdb_redo.specs.Runs.{AreRuns, IsBeginOfRun, EndsWith, HasOneNumberMore, IsLastUpTo}
 use Rattle.tsdb_base.specs.Limits.{end_of_numbers}
 
 -- one run that begins with a number has one end
@@ -139,7 +139,7 @@ module _ (old new : List (ℕ × ℕ)) (number first last : ℕ) (are : AreRuns 
             to = omega (arith, end, run.to, is.2, last_high);
           }
 
-  pub one_more : HasOneMore number old new
+  pub one_more : HasOneNumberMore number old new
   one_more other = (had other, has other)
 
   end_within : EndsWith old number last → last < end_of_numbers

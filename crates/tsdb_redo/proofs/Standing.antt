@@ -10,22 +10,22 @@ use Rattle.tsdb_base.specs.declared.ids.FileNumber.{FileNumber}
 use Rattle.tsdb_base.specs.declared.ids.Space.TheVariants.{Sequence, Unsequence}
 use Rattle.tsdb_base.specs.declared.ids.Stamp.{Stamp}
 use Rattle.tsdb_base.proofs.Lists.{each_append, each_left, each_right}
-use Rattle.tsdb_redo.specs.Lists.{AreEnough, AreInputs, AreListsOf, AreOldInputs, CanReplaceIn, file_of, files_of, state_of}
+use Rattle.tsdb_redo.specs.Lists.{AreEnough, AreInputs, AreListsOf, AreOldInputs, CanReplaceIn, file_of, listed_files, state_of}
 use Rattle.tsdb_redo.specs.declared.lists.FileLists.{FileLists}
 use Rattle.tsdb_redo.specs.declared.lists.ListedFile.{ListedFile}
 use Rattle.tsdb_state.specs.Records.{Replacement, files_at, number_list, numbers_of}
 use Rattle.tsdb_state.specs.State.{File, StoreState}
 
 files_part : (files : List ListedFile) (numbers : List FileNumber) (place : ℕ)
-    → files_at place (number_list numbers) (files_of files) ≡ files_of (take (length numbers) (drop place files))
+    → files_at place (number_list numbers) (listed_files files) ≡ listed_files (take (length numbers) (drop place files))
 files_part files numbers place =
-    ap (λ n. take n (drop place (files_of files))) (length-map numbers (λ (n : FileNumber). n.0))
+    ap (λ n. take n (drop place (listed_files files))) (length-map numbers (λ (n : FileNumber). n.0))
     ∙ ap (take (length numbers)) (drop-map file_of place files)
     ∙ take-map file_of (length numbers) (drop place files)
 
 pub standing : (files part : List ListedFile) (numbers : List FileNumber) (born : Stamp) (place : ℕ)
     → place + length numbers ≤ length files → part ≡ take (length numbers) (drop place files)
-    → AreInputs part numbers born ↔ AreOldInputs place (number_list numbers) born.0 (files_of files)
+    → AreInputs part numbers born ↔ AreOldInputs place (number_list numbers) born.0 (listed_files files)
 standing files part numbers born place within is = (
   λ are. (
     record {
@@ -37,11 +37,11 @@ standing files part numbers born place within is = (
   λ old. (ap numbers_of (sym same) ∙ old.0.are, subst (Each (λ (file : File). file.born ≤ born.0)) same old.1),
 )
   where
-    same : files_at place (number_list numbers) (files_of files) ≡ files_of part
-    same = files_part files numbers place ∙ ap files_of (sym is)
+    same : files_at place (number_list numbers) (listed_files files) ≡ listed_files part
+    same = files_part files numbers place ∙ ap listed_files (sym is)
 
 pub not_standing : (files : List ListedFile) (numbers : List FileNumber) (born : ℕ) (place : ℕ)
-    → length files < place + length numbers → AreOldInputs place (number_list numbers) born (files_of files) → ⊥
+    → length files < place + length numbers → AreOldInputs place (number_list numbers) born (listed_files files) → ⊥
 not_standing files numbers born place short old = omega (
   arith,
   short,
@@ -109,7 +109,7 @@ for_state Sequence item lists state are =
     subst (λ s. CanReplaceIn Sequence item (state_of lists) ↔ CanReplaceIn Sequence item (record state { sequence = s }))
     are.sequence
     (subst (λ u. CanReplaceIn Sequence item (state_of lists)
-    ↔ CanReplaceIn Sequence item (record state { sequence = files_of lists.sequence.items; unsequence = u }))
+    ↔ CanReplaceIn Sequence item (record state { sequence = listed_files lists.sequence.items; unsequence = u }))
     are.unsequence (λ can. can, λ can. can))
 for_state Unsequence item lists state are =
     subst (λ u. CanReplaceIn Unsequence item (state_of lists) ↔ CanReplaceIn Unsequence item (record state { unsequence = u }))

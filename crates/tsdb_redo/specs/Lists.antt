@@ -17,28 +17,28 @@ use Rattle.tsdb_state.specs.State.{File, StoreState}
 abbrev pub file_of : ListedFile → File
 file_of file = record { number = file.number.0; born = file.born.0 }
 
-abbrev pub files_of : List ListedFile → List File
-files_of files = map file_of files
+abbrev pub listed_files : List ListedFile → List File
+listed_files files = map file_of files
 
 -- the borns of files
-abbrev pub borns_of : List File → List ℕ
-borns_of files = map (λ file. file.born) files
+abbrev pub borns_of_files : List File → List ℕ
+borns_of_files files = map (λ file. file.born) files
 
 -- the lists are those of the state, and the least of their borns is known
 pub record AreListsOf (lists : FileLists) (state : StoreState) : Type 0 where
-  pub sequence : files_of lists.sequence.items ≡ state.sequence
-  pub unsequence : files_of lists.unsequence.items ≡ state.unsequence
-  pub least : IsLeastOf lists.least (borns_of (state.sequence ++ state.unsequence))
+  pub sequence : listed_files lists.sequence.items ≡ state.sequence
+  pub unsequence : listed_files lists.unsequence.items ≡ state.unsequence
+  pub least : IsLeastOf lists.least (borns_of_files (state.sequence ++ state.unsequence))
 
 -- a state with these lists, and nothing else
 abbrev pub state_of : FileLists → StoreState
 state_of lists = record new_store {
-  sequence = files_of lists.sequence.items;
-  unsequence = files_of lists.unsequence.items;
+  sequence = listed_files lists.sequence.items;
+  unsequence = listed_files lists.unsequence.items;
 }
 
 -- the files stay in their lists
-pub record KeepsLists (old new : FileLists) : Type 0 where
+pub record KeepsRecordedLists (old new : FileLists) : Type 0 where
   pub sequence : new.sequence.items ≡ old.sequence.items
   pub unsequence : new.unsequence.items ≡ old.unsequence.items
   pub least : new.least ≡ old.least
@@ -70,8 +70,8 @@ CanReplaceIn space item state =
 
 -- the files have these numbers, and none of them is younger than this
 abbrev pub AreInputs : List ListedFile → List FileNumber → Stamp → Type 0
-AreInputs files numbers born = (numbers_of (files_of files) ≡ number_list numbers)
-    × Each (λ file. file.born ≤ born.0) (files_of files)
+AreInputs files numbers born = (numbers_of (listed_files files) ≡ number_list numbers)
+    × Each (λ file. file.born ≤ born.0) (listed_files files)
 
 -- these numbers stand side by side in the list from the place on, and none of their files is younger than this
 abbrev pub AreOldInputs : ℕ → List ℕ → ℕ → List File → Type 0
@@ -79,6 +79,6 @@ AreOldInputs place numbers born files =
     StandAt place numbers files × Each (λ file. file.born ≤ born) (files_at place numbers files)
 
 -- the lists are those after the replacement
-pub record HasReplaced (space : Space) (item : Replacement) (old new : FileLists) : Type 0 where
-  pub sequence : files_of new.sequence.items ≡ (replace_in space item (state_of old)).sequence
-  pub unsequence : files_of new.unsequence.items ≡ (replace_in space item (state_of old)).unsequence
+pub record HasReplacedLists (space : Space) (item : Replacement) (old new : FileLists) : Type 0 where
+  pub sequence : listed_files new.sequence.items ≡ (replace_in space item (state_of old)).sequence
+  pub unsequence : listed_files new.unsequence.items ≡ (replace_in space item (state_of old)).unsequence

@@ -8,8 +8,8 @@ use Rattle.tsdb_base.specs.Lists.{EachPair}
 use Rattle.tsdb_log.specs.declared.record.CellRecord.{CellRecord}
 use Rattle.tsdb_model.specs.declared.command.Schema.{Schema}
 use Rattle.tsdb_memory.specs.Model.{IsFitting}
-use Rattle.tsdb_memory.specs.Shown.{IsMemoryOf, value_at}
-use Rattle.tsdb_memory.specs.Store.{Store}
+use Rattle.tsdb_memory.specs.Shown.{IsMemoryOf, point_value_at}
+use Rattle.tsdb_memory.specs.Store.{MemoryState}
 use Rattle.tsdb_memtable.specs.Pairs.{Pair, points_of}
 use Rattle.tsdb_path.specs.Nodes.{device_of}
 use Rattle.tsdb_state.specs.Limit.{IsEmptyPair, point_count}
@@ -26,7 +26,7 @@ abbrev pub DifferInSeries : List CellRecord → Type 0
 DifferInSeries cells = EachPair (λ cell other. cell.series.0 ≢ other.series.0) cells
 
 -- cells of different series of the device, with values of their types; and one more command can be counted
-pub record IsRowOf (store : Store) (device : List ℕ) (cells : List CellRecord) : Type 0 where
+pub record IsRowOf (store : MemoryState) (device : List ℕ) (cells : List CellRecord) : Type 0 where
   pub there : Each (IsCellOf store.series device) cells
   pub differ : DifferInSeries cells
   pub stamp : store.stamp < end_of_numbers
@@ -46,13 +46,13 @@ LacksItsSeries series (first ∷ cells) = slice_get series first.series.0 ≡ No
 abbrev pub new_points : Space → ℤ → Pair → List CellRecord → ℕ
 new_points space time pair [] = 0
 new_points space time pair (cell ∷ cells) =
-    cond (is_some (value_at time (points_of space cell.series.0 pair))) 0 1 + new_points space time pair cells
+    cond (is_some (point_value_at time (points_of space cell.series.0 pair))) 0 1 + new_points space time pair cells
 
 -- it is true where the working pair of each state that is shown is empty, or keeps to its points with these cells
-abbrev pub HasRoomFor : Store → ℤ → List CellRecord → Bool → Type 0
-HasRoomFor store time cells has = (state : StoreState) → IsMemoryOf store state → IsTrue has
+abbrev pub TellsRoomFor : MemoryState → ℤ → List CellRecord → Bool → Type 0
+TellsRoomFor store time cells has = (state : StoreState) → IsMemoryOf store state → IsTrue has
     ↔ (IsEmptyPair state.working ⊎ (point_count (inserted time cells state).working ≤ max_pair_points))
 
 -- the row can be inserted into no state that is shown
-abbrev pub HasNoInsert : Store → ℤ → List CellRecord → Type 0
+abbrev pub HasNoInsert : MemoryState → ℤ → List CellRecord → Type 0
 HasNoInsert store time cells = (state : StoreState) → IsMemoryOf store state → ¬ CanInsert time cells state

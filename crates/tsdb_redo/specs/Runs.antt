@@ -17,7 +17,7 @@ IsLastUpTo runs number (Some run) = (run.0 ≤ number) × (run_from run.0 runs �
     × ((first last : ℕ) → first ≤ number → run_from first runs ≡ Some last → first ≤ run.0)
 
 -- the greatest number that a run has; 0 where there is no run
-pub record IsLastOf (runs : List (ℕ × ℕ)) (number : ℕ) : Type 0 where
+pub record IsLastInRuns (runs : List (ℕ × ℕ)) (number : ℕ) : Type 0 where
   pub reaches : (other : ℕ) → IsInRun runs other → other ≤ number
   pub has : (number ≡ 0) ⊎ IsInRun runs number
 
@@ -32,10 +32,10 @@ EndsWith runs number last = (run_from (number + 1) runs ≡ Some last)
     ⊎ ((last ≡ number) × (run_from (number + 1) runs ≡ None))
 
 -- a run has the number too now, and no other number more
-abbrev pub HasOneMore : ℕ → List (ℕ × ℕ) → List (ℕ × ℕ) → Type 0
-HasOneMore number old new = (other : ℕ) → IsInRun new other ↔ ((number ≡ other) ⊎ IsInRun old other)
+abbrev pub HasOneNumberMore : ℕ → List (ℕ × ℕ) → List (ℕ × ℕ) → Type 0
+HasOneNumberMore number old new = (other : ℕ) → IsInRun new other ↔ ((number ≡ other) ⊎ IsInRun old other)
 
 -- the newest number is in no run
-pub record AreKept (named : Named) : Type 0 where
+pub record AreSoundNumbers (named : Named) : Type 0 where
   pub runs : AreRuns named.runs
   pub newest : IfSome named.newest (λ number. (number < end_of_numbers) × (¬ IsInRun named.runs number))

@@ -12,7 +12,7 @@ use Rattle.tsdb_state.specs.Stores.{Recorded}
 use Rattle.tsdb_state.specs.Records.{CanFlush, new_numbers}
 
 -- the oldest frozen pair, which was born so, can be flushed to files of these numbers
-pub record IsFlushOf (opening : Opening) (sequence unsequence : ℕ) (born : Stamp) : Type 0 where
+pub record CanRedoFlush (opening : Opening) (sequence unsequence : ℕ) (born : Stamp) : Type 0 where
   pub some : 0 < length opening.memory.frozen
   pub new : CanName opening.named (new_numbers (sequence ∷ unsequence ∷ []))
   pub can : (recorded : Recorded) → IsOpeningOf opening recorded

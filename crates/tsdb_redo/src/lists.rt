@@ -1,7 +1,7 @@
 //! The two lists of files, by number and born. Depends on tsdb_base.
 ghost use Rattle.std.specs.Prelude.{◌≡◌, ◌<◌, ◌++◌, OnOk, vec_capacity, vec_len};
 ghost use Rattle.tsdb_memory.specs.Least.{least_with as least_of_all};
-ghost use Rattle.tsdb_redo.specs.Lists.{AreListsOf, HaveRoom, KeepsLists, borns_of, files_of};
+ghost use Rattle.tsdb_redo.specs.Lists.{AreListsOf, HaveRoom, KeepsRecordedLists, borns_of_files, listed_files};
 ghost use Rattle.tsdb_state.specs.NewStore.{new_store};
 ghost use Rattle.tsdb_state.specs.Records.{new_file};
 ghost use Rattle.tsdb_state.specs.State.{StoreState};
@@ -39,7 +39,7 @@ impl FileLists {
 
     /// Makes room for one file more in each list.
     pub fn reserve(&mut self) -> Result<(), Memory>
-        ensures kept { KeepsLists self.old self.new }
+        ensures kept { KeepsRecordedLists self.old self.new }
         ensures room { OnOk result (HaveRoom self.new) }
     {
         self.sequence.reserve(1)?;
@@ -63,8 +63,8 @@ impl FileLists {
 /// Puts the file of a new number at the end of a list; 0 stands for none. It takes no memory.
 fn push_new(files: &mut Vec<ListedFile>, least: &mut Option<Stamp>, number: FileNumber, born: Stamp)
     requires { vec_len files.old < vec_capacity files.old }
-    ensures files { files_of files.new.items ≡ files_of files.old.items ++ new_file number.0 born.0 }
-    ensures least { least.new ≡ least_of_all least.old (borns_of (new_file number.0 born.0)) }
+    ensures files { listed_files files.new.items ≡ listed_files files.old.items ++ new_file number.0 born.0 }
+    ensures least { least.new ≡ least_of_all least.old (borns_of_files (new_file number.0 born.0)) }
 {
     if number.0 == 0 {
         return;
@@ -78,7 +78,7 @@ fn push_new(files: &mut Vec<ListedFile>, least: &mut Option<Stamp>, number: File
 
 /// The least of the borns so far and those of some files more.
 pub(crate) fn least_with(least: Option<Stamp>, files: &[ListedFile]) -> Option<Stamp>
-    ensures { result ≡ least_of_all least (borns_of (files_of files.now)) }
+    ensures { result ≡ least_of_all least (borns_of_files (listed_files files.now)) }
 {
     let mut least = least;
     for file in files {

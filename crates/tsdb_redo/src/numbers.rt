@@ -6,7 +6,7 @@ ghost use Rattle.std.specs.Prelude.{◌≡◌, ◌↔◌, ◌+◌, ◌<◌, [], 
 ghost use Rattle.std.specs.BTreeMap.{IsUnchanged};
 ghost use Rattle.std.specs.Option.{option_map};
 ghost use Rattle.tsdb_redo.specs.Named.{CanName, IsGreatest, IsInRun, IsNamed, NamesMore, none_named, run_from};
-ghost use Rattle.tsdb_redo.specs.Runs.{AreRuns, IsBeginOfRun, EndsWith, HasOneMore, IsLastOf, IsLastUpTo};
+ghost use Rattle.tsdb_redo.specs.Runs.{AreRuns, IsBeginOfRun, EndsWith, HasOneNumberMore, IsLastInRuns, IsLastUpTo};
 ghost use Rattle.tsdb_base.specs.Limits.{end_of_numbers};
 ghost use Rattle.tsdb_state.specs.Records.{new_numbers};
 
@@ -29,13 +29,13 @@ pub struct NamedNumbers {
 
 impl Model for NamedNumbers {
     ghost use Rattle.tsdb_redo.specs.Named.{Named};
-    ghost use Rattle.tsdb_redo.specs.Runs.{AreKept};
+    ghost use Rattle.tsdb_redo.specs.Runs.{AreSoundNumbers};
 
     ghost Value = { Named };
 
     ghost view = { λ named. record { runs = named.runs.entries; newest = named.newest } };
 
-    ghost invariant = { λ named. AreKept (record { runs = named.runs.entries; newest = named.newest }) };
+    ghost invariant = { λ named. AreSoundNumbers (record { runs = named.runs.entries; newest = named.newest }) };
 }
 
 impl NamedNumbers {
@@ -151,7 +151,7 @@ impl NamedNumbers {
 /// The last number of the last run, 0 where there is none.
 fn last_of(runs: &Runs) -> u64
     requires { AreRuns runs.now.entries }
-    ensures number { IsLastOf runs.now.entries result }
+    ensures number { IsLastInRuns runs.now.entries result }
     ensures end { result < end_of_numbers }
 {
     match runs.last_key_value() {
@@ -208,7 +208,7 @@ fn add(runs: &mut Runs, number: u64) -> Result<(), Memory>
     requires within { number < end_of_numbers }
     requires free { ¬ IsInRun runs.old.entries number }
     ensures runs { AreRuns runs.new.entries }
-    ensures named { OnOk result (HasOneMore number runs.old.entries runs.new.entries) }
+    ensures named { OnOk result (HasOneNumberMore number runs.old.entries runs.new.entries) }
     ensures memory { OnErr result (runs.new.entries ≡ runs.old.entries) }
 {
     let first = begin_of(runs, number);

@@ -3,7 +3,7 @@
 ghost use Rattle.std.specs.Prelude.{◌≡◌, ◌<◌, ◌≤◌, ◌∷◌, [], IfSome, IsErrOf, OnErr, OnOk};
 ghost use Rattle.tsdb_log.specs.declared.record.LogRecord.{LogRecord as Record};
 ghost use Rattle.tsdb_memory.specs.Shown.{IsMemoryOf};
-ghost use Rattle.tsdb_redo.specs.Lists.{files_of};
+ghost use Rattle.tsdb_redo.specs.Lists.{listed_files};
 ghost use Rattle.tsdb_redo.specs.Opening.{IsOpeningOf, greatest, list_of, next_number, with_stored};
 ghost use Rattle.tsdb_redo.specs.Redone.{IsReplayed, IsWithoutReplay, ShowsTheSame};
 ghost use Rattle.tsdb_state.specs.Stores.{Recorded, store_steps};
@@ -108,7 +108,7 @@ impl Opening {
     /// The files of a list, in its order.
     pub fn files(&self, space: Space) -> &[ListedFile]
         ensures { (recorded : Recorded) → IsOpeningOf self.now recorded
-            → files_of result.now ≡ list_of space recorded.store }
+            → listed_files result.now ≡ list_of space recorded.store }
     {
         match space {
             Space::Sequence => self.files.sequence.as_slice(),

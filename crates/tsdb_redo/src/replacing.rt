@@ -2,8 +2,8 @@
 ghost use Rattle.std.specs.Prelude.{◌≡◌, ◌+◌, ◌≤◌, ◌<◌, ◌↔◌, ◌++◌, IsTrue, IfSome, None, length, take, drop};
 ghost use Rattle.std.specs.Prelude.{vec_capacity, vec_len};
 ghost use Rattle.tsdb_base.specs.declared.ids.Space.TheVariants.{Sequence, Unsequence};
-ghost use Rattle.tsdb_redo.specs.Lists.{AreEnough, AreInputs, AreListsOf, AreOldInputs, CanReplaceIn, HasReplaced};
-ghost use Rattle.tsdb_redo.specs.Lists.{HaveRoom, files_of, replacement_of, state_of};
+ghost use Rattle.tsdb_redo.specs.Lists.{AreEnough, AreInputs, AreListsOf, AreOldInputs, CanReplaceIn, HasReplacedLists};
+ghost use Rattle.tsdb_redo.specs.Lists.{HaveRoom, listed_files, replacement_of, state_of};
 ghost use Rattle.tsdb_state.specs.Records.{new_file as new_file_of, number_list};
 ghost use Rattle.tsdb_state.specs.Records.{replace as replaced_list, replace_in};
 ghost use Rattle.tsdb_state.specs.State.{StoreState};
@@ -74,7 +74,7 @@ impl FileLists {
     fn replace_files(&mut self, item: &Replacing)
         requires room { HaveRoom self.old }
         requires inputs { CanReplaceIn item.now.space (replacement_of item.now) (state_of self.old) }
-        ensures { HasReplaced item.now.space (replacement_of item.now) self.old self.new }
+        ensures { HasReplacedLists item.now.space (replacement_of item.now) self.old self.new }
     {
         match item.space {
             Space::Sequence => self.replace_sequence(item),
@@ -85,7 +85,7 @@ impl FileLists {
     fn replace_sequence(&mut self, item: &Replacing)
         requires room { HaveRoom self.old }
         requires inputs { CanReplaceIn Sequence (replacement_of item.now) (state_of self.old) }
-        ensures { HasReplaced Sequence (replacement_of item.now) self.old self.new }
+        ensures { HasReplacedLists Sequence (replacement_of item.now) self.old self.new }
     {
         let count = item.sequence.items().len();
         let place = item.place as usize;
@@ -96,7 +96,7 @@ impl FileLists {
     fn replace_unsequence(&mut self, item: &Replacing)
         requires room { HaveRoom self.old }
         requires inputs { CanReplaceIn Unsequence (replacement_of item.now) (state_of self.old) }
-        ensures { HasReplaced Unsequence (replacement_of item.now) self.old self.new }
+        ensures { HasReplacedLists Unsequence (replacement_of item.now) self.old self.new }
     {
         let count = item.unsequence.items().len();
         let place = item.place as usize;
@@ -116,7 +116,7 @@ fn are_enough(sequence: &[FileNumber], unsequence: &[FileNumber]) -> bool
 
 /// Whether files with these numbers stand side by side in the list from the place on, none of them younger than this.
 fn stand_at(files: &[ListedFile], place: u64, numbers: &[FileNumber], born: Stamp) -> bool
-    ensures { IsTrue result ↔ AreOldInputs place (number_list numbers.now) born.0 (files_of files.now) }
+    ensures { IsTrue result ↔ AreOldInputs place (number_list numbers.now) born.0 (listed_files files.now) }
 {
     match part_at(files, place, numbers.len()) {
         Some(part) => are_inputs(part, numbers, born),
@@ -174,8 +174,8 @@ fn remove(files: &mut Vec<ListedFile>, place: usize, count: usize)
 fn replace(files: &mut Vec<ListedFile>, place: usize, count: usize, output: FileNumber, born: Stamp)
     requires place { place + count ≤ length files.old.items }
     requires room { vec_len files.old < vec_capacity files.old }
-    ensures { files_of files.new.items
-        ≡ replaced_list place count (new_file_of output.0 born.0) (files_of files.old.items) }
+    ensures { listed_files files.new.items
+        ≡ replaced_list place count (new_file_of output.0 born.0) (listed_files files.old.items) }
 {
     remove(files, place, count);
     if output.0 == 0 {

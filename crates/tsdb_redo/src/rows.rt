@@ -3,12 +3,12 @@ ghost use Rattle.std.specs.Prelude.{◌≡◌, ◌↔◌, ◌≤◌, ◌<◌, �
 ghost use Rattle.std.specs.List.{AllByRecursion as Each};
 ghost use Rattle.tsdb_log.specs.declared.record.LogRecord.{LogRecord};
 ghost use Rattle.tsdb_redo.specs.Redone.{IsRedone};
-ghost use Rattle.tsdb_redo.specs.Rows.{DifferInSeries, HasNoInsert, HasRoomFor, IsCellOf, IsDeviceOf, IsRowOf};
+ghost use Rattle.tsdb_redo.specs.Rows.{DifferInSeries, HasNoInsert, TellsRoomFor, IsCellOf, IsDeviceOf, IsRowOf};
 ghost use Rattle.tsdb_redo.specs.Rows.{LacksItsSeries};
 ghost use Rattle.tsdb_redo.specs.Rows.{new_points as new_points_of};
 ghost use Rattle.tsdb_redo.specs.declared.fault.RedoFault.TheVariants as fault;
-ghost use Rattle.tsdb_memory.specs.Model.{IsSound};
-ghost use Rattle.tsdb_memory.specs.Shown.{value_at};
+ghost use Rattle.tsdb_memory.specs.Model.{IsSoundMemory};
+ghost use Rattle.tsdb_memory.specs.Shown.{point_value_at};
 ghost use Rattle.tsdb_memtable.specs.Pairs.{points_of};
 ghost use Rattle.tsdb_path.specs.Nodes.{device_of, node_count};
 ghost use Rattle.std.specs.Prelude.{None};
@@ -44,7 +44,7 @@ impl Opening {
     /// The device of a row that has a replay.
     fn fitting_device(&self, time: Time, cells: &[CellRecord]) -> Result<Path, RedoFault>
         ensures row { IfOk result (λ device. IsRowOf self.now.memory device cells.now) }
-        ensures room { OnOk result (HasRoomFor self.now.memory time cells.now true) }
+        ensures room { OnOk result (TellsRoomFor self.now.memory time cells.now true) }
         ensures no_replay { IsErrOf result fault.NoReplay → HasNoInsert self.now.memory time cells.now }
     {
         let device = self.device_of_row(cells)?;
@@ -88,7 +88,7 @@ impl Opening {
     /// Whether the working pair is empty, or keeps to its points with the cells of a row.
     fn has_room(&self, device: &Path, time: Time, cells: &[CellRecord]) -> bool
         requires { IsRowOf self.now.memory device.now cells.now }
-        ensures { HasRoomFor self.now.memory time cells.now result }
+        ensures { TellsRoomFor self.now.memory time cells.now result }
     {
         if self.memory.is_idle() {
             return true;
@@ -193,7 +193,7 @@ fn new_points(pair: &Pair, space: Space, time: Time, cells: &[CellRecord]) -> us
 
 /// Whether the series has no point at the time in the space.
 fn is_new(pair: &Pair, space: Space, time: Time, series: SeriesId) -> bool
-    ensures { IsTrue result ↔ (value_at time (points_of space series.0 pair.now) ≡ None) }
+    ensures { IsTrue result ↔ (point_value_at time (points_of space series.0 pair.now) ≡ None) }
 {
     let at = Range {
         from: time,

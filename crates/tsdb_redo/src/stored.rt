@@ -3,7 +3,7 @@
 ghost use Rattle.std.specs.Prelude.{◌≡◌, ◌↔◌, ◌∷◌, ◌≢◌, [], IfSome, IsTrue, None};
 ghost use Rattle.tsdb_log.specs.declared.record.LogRecord.{LogRecord};
 ghost use Rattle.tsdb_redo.specs.Redone.{IsRedone};
-ghost use Rattle.tsdb_redo.specs.Stored.{HasNoFlush, IsFlushOf, IsReplacing, replaced_record};
+ghost use Rattle.tsdb_redo.specs.Stored.{HasNoFlush, CanRedoFlush, IsReplacing, replaced_record};
 
 use crate::fault::RedoFault;
 use crate::opening::Opening;
@@ -35,7 +35,7 @@ impl Opening {
     /// The born of the oldest frozen pair, if these can be the numbers of its files: there is one for exactly each part
     /// with points, and it is new.
     fn flushed_born(&self, sequence: FileNumber, unsequence: FileNumber) -> Option<Stamp>
-        ensures some { IfSome result (IsFlushOf self.now sequence.0 unsequence.0) }
+        ensures some { IfSome result (CanRedoFlush self.now sequence.0 unsequence.0) }
         ensures none { result ≡ None → HasNoFlush self.now sequence.0 unsequence.0 }
     {
         let oldest = self.memory.frozen().first()?;

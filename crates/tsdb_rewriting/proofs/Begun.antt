@@ -36,7 +36,7 @@ use Rattle.tsdb_serving.proofs.Parts.{unchanged}
 use Rattle.tsdb_serving.specs.Flushing.{GoesOn, IsReady, faults_under}
 use Rattle.tsdb_serving.specs.Serving.{IsDrawn, IsServed, IsServedBy, IsServing, IsSure, LeavesEither, disk_under}
 use Rattle.tsdb_serving.specs.declared.fault.FlushFault.{FlushFault}
-use Rattle.tsdb_state.specs.State.{Told}
+use Rattle.tsdb_state.specs.State.{ToldContents}
 use Rattle.tsdb_state.specs.Steps.{began}
 
 -- a right to read a file of the store is to one of the store
@@ -112,7 +112,7 @@ module _ {J F S R P : Type 0} {means : disk.Ghosts J} {counts : counted.Ghosts J
 
       -- what is told of its inputs where the core is in a state, and where the store tells nothing
       pub sure_truth : ((right : R) → Tells (name right)) → IsSure store old
-          → (told : Told) × TellsTruth name told job
+          → (told : ToldContents) × TellsTruth name told job
       sure_truth laws (inl untold) =
           (nothing, truth_of_nothing name laws store untold job (of_the_store mid job rewriting))
       sure_truth laws (inr is) =

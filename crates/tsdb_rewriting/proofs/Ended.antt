@@ -6,11 +6,11 @@ use Rattle.tsdb_serving.specs.TasksFiles.{NewFile}
 use Rattle.tsdb_serving.specs.InputRuns.{InputRuns}
 use Rattle.tsdb_compactions.specs.declared.job.Job.{Job}
 use Rattle.tsdb_serving.specs.Core.{files_of, logged_of}
-use Rattle.tsdb_serving.specs.Replacements.{EndsFiles, EndsJob, IsJobAbandoned, IsJobCommit, TellsNew}
+use Rattle.tsdb_serving.specs.Replacements.{EndsFiles, HasEndedJob, IsJobAbandoned, IsJobCommit, TellsNew}
 use Rattle.tsdb_serving.specs.CoreType.{Core}
 use Rattle.tsdb_frames.specs.Frames.{faults_of, slot_of}
 use Rattle.tsdb_memory.specs.Logged.{log_of}
-use Rattle.tsdb_memory.specs.declared.logged.Logged.{Logged}
+use Rattle.tsdb_memory.specs.declared.logged.LoggedMemory.{LoggedMemory}
 use Rattle.tsdb_outside.specs.Causes.{HasCause}
 use Rattle.tsdb_outside.specs.Disk.{IsLawful}
 use Rattle.tsdb_outside.specs.Files.{NamedFile, Store, StoredFile}
@@ -57,7 +57,7 @@ module _ {J F S R P : Type 0} {means : disk.Ghosts J} {counts : counted.Ghosts J
     limit = gives_up.ends.limit;
     slot = ap (λ logged. slot_of (log_of logged)) gives_up.logged;
     next = gives_up.ends.next;
-    later = subst (λ (logged : Logged J means counts). faults_under old ≤ faults_of (log_of logged))
+    later = subst (λ (logged : LoggedMemory J means counts). faults_under old ≤ faults_of (log_of logged))
         (sym gives_up.logged) (omega arith);
     keeps = λ told files at next serving. abandoned laws name old new job files at next serving empty None tt gives_up;
   }

@@ -5,7 +5,7 @@ use Rattle.std.proofs.lemmas.Bool.{false≢true}
 use Rattle.std.proofs.lemmas.Bool.Decides.{nat_tests}
 use Rattle.std.specs.Option.{option_map}
 use Rattle.std.specs.Prelude.{IfErr, IfSome, IsErrOf, IsSome, is_some}
-use Rattle.tsdb_serving.specs.TasksFiles.{new_file}
+use Rattle.tsdb_serving.specs.TasksFiles.{file_built}
 use Rattle.tsdb_serving.specs.Finishing.{AreRunsOf}
 use Rattle.tsdb_serving.specs.InputRuns.{InputRuns}
 use Rattle.tsdb_serving.specs.Beginnings.{IsBeginAnswer}
@@ -37,26 +37,26 @@ told_bytes (Some bytes) is = refl
 
 module _ {F S R P : Type 0} (file : S → NamedFile) where
   pub output_unread : (output : Option (Built F S R P))
-      → IfSome (option_map (new_file file) output) (λ one. one.token.rights ≡ 0)
+      → IfSome (option_map (file_built file) output) (λ one. one.token.rights ≡ 0)
   output_unread None = tt
   output_unread (Some built) = refl
 
   -- it has the number of the job
   pub output_numbered : (name : R → NamedFile) (rights : S → ℕ) (job : Job F S R P) (output : Option (Built F S R P))
       → IsOutputOf name file rights job output
-      → IfSome (option_map (new_file file) output) (λ one. one.entry.number.0 ≡ job.output.0)
+      → IfSome (option_map (file_built file) output) (λ one. one.entry.number.0 ≡ job.output.0)
   output_numbered name rights job None is = tt
   output_numbered name rights job (Some built) is = is.file_is.kept.number_is
 
   pub output_in : (store : Store) (output : Option (Built F S R P))
       → IfSome output (λ built. (file built.sealed).store ≡ store)
-      → IfSome (option_map (new_file file) output) (λ one. one.token.name.store ≡ store)
+      → IfSome (option_map (file_built file) output) (λ one. one.token.name.store ≡ store)
   output_in store None is = tt
   output_in store (Some built) is = is
 
   pub output_tells : ((sealed : S) → Tells (file sealed)) → (store : Store) → store.tells ≡ true
       → (output : Option (Built F S R P)) → IfSome output (λ built. (file built.sealed).store ≡ store)
-      → TellsNew (option_map (new_file file) output)
+      → TellsNew (option_map (file_built file) output)
   output_tells laws store tells None is = tt
   output_tells laws store tells (Some built) is = told_bytes (file built.sealed).bytes
       (sym (laws built.sealed) ∙ ap (λ (s : Store). s.tells) is ∙ tells)

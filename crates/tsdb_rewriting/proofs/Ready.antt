@@ -11,15 +11,15 @@ use Rattle.tsdb_serving.specs.TasksFiles.{NewFile}
 use Rattle.tsdb_serving.proofs.InState.{file_changed}
 use Rattle.tsdb_serving.specs.Inputs.{input_numbers}
 use Rattle.tsdb_serving.specs.InputRuns.{InputRuns}
-use Rattle.tsdb_compactions.specs.Jobs.{IsCompactionOf, IsFormed, input_files, plain_numbers}
+use Rattle.tsdb_compactions.specs.Jobs.{IsCompactionOf, IsJobFormed, input_files, plain_numbers}
 use Rattle.tsdb_compactions.specs.declared.job.Job.{Job}
 use Rattle.tsdb_serving.specs.Beginnings.{IsBegun}
 use Rattle.tsdb_serving.specs.Compactions.{IsJobOut}
 use Rattle.tsdb_serving.specs.Core.{files_of}
-use Rattle.tsdb_serving.specs.Replacements.{EndsJob}
+use Rattle.tsdb_serving.specs.Replacements.{HasEndedJob}
 use Rattle.tsdb_serving.specs.CoreType.{Core}
 use Rattle.tsdb_fileset.specs.Files.{KeptFiles, kept_file}
-use Rattle.tsdb_fileset.specs.Places.{AreUnread, KeptFile, file_at, place_at}
+use Rattle.tsdb_fileset.specs.Places.{AreUnread, KeptFile, file_at, place_of_number}
 use Rattle.tsdb_base.specs.Lists.{IsWithOne, count}
 use Rattle.tsdb_outside.specs.Files.{NamedFile, Store}
 use Rattle.tsdb_outside.specs.declared.disk.Disk as disk
@@ -48,7 +48,7 @@ module _ {F S R P : Type 0} (job : Job F S R P) where
   long : length (plain_numbers job.sequence) ≡ length job.sequence
   long = length-map job.sequence (λ (n : FileNumber). n.0)
 
-  pub is_compaction : IsFormed job → IsCompactionOf job compaction_of
+  pub is_compaction : IsJobFormed job → IsCompactionOf job compaction_of
   is_compaction formed = record {
     space = refl;
     place = refl;
@@ -92,9 +92,9 @@ of_output (Some one) new is unread = subst (λ o. IfSome o (λ (kept : KeptFile)
 -- What becomes of the tokens at the end of a job.
 pub record EndsTokens {F S R P : Type 0} (old new : KeptFiles) (job : Job F S R P) (file : Option NewFile) : Type 0 where
   pub here : kept_file job.output.0 new ≡ option_map (λ one. one.token) file
-  pub others : (number : ℕ) → job.output.0 ≢ number → place_at number new.places
+  pub others : (number : ℕ) → job.output.0 ≢ number → place_of_number number new.places
       ≡ option_map (λ place. option_map (fewer_rights (count number (input_numbers job.inputs))) place)
-      (place_at number old.places)
+      (place_of_number number old.places)
 
 module _ {J F S R P : Type 0} {means : disk.Ghosts J} {counts : counted.Ghosts J} (name : R → NamedFile)
     (store : Store) where
@@ -135,13 +135,13 @@ module _ {J F S R P : Type 0} {means : disk.Ghosts J} {counts : counted.Ghosts J
         by false is = fewer_of_all (count n (input_numbers job.inputs)) (kept_file n (files_of old))
             (kept_file n (files_of new))
             (ap file_at (tokens.others n (λ same. absurd (differs same)))
-            ∙ file_changed (fewer_rights (count n (input_numbers job.inputs))) (place_at n (files_of old).places))
+            ∙ file_changed (fewer_rights (count n (input_numbers job.inputs))) (place_of_number n (files_of old).places))
             (rewriting.rights n)
           where
             differs : job.output.0 ≡ n → ⊥
             differs same = grind (arith, is, same)
 
-    pub ready_ended : EndsJob old new job file → IfSome file (λ one. one.token.name.store ≡ store) → IsReady store new
+    pub ready_ended : HasEndedJob old new job file → IfSome file (λ one. one.token.name.store ≡ store) → IsReady store new
     ready_ended ends in_store = record {
       jobs = ends.jobs rewriting.compaction [] (rewriting.compaction ∷ []) [] rewriting.is
           (only_one rewriting.compaction) rewriting.jobs;

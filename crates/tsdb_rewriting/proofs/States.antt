@@ -4,7 +4,7 @@ use Rattle.std.proofs.Common.{ap, subst, ◌∙◌}
 use Rattle.std.specs.List.{AllByRecursion as Each, flat_map}
 use Rattle.tsdb_base.specs.declared.ids.Space.{Space}
 use Rattle.tsdb_base.specs.declared.ids.Space.TheVariants.{Sequence, Unsequence}
-use Rattle.tsdb_serving.specs.TasksFiles.{NewFile, all_of, number_of, stored_of}
+use Rattle.tsdb_serving.specs.TasksFiles.{NewFile, all_of, file_number, stored_of}
 use Rattle.tsdb_serving.specs.States.{sent_files}
 use Rattle.tsdb_compactions.specs.declared.job.Job.{Job}
 use Rattle.tsdb_serving.specs.Core.{IsSeen, logged_of}
@@ -33,7 +33,7 @@ use Rattle.tsdb_serving.proofs.Jobs.{stored_number}
 use Rattle.tsdb_serving.proofs.Parts.{leads_as}
 use Rattle.tsdb_serving.proofs.Steps.{quiet}
 use Rattle.tsdb_serving.specs.Serving.{AreHeldWith, IsServedBy, IsServing, LeavesEither, MayDoubt, disk_under, slot_under}
-use Rattle.tsdb_state.specs.Order.{files_of as state_files_of}
+use Rattle.tsdb_state.specs.Order.{all_files as state_files_of}
 use Rattle.tsdb_state.specs.Records.{after}
 use Rattle.tsdb_state.specs.State.{Compaction, EngineState, File, StoreState}
 use Rattle.tsdb_state.specs.Steps.{committed, compaction_record, ended, failed, file_numbers, output_number, settled}

@@ -15,24 +15,24 @@ use Rattle.tsdb_base.proofs.Lists.{each_weaker}
 use Rattle.tsdb_state.specs.Layers.{survivor, value_in}
 use Rattle.tsdb_base.specs.Lists.{EachPair}
 use Rattle.tsdb_state.specs.Marks.{survives}
-use Rattle.tsdb_state.specs.Places.{Content, Place, place_cmp}
+use Rattle.tsdb_state.specs.Places.{Content, PointPlace, place_cmp}
 use Rattle.tsdb_marks.specs.declared.marks.Mark.{Mark}
 use Rattle.tsdb_outside.specs.Files.{NamedFile, Store, Tells}
-use Rattle.tsdb_state.specs.State.{File, Told}
+use Rattle.tsdb_state.specs.State.{File, ToldContents}
 use Rattle.tsdb_state.specs.Views.{file_layer, file_layers}
 
 -- no file has a point
 abbrev none_there : Content
 none_there = empty
 
-abbrev pub nothing : Told
+abbrev pub nothing : ToldContents
 nothing = λ number. none_there
 
-none_survives : (b : Bool) (place : Place) → cond b (get none_there place) None ≡ None
+none_survives : (b : Bool) (place : PointPlace) → cond b (get none_there place) None ≡ None
 none_survives true place = get-empty place_cmp place
 none_survives false place = refl
 
-no_value : (marks : List Mark) (place : Place) (files : List File)
+no_value : (marks : List Mark) (place : PointPlace) (files : List File)
     → value_in marks place (file_layers nothing files) ≡ None
 no_value marks place [] = refl
 no_value marks place (file ∷ files) =

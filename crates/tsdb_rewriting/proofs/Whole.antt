@@ -19,7 +19,7 @@ use Rattle.tsdb_outside.specs.declared.faults.Counted as counted
 use Rattle.tsdb_rewriting.proofs.Listed.{replaced_by}
 use Rattle.tsdb_rewriting.specs.Rewriting.{IsCompacted, IsFinished}
 use Rattle.tsdb_serving.specs.Flushing.{faults_under}
-use Rattle.tsdb_serving.specs.Sweeping.{KeepsListed}
+use Rattle.tsdb_serving.specs.Sweeping.{KeepsAllButOutgoing}
 use Rattle.tsdb_serving.specs.declared.fault.FlushFault.{FlushFault}
 use Rattle.tsdb_serving.specs.declared.fault.FlushFault.TheVariants as fault
 use Rattle.tsdb_base.specs.Limits.{end_of_numbers}
@@ -37,7 +37,7 @@ module _ {J F S R P : Type 0} {means : disk.Ghosts J} {counts : counted.Ghosts J
 
 module _ {J F S R P : Type 0} {means : disk.Ghosts J} {counts : counted.Ghosts J} where
   module _ (IsPlan : InputRuns → Type 0) (space : Space) (old mid new : Core J F S R P means counts)
-      (keeps : KeepsListed mid new) where
+      (keeps : KeepsAllButOutgoing mid new) where
     on : IsCompacted IsPlan space old mid → IsCompacted IsPlan space old new
     on (inl (runs, plan, by)) = inl (
       runs,
@@ -63,7 +63,7 @@ module _ {J F S R P : Type 0} {means : disk.Ghosts J} {counts : counted.Ghosts J
     compacted_swept (Err why) compacted = tt
 
   -- a count that has risen has risen since
-  pub cause_swept : (old mid new : Core J F S R P means counts) → KeepsListed mid new → (before now later : ℕ)
+  pub cause_swept : (old mid new : Core J F S R P means counts) → KeepsAllButOutgoing mid new → (before now later : ℕ)
       → now ≤ later → (result : Result (Unit {0}) FlushFault)
       → IfErr result (λ why. why ≡ fault.Device → Rose (faults_under old) (faults_under mid) ⊎ Rose before now)
       → IfErr result (λ why. why ≡ fault.Device → Rose (faults_under old) (faults_under new) ⊎ Rose before later)
@@ -76,7 +76,7 @@ module _ {J F S R P : Type 0} {means : disk.Ghosts J} {counts : counted.Ghosts J
           (no_less_swept mid new keeps))
       by (inr rose) = inr (rose_on before now later rose less)
 
-  pub counter_swept : (mid new : Core J F S R P means counts) → KeepsListed mid new
+  pub counter_swept : (mid new : Core J F S R P means counts) → KeepsAllButOutgoing mid new
       → (result : Result (Unit {0}) FlushFault)
       → IfErr result (λ why. (counter : ℕ) → why ≡ fault.Full counter → counter ≡ next_of mid)
       → IfErr result (λ why. (counter : ℕ) → why ≡ fault.Full counter → counter ≡ next_of new)

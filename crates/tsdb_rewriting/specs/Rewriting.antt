@@ -42,8 +42,8 @@ pub record KeepsBoth (old new : KeptFiles) : Type 0 where
   pub unsequence : new.unsequence ≡ old.unsequence
 
 -- the output of a job, where there is one, is in the store
-abbrev pub IsOfStore : {F S R P : Type 0} → (S → NamedFile) → Store → Option (Built F S R P) → Type 0
-IsOfStore file store output = IfSome output (λ built. (file built.sealed).store ≡ store)
+abbrev pub IsOutputOfStore : {F S R P : Type 0} → (S → NamedFile) → Store → Option (Built F S R P) → Type 0
+IsOutputOfStore file store output = IfSome output (λ built. (file built.sealed).store ≡ store)
 
 module _ {J F S R P : Type 0} {means : disk.Ghosts J} {counts : counted.Ghosts J} where
   -- The files of a plan were replaced by one with the next number, or by none; or there is no plan, and the lists are as

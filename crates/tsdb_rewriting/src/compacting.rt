@@ -3,8 +3,8 @@ ghost use Rattle.std.specs.List.{AllByRecursion as Each};
 ghost use Rattle.std.specs.Option.{option_map};
 ghost use Rattle.std.specs.Prelude.{◌≡◌, ◌≢◌, ◌⊎◌, ◌≤◌, ◌<◌, ◌+◌, ℕ, IfErr, IfOk, OnOk};
 ghost use Rattle.tsdb_base.specs.declared.ids.Space.TheVariants.{Sequence as SequenceSpace};
-ghost use Rattle.tsdb_serving.specs.TasksFiles.{new_file};
-ghost use Rattle.tsdb_compactions.specs.Jobs.{IsFormed};
+ghost use Rattle.tsdb_serving.specs.TasksFiles.{file_built};
+ghost use Rattle.tsdb_compactions.specs.Jobs.{IsJobFormed};
 ghost use Rattle.tsdb_compactions.specs.Outputs.{IsOutputOf, TellsTruth};
 ghost use Rattle.tsdb_serving.specs.Beginnings.{IsCrossRuns, IsInnerRuns};
 ghost use Rattle.tsdb_serving.specs.Compactions.{IsJobOut};
@@ -15,13 +15,13 @@ ghost use Rattle.tsdb_fileset.specs.Files.{AreKept};
 ghost use Rattle.tsdb_base.specs.Causes.{Rose};
 ghost use Rattle.tsdb_outside.specs.Causes.{HasStoreCause};
 ghost use Rattle.tsdb_outside.specs.Files.{Store};
-ghost use Rattle.tsdb_rewriting.specs.Rewriting.{EndsRewrite, IsCompacted, IsFinished, IsOfStore, IsRewriting};
+ghost use Rattle.tsdb_rewriting.specs.Rewriting.{EndsRewrite, IsCompacted, IsFinished, IsOutputOfStore, IsRewriting};
 ghost use Rattle.tsdb_serving.specs.Flushing.{GoesOn, IsReady, faults_under};
 ghost use Rattle.tsdb_serving.specs.Serving.{IsSure};
 ghost use Rattle.tsdb_serving.specs.Sweeping.{LeavesNothing};
 ghost use Rattle.tsdb_serving.specs.declared.fault.FlushFault.{FlushFault as FaultOf};
 ghost use Rattle.tsdb_base.specs.Limits.{end_of_numbers};
-ghost use Rattle.tsdb_state.specs.State.{Told};
+ghost use Rattle.tsdb_state.specs.State.{ToldContents};
 
 use std::alloc::Global;
 use tsdb_base::Space;
@@ -161,7 +161,8 @@ fn rewrite<J: Journal, F: Files>(
     ensures kept { AreKept (files_of core.old) }
     ensures ends { EndsRewrite F.Right.file (F.Port.store port.old) core.old core.new job }
     ensures same_store { F.Port.store port.new ≡ F.Port.store port.old }
-    ensures cause { (told : Told) → TellsTruth F.Right.file told job → IfErr result (λ fault. fault ≡ FaultOf.Device
+    ensures cause { (told : ToldContents) → TellsTruth F.Right.file told job
+        → IfErr result (λ fault. fault ≡ FaultOf.Device
         → Rose (faults_under core.old) (faults_under core.new)
         ⊎ Rose (F.Port.faults port.old) (F.Port.faults port.new)) }
     ensures full { IfErr result (λ fault. (counter : ℕ) → fault ≢ FaultOf.Full counter) }
@@ -191,11 +192,11 @@ fn run<F: Files>(
     job: &Job<F>,
     port: &mut F::Port,
 ) -> Result<Option<Built<F>>, StoreFault>
-    requires formed { IsFormed job.now }
+    requires formed { IsJobFormed job.now }
     requires of_store { Each (IsInputOf F.Right.file (F.Port.store port.old)) job.now.inputs }
     ensures output { IfOk result (IsOutputOf F.Right.file F.Sealed.file F.Sealed.rights job.now) }
-    ensures of_store { IfOk result (IsOfStore F.Sealed.file (F.Port.store port.old)) }
-    ensures cause { (told : Told) → TellsTruth F.Right.file told job.now
+    ensures of_store { IfOk result (IsOutputOfStore F.Sealed.file (F.Port.store port.old)) }
+    ensures cause { (told : ToldContents) → TellsTruth F.Right.file told job.now
         → HasStoreCause (F.Port.faults port.old) (F.Port.faults port.new) result }
     ensures later { F.Port.faults port.old ≤ F.Port.faults port.new }
     ensures same_store { F.Port.store port.new ≡ F.Port.store port.old }
@@ -212,10 +213,12 @@ fn commit<J: Journal, F: Files>(
     job: Job<F>,
     output: Option<Built<F>>,
 ) -> Result<(), FlushFault>
-    requires rewriting { (store : Store) × IsRewriting F.Right.file store core.old job × IsOfStore F.Sealed.file store output }
+    requires rewriting { (store : Store) × IsRewriting F.Right.file store core.old job
+        × IsOutputOfStore F.Sealed.file store output }
     requires output { IsOutputOf F.Right.file F.Sealed.file F.Sealed.rights job output }
     ensures finished { OnOk result (IsFinished job core.old core.new) }
-    ensures ends { (store : Store) → IsRewriting F.Right.file store core.old job → IsOfStore F.Sealed.file store output
+    ensures ends { (store : Store) → IsRewriting F.Right.file store core.old job
+        → IsOutputOfStore F.Sealed.file store output
         → EndsRewrite F.Right.file store core.old core.new job }
     ensures cause { IfErr result (λ fault. (fault ≡ FaultOf.Device)
         × Rose (faults_under core.old) (faults_under core.new)) }
@@ -234,7 +237,7 @@ fn list<J: Journal, F: Files>(
 ) -> Result<(), Failed>
     requires out { IsJobOut F.Right.file core.old job }
     requires output { IsOutputOf F.Right.file F.Sealed.file F.Sealed.rights job output }
-    ensures { IsJobCommit F.Right.file core.old core.new job (option_map (new_file F.Sealed.file) output) result }
+    ensures { IsJobCommit F.Right.file core.old core.new job (option_map (file_built F.Sealed.file) output) result }
 {
     if job.is_cross() {
         core.commit_cross(job, output)

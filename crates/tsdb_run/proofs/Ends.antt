@@ -11,12 +11,12 @@ use Rattle.tsdb_run.specs.Causes.{ReportsBad, ReportsDamageOf, TellsDevice, Tell
 use Rattle.tsdb_run.specs.Headline.{Headline, IsTakenUp, KeepsLineOrder}
 use Rattle.tsdb_run.proofs.Prefix.{bad-line}
 use Rattle.tsdb_run.specs.Input.{TakesScript}
-use Rattle.tsdb_run.specs.Steps.{EndsInput, IsServedStatus, IsWritten, script_status}
+use Rattle.tsdb_run.specs.Steps.{EndsInput, IsServedStatus, IsOutputWritten, script_status}
 use Rattle.tsdb_run.specs.Store.{Contents}
 use Rattle.tsdb_run.specs.declared.status.Status.{Status}
 use Rattle.tsdb_run.specs.declared.status.Status.TheVariants.{Done, Memory, Words, Script, Source, Sink, Device, Damaged}
 use Rattle.tsdb_script.proofs.ReadingLemmas.{not_both, same_first_bad, same_script}
-use Rattle.tsdb_script.specs.Reading.{IsFirstBad, IsScript, RefusesScript}
+use Rattle.tsdb_script.specs.Reading.{IsFirstBadLine, IsScript, RefusesScript}
 use Rattle.tsdb_script.specs.declared.fault.ScriptFault.{ScriptFault}
 use Rattle.tsdb_script.specs.declared.fault.ScriptFault.TheVariants as script_fault
 use Rattle.tsdb_script.specs.declared.numbered.Numbered.{Numbered}
@@ -63,9 +63,9 @@ shows_device status shown taken before now same tells = record {
 
 -- the store was taken up, and the output written or not
 pub taken_device : (status : Status) (taken : Type 0) (before now : ℕ) (old new : Option (List ℕ)) (text : List ℕ)
-    → IsWritten status old new text → taken → before ≤ now → TellsDevice status taken before now
+    → IsOutputWritten status old new text → taken → before ≤ now → TellsDevice status taken before now
 taken_device status taken before now old new text written is later = record {
-  rose = λ same. absurd (subst (λ s. IsWritten s old new text) same written);
+  rose = λ same. absurd (subst (λ s. IsOutputWritten s old new text) same written);
   same = λ other. inl is;
   later = later;
 }
@@ -152,12 +152,12 @@ module _ (words : List (List ℕ)) (left : Option (List ℕ)) where
   same_line at which line kind same = ap (λ n. Script n which) same.0 ∙ ap (Script line) same.1
 
   pub ends_first_bad : (status : Status) → EndsInput words left status → AreGoodWords words
-      → IfSome left (λ bytes. (line kind : ℕ) → IsFirstBad bytes line kind → ReportsBad status line kind)
+      → IfSome left (λ bytes. (line kind : ℕ) → IsFirstBadLine bytes line kind → ReportsBad status line kind)
   ends_first_bad Words none good = absurd (none good)
   ends_first_bad Memory is good = some_always _ left (λ bytes line kind bad. inr (inl refl))
   ends_first_bad (Script at which) is good =
-      some_more (λ bytes. IsFirstBad bytes at which)
-      (λ bytes. (line kind : ℕ) → IsFirstBad bytes line kind → ReportsBad (Script at which) line kind) left
+      some_more (λ bytes. IsFirstBadLine bytes at which)
+      (λ bytes. (line kind : ℕ) → IsFirstBadLine bytes line kind → ReportsBad (Script at which) line kind) left
       (λ bytes first line kind bad. inl (same_line at which line kind
       (same_first_bad bytes at which line kind first bad))) is.1
   ends_first_bad Source is good = some_always _ left (λ bytes line kind bad. inr (inr refl))
@@ -167,10 +167,10 @@ module _ (words : List (List ℕ)) (left : Option (List ℕ)) where
   ends_first_bad (Damaged part at) is good = absurd is
 
   -- a good script was not refused
-  script_is_bad : (X : Type 0) (line kind : ℕ) → IfSome left (λ bytes. IsFirstBad bytes line kind)
+  script_is_bad : (X : Type 0) (line kind : ℕ) → IfSome left (λ bytes. IsFirstBadLine bytes line kind)
       → IfSome left (λ bytes. IsGoodScript bytes → X)
   script_is_bad X line kind is =
-      some_more (λ bytes. IsFirstBad bytes line kind) (λ bytes. IsGoodScript bytes → X) left
+      some_more (λ bytes. IsFirstBadLine bytes line kind) (λ bytes. IsGoodScript bytes → X) left
       (λ bytes bad good. absurd (not_both bytes good.0 line kind good.1 bad)) is
 
   pub ends_damaged : (place : Contents) (status : Status) → EndsInput words left status → AreGoodWords words
@@ -204,10 +204,10 @@ module _ (left : Option (List ℕ)) (script : List Numbered) (read : IfSome left
   read_good = some_more (λ bytes. IsScript bytes script) IsGoodScript left (λ bytes is. (script, is)) read
 
   pub read_first_bad : (status : Status)
-      → IfSome left (λ bytes. (line kind : ℕ) → IsFirstBad bytes line kind → ReportsBad status line kind)
+      → IfSome left (λ bytes. (line kind : ℕ) → IsFirstBadLine bytes line kind → ReportsBad status line kind)
   read_first_bad status =
       some_more (λ bytes. IsScript bytes script)
-      (λ bytes. (line kind : ℕ) → IsFirstBad bytes line kind → ReportsBad status line kind) left
+      (λ bytes. (line kind : ℕ) → IsFirstBadLine bytes line kind → ReportsBad status line kind) left
       (λ bytes is line kind bad. absurd (not_both bytes script line kind is bad)) read
 
 -- the commands took place in the order of the script's lines
@@ -225,10 +225,10 @@ served_untouched status is (inr (inl same)) = subst IsServedStatus same is
 served_untouched status is (inr (inr (line, kind, same))) = subst IsServedStatus same is
 
 -- nor is one refused whose output was written, or a part of it
-pub written_unrefused : (status : Status) (old new : Option (List ℕ)) (text : List ℕ) → IsWritten status old new text
+pub written_unrefused : (status : Status) (old new : Option (List ℕ)) (text : List ℕ) → IsOutputWritten status old new text
     → ¬ IsRefusedStore status
-written_unrefused status old new text is (inl same) = subst (λ s. IsWritten s old new text) same is
-written_unrefused status old new text is (inr (part, at, same)) = subst (λ s. IsWritten s old new text) same is
+written_unrefused status old new text is (inl same) = subst (λ s. IsOutputWritten s old new text) same is
+written_unrefused status old new text is (inr (part, at, same)) = subst (λ s. IsOutputWritten s old new text) same is
 
 pub served_complete : (X Y : Type 0) (status : Status) → IsServedStatus status → (status ≡ Sink → X)
     → (IsRefusedStore status → Y) → ¬ X → ¬ Y → IsDoneOrMemory status

@@ -9,7 +9,7 @@ use Rattle.tsdb_recover.specs.CoreType.{Core}
 use Rattle.tsdb_frames.proofs.MomentLemmas.{leaves_on, weaker}
 use Rattle.std.proofs.lemmas.Option.{same_Some}
 use Rattle.tsdb_history.proofs.Prefixes.{after_wider, no_prefix, stands_after, whole_prefix}
-use Rattle.tsdb_history.specs.Closing.{IsClosed}
+use Rattle.tsdb_history.specs.Closing.{IsCoreClosed}
 use Rattle.tsdb_history.specs.Listings.{IsListingOf}
 use Rattle.tsdb_history.specs.Prefixes.{StandsAfter, StandsAfterPrefix}
 use Rattle.tsdb_history.specs.Serves.{HasServed, LeavesPrefix}
@@ -21,7 +21,7 @@ use Rattle.tsdb_model.specs.State as plain
 use Rattle.tsdb_redo.specs.Opening.{greatest}
 use Rattle.tsdb_base.specs.Causes.{Rose}
 use Rattle.tsdb_outside.specs.Disk.{Image, IsLawful, Keeps, DiskState, in_slot}
-use Rattle.tsdb_outside.specs.Files.{StoredFile, numbers_of}
+use Rattle.tsdb_outside.specs.Files.{StoredFile, stored_file_numbers}
 use Rattle.tsdb_outside.specs.Moments.{LeavesOnly}
 use Rattle.tsdb_outside.specs.declared.disk.Disk as disk
 use Rattle.tsdb_outside.specs.declared.disk.Slot.{Slot}
@@ -36,7 +36,7 @@ use Rattle.tsdb_history.specs.declared.told.Told.{Told}
 use Rattle.tsdb_run.proofs.Standing.{all_stand, one_prefix, stands_with, stands_with_put}
 use Rattle.tsdb_run.proofs.Whole.{sound_after, sound_left}
 use Rattle.tsdb_run.specs.Steps.{IsNewerThan, IsRunOn}
-use Rattle.tsdb_run.specs.Store.{IsSoundOrSilent, StandsFor, contents}
+use Rattle.tsdb_run.specs.Store.{IsSoundOrSilent, SlotsStandFor, contents}
 use Rattle.tsdb_script.specs.declared.numbered.Numbered.{Numbered}
 use Rattle.tsdb_history.specs.Serving.{IsDrawn, disk_under, slot_under}
 
@@ -58,13 +58,13 @@ keeps_leaves old new P before after keeps each = record {
 
 -- no other file has the number
 not_there : (number : ℕ) (files : List StoredFile) → Each (λ (other : StoredFile). number ≢ other.number) files
-    → (i n : ℕ) → slice_get (numbers_of files) i ≡ Some n → number ≡ n → ⊥
+    → (i n : ℕ) → slice_get (stored_file_numbers files) i ≡ Some n → number ≡ n → ⊥
 not_there number [] apart i n at same = absurd cc
 not_there number (file ∷ files) apart zero n at same = apart.0 (same ∙ sym (same_Some file.number n at))
 not_there number (file ∷ files) apart (suc i) n at same = not_there number files apart.1 i n at same
 
 numbered_once : (files : List StoredFile) → EachPair (λ (a b : StoredFile). a.number ≢ b.number) files
-    → (i j n : ℕ) → slice_get (numbers_of files) i ≡ Some n → slice_get (numbers_of files) j ≡ Some n → i ≡ j
+    → (i j n : ℕ) → slice_get (stored_file_numbers files) i ≡ Some n → slice_get (stored_file_numbers files) j ≡ Some n → i ≡ j
 numbered_once [] differ i j n at other = absurd cc
 numbered_once (file ∷ files) differ zero zero n at other = refl
 numbered_once (file ∷ files) differ zero (suc j) n at other =
@@ -79,24 +79,24 @@ module _ {J F S R P : Type 0} {means : disk.Ghosts J} {counts : counted.Ghosts J
     (core last : Core J F S R P means counts) (files : List StoredFile) (start : plain.State) (entries : List Entry)
     (served : HasServed core last files start entries) (slot : slot_under core ≡ A)
     (stays : slot_under last ≡ slot_under core) (new : DiskState) (laws : IsLawful new) (stored : List StoredFile)
-    (rose : Type 0) (closed : IsClosed last new stored rose (files ++ served.put) served.after served.doubt) where
+    (rose : Type 0) (closed : IsCoreClosed last new stored rose (files ++ served.put) served.after served.doubt) where
   in_a : slot_under last ≡ A
   in_a = stays ∙ slot
 
-  after_all : (image : Image) (kept : stores.Files)
+  after_all : (image : Image) (kept : stores.BytesByNumber)
       → StandsForOneOf kept (in_slot (slot_under last) image) served.after served.doubt
-      → StandsAfter (stores.StandsFor kept image.a) served.after entries
+      → StandsAfter (stores.StoreStandsFor kept image.a) served.after entries
   after_all image kept is =
       stands_after kept served.after entries served.doubt image.a served.may
       (subst (λ (s : Slot). StandsForOneOf kept (in_slot s image) served.after served.doubt) in_a is)
 
   abbrev Prefixed : Image → Type 0
-  Prefixed image = StandsAfterPrefix (StandsFor (files ++ served.put) image) start entries
+  Prefixed image = StandsAfterPrefix (SlotsStandFor (files ++ served.put) image) start entries
 
   closing : (image : Image) → LeavesOneOf (files ++ served.put) (slot_under last) served.after served.doubt image
       → Prefixed image
   closing image leaves = one_prefix (files ++ served.put) image start entries (λ kept holds.
-      whole_prefix (stores.StandsFor kept image.a) start served.after entries served.legal
+      whole_prefix (stores.StoreStandsFor kept image.a) start served.after entries served.legal
       (after_all image kept (leaves kept holds)))
 
   moments : LeavesOnly (disk_under core) new Prefixed
@@ -182,7 +182,7 @@ module _ (files : List StoredFile) (start : plain.State) (entries : List Entry) 
     (now : Option (List StoredFile)) (rose : Type 0) (before : IsLawful old) (between : IsLawful mid)
     (behind : IsLawful new) where
   abbrev prefixed : List StoredFile → Image → Type 0
-  prefixed put image = StandsAfterPrefix (StandsFor (files ++ put) image) start entries
+  prefixed put image = StandsAfterPrefix (SlotsStandFor (files ++ put) image) start entries
 
   calmer : (more : Type 0) → (rose → more) → EndsSettled more entries → EndsSettled rose entries
   calmer more wider (inl calm) = inl (λ is. calm (wider is))
@@ -190,7 +190,7 @@ module _ (files : List StoredFile) (start : plain.State) (entries : List Entry) 
 
   -- a call that writes nothing took the store up
   pub run_before : (more : Type 0) → Keeps old mid
-      → ((image : Image) → old.may_leave image → stores.StandsFor (kept_bytes files) image.a start) → (rose → more)
+      → ((image : Image) → old.may_leave image → stores.StoreStandsFor (kept_bytes files) image.a start) → (rose → more)
       → HasRun files start entries mid (contents new now) rose → HasRun files start entries old (contents new now) more
   run_before more keeps stands wider run = record {
     after = run.after;
@@ -200,7 +200,7 @@ module _ (files : List StoredFile) (start : plain.State) (entries : List Entry) 
     once = run.once;
     moments = leaves_on old mid new behind (prefixed run.put)
         (keeps_leaves old mid (prefixed run.put) before between keeps
-        (λ image left. no_prefix (StandsFor (files ++ run.put) image) start entries
+        (λ image left. no_prefix (SlotsStandFor (files ++ run.put) image) start entries
         (stands_with_put files run.put image start (stands image left)))) run.moments;
     stored = run.stored;
     at_rest = run.at_rest;
@@ -221,8 +221,8 @@ module _ (files : List StoredFile) (start : plain.State) (entries : List Entry) 
     once = run.once;
     moments = leaves_on old mid new behind (prefixed run.put) run.moments
         (keeps_leaves mid new (prefixed run.put) between behind keeps
-        (λ image left. whole_prefix (StandsFor (files ++ run.put) image) start run.after entries run.legal
-        (after_wider (StandsFor run.stored image) (StandsFor (files ++ run.put) image)
+        (λ image left. whole_prefix (SlotsStandFor (files ++ run.put) image) start run.after entries run.legal
+        (after_wider (SlotsStandFor run.stored image) (SlotsStandFor (files ++ run.put) image)
         (λ at stands kept holds. stands kept (run.at_rest.held kept holds)) run.after entries (run.holds image left))));
     stored = run.stored;
     at_rest = record {
@@ -271,20 +271,20 @@ if_ok P Q (Err e) more is = tt
 -- ---- numbers
 
 below_greatest : (files : List StoredFile) (named : List ℕ)
-    → Each (λ (file : StoredFile). file.number ≤ greatest (numbers_of files ++ named)) files
+    → Each (λ (file : StoredFile). file.number ≤ greatest (stored_file_numbers files ++ named)) files
 below_greatest [] named = tt
 below_greatest (file ∷ files) named = (
   omega arith,
-  each_weaker (λ (other : StoredFile). other.number ≤ greatest (numbers_of files ++ named))
-      (λ (other : StoredFile). other.number ≤ greatest (numbers_of (file ∷ files) ++ named))
+  each_weaker (λ (other : StoredFile). other.number ≤ greatest (stored_file_numbers files ++ named))
+      (λ (other : StoredFile). other.number ≤ greatest (stored_file_numbers (file ∷ files) ++ named))
       (λ other less. omega (arith, less)) files (below_greatest files named),
 )
 
 -- the next number of a store that was opened is above those of its files
 pub above_stored : {J F S R P : Type 0} {means : disk.Ghosts J} {counts : counted.Ghosts J}
     (core : Core J F S R P means counts) (files : List StoredFile) (named : List ℕ)
-    → next_of core ≡ greatest (numbers_of files ++ named) + 1 → IsNewerThan files core
+    → next_of core ≡ greatest (stored_file_numbers files ++ named) + 1 → IsNewerThan files core
 above_stored core files named next =
-    each_weaker (λ (file : StoredFile). file.number ≤ greatest (numbers_of files ++ named))
+    each_weaker (λ (file : StoredFile). file.number ≤ greatest (stored_file_numbers files ++ named))
     (λ (file : StoredFile). file.number < next_of core) (λ file less. omega (arith, less, next)) files
     (below_greatest files named)

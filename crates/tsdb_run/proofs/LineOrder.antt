@@ -5,7 +5,7 @@ use Rattle.std.specs.List.{filter, slice_get}
 use Rattle.std.proofs.lemmas.List.{map-append}
 use Rattle.std.proofs.lemmas.List.Elements.{filter-append}
 use Rattle.tsdb_history.proofs.Entries.{heads}
-use Rattle.tsdb_history.specs.History.{IsComplete, IsInLineOrder, command_of, commands_of, replies_to}
+use Rattle.tsdb_history.specs.History.{IsComplete, IsInLineOrder, replied_command, commands_of, replies_to}
 use Rattle.tsdb_history.specs.declared.told.Told.{Told}
 use Rattle.tsdb_script.specs.declared.numbered.Numbered.{Numbered}
 
@@ -40,7 +40,7 @@ module _ (all : List Numbered) (every : List Told) (complete : IsComplete all ev
   -- the reply behind these replies is to the command behind these commands
   its_command : (before script : List Numbered) (done history : List Told) (numbered : Numbered) (told : Told)
       → IsInLineOrder before done → told.session ≡ numbered.session → before ++ numbered ∷ script ≡ all
-      → done ++ told ∷ history ≡ every → command_of all told ≡ Some numbered.command
+      → done ++ told ∷ history ≡ every → replied_command all told ≡ Some numbered.command
   its_command before script done history numbered told front same scripts histories =
       ap (slice_get (commands_of all told.session)) (index ∙ as_many before done told.session front)
       ∙ ap (λ l. slice_get (commands_of l told.session) (length (commands_of before told.session))) (sym scripts)
@@ -75,12 +75,12 @@ module _ (all : List Numbered) (every : List Told) (complete : IsComplete all ev
 
   from_here : (before script : List Numbered) (done history : List Told) → IsInLineOrder before done
       → IsInLineOrder script history → before ++ script ≡ all → done ++ history ≡ every
-      → map (command_of all) history ≡ map (λ numbered. Some numbered.command) script
+      → map (replied_command all) history ≡ map (λ numbered. Some numbered.command) script
   from_here before [] done [] front same scripts histories = refl
   from_here before [] done (t ∷ history) front same scripts histories = cc
   from_here before (n ∷ script) done [] front same scripts histories = cc
   from_here before (n ∷ script) done (t ∷ history) front same scripts histories =
-      ap (λ c. c ∷ map (command_of all) history)
+      ap (λ c. c ∷ map (replied_command all) history)
       (its_command before script done history n t front both.0 scripts histories)
       ∙ ap (λ l. Some n.command ∷ l) (from_here (before ++ n ∷ []) script (done ++ t ∷ []) history longer both.1
       (append_assoc before (n ∷ []) script ∙ scripts) (append_assoc done (t ∷ []) history ∙ histories))
@@ -92,5 +92,5 @@ module _ (all : List Numbered) (every : List Told) (complete : IsComplete all ev
       longer = map-append (λ u. u.session) done (t ∷ []) ∙ ap (λ l. l ++ t.session ∷ []) front
           ∙ ap (λ s. map (λ m. m.session) before ++ s ∷ []) both.0 ∙ sym (map-append (λ m. m.session) before (n ∷ []))
 
-  pub their_own : IsInLineOrder all every → map (command_of all) every ≡ map (λ numbered. Some numbered.command) all
+  pub their_own : IsInLineOrder all every → map (replied_command all) every ≡ map (λ numbered. Some numbered.command) all
   their_own same = from_here [] all [] every refl same refl refl

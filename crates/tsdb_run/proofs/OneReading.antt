@@ -4,7 +4,7 @@ use Rattle.std.specs.List.{AllByRecursion}
 use Rattle.std.specs.Str.Parse.{digits_value}
 use Rattle.std.specs.Prelude.{◌≤◌, filter}
 use Rattle.std.proofs.lemmas.Bool.{ne_eqb}
-use Rattle.tsdb_run.specs.Words.{AreArguments, AreWords, Asked, IsGiven, IsOption, IsArgument, IsWithinLimits, Argument, Directory, Pair, Workers, End, is_directory, is_pair, is_workers}
+use Rattle.tsdb_run.specs.Words.{AreArguments, AreWords, Asked, IsOptionGiven, IsOption, IsArgument, AreOptionsWithinLimits, Argument, Directory, Pair, Workers, End, is_directory, is_pair, is_workers}
 use Rattle.tsdb_run.proofs.PartLemmas.{one_digits}
 
 -- ---- one part
@@ -86,7 +86,7 @@ unfolding number_of
 workers_number number = refl
 
 module _ (option : ℕ → Argument) (its : (number : ℕ) → number_of (option number) ≡ number) (given : List Argument) (default : ℕ) where
-  one_given : (m n : ℕ) → IsGiven option given default m → IsGiven option given default n → m ≡ n
+  one_given : (m n : ℕ) → IsOptionGiven option given default m → IsOptionGiven option given default n → m ≡ n
   one_given m n (inl a) (inl b) =
       let same : option m ≡ option n = (let both = sym a ∙ b in cc) in
       sym (its m) ∙ ap number_of same ∙ its n
@@ -95,7 +95,7 @@ module _ (option : ℕ → Argument) (its : (number : ℕ) → number_of (option
   one_given m n (inr a) (inr b) = a.1 ∙ sym b.1
 
   given_within : (P : ℕ → Type 0) (n : ℕ) → AllByRecursion (λ part. P (number_of part)) given → P default
-      → IsGiven option given default n → P n
+      → IsOptionGiven option given default n → P n
   given_within P n all good (inl is) = subst P (its n) (subst (AllByRecursion (λ part. P (number_of part))) is all).0
   given_within P n all good (inr is) = subst P (sym is.1) good
 
@@ -110,9 +110,9 @@ one_asked words one other a b =
     let directories = ap (filter is_directory) parts in
     let directory : one.directory ≡ other.directory = (let same : Directory one.directory ∷ [] ≡ Directory other.directory ∷ [] = sym first ∙ directories ∙ second in cc) in
     let pair : one.pair_points ≡ other.pair_points = one_given Pair pair_number (filter is_pair a.parts) 10000 one.pair_points other.pair_points a.pair_points
-    (subst (λ ps. IsGiven Pair (filter is_pair ps) 10000 other.pair_points) (sym parts) b.pair_points) in
+    (subst (λ ps. IsOptionGiven Pair (filter is_pair ps) 10000 other.pair_points) (sym parts) b.pair_points) in
     let count : one.workers ≡ other.workers = one_given Workers workers_number (filter is_workers a.parts) 1 one.workers other.workers a.workers
-    (subst (λ ps. IsGiven Workers (filter is_workers ps) 1 other.workers) (sym parts) b.workers) in
+    (subst (λ ps. IsOptionGiven Workers (filter is_workers ps) 1 other.workers) (sym parts) b.workers) in
     let made : List ℕ → ℕ → ℕ → Asked = λ d p w. record { directory = d; pair_points = p; workers = w } in
     let same : made one.directory one.pair_points one.workers ≡ made other.directory other.pair_points other.workers = cc in
     same
@@ -137,7 +137,7 @@ workers_within (Pair number ∷ parts) words are = workers_within parts are.0 ar
 workers_within (Workers number ∷ parts) words are = (are.1.1, workers_within parts are.0 are.2)
 workers_within (End ∷ parts) words are = workers_within parts are.0 are.2
 
-pub within_limits : (words : List (List ℕ)) (asked : Asked) → AreWords words asked → IsWithinLimits asked
+pub within_limits : (words : List (List ℕ)) (asked : Asked) → AreWords words asked → AreOptionsWithinLimits asked
 within_limits words asked are =
     let pair = given_within Pair pair_number (filter is_pair are.parts) 10000 (λ n. (1 ≤ n) × (n ≤ 1000000)) asked.pair_points
     (pairs_within are.parts are.behind are.are) (omega arith, omega arith) are.pair_points in

@@ -6,13 +6,13 @@ use Rattle.tsdb_outside.specs.Files.{StoredFile}
 use Rattle.tsdb_run.proofs.Whole.{not_damaged}
 use Rattle.tsdb_run.specs.Causes.{IsRefusedStore}
 use Rattle.tsdb_run.specs.Steps.{IsOpeningStatus}
-use Rattle.tsdb_run.specs.Store.{IsSound, contents}
+use Rattle.tsdb_run.specs.Store.{IsSoundPlace, contents}
 use Rattle.tsdb_run.specs.declared.status.Status.{Status}
 use Rattle.tsdb_run.specs.declared.status.Status.TheVariants.{Done, Memory, Words, Script, Source, Sink, Device, Damaged}
 
 -- a sound store is refused only where something outside failed
 pub refused_rose : (disk : DiskState) (stored : Option (List StoredFile)) (at : plain.State) (status : Status) (rose : Type 0)
-    → IsSound (contents disk stored) at → IsOpeningStatus (contents disk stored) status → (status ≡ Device → rose)
+    → IsSoundPlace (contents disk stored) at → IsOpeningStatus (contents disk stored) status → (status ≡ Device → rose)
     → IsRefusedStore status → rose
 refused_rose disk stored at Device rose sound is device refused = device refl
 refused_rose disk stored at (Damaged part place) rose sound is device refused =

@@ -6,7 +6,7 @@ use Rattle.tsdb_base.specs.Causes.{Rose}
 use Rattle.tsdb_outside.specs.declared.faults.StoreFault.{StoreFault}
 use Rattle.tsdb_outside.specs.declared.faults.StoreFault.TheVariants as fault
 use Rattle.tsdb_run.specs.Output.{AppendsPrefix}
-use Rattle.tsdb_run.specs.Steps.{Puts}
+use Rattle.tsdb_run.specs.Steps.{PutsText}
 
 pub Appends-nothing : (held : Option (List ℕ)) → Appends held held []
 Appends-nothing None = tt
@@ -56,7 +56,7 @@ module _ (old : Option (List ℕ)) (text : List ℕ) (before : ℕ) where
 
   -- all has been put
   pub Puts-whole : {T : Type 0} (new : Option (List ℕ)) (rest : List ℕ) (now : ℕ) (x : T)
-      → HasPut old new text rest before now → rest ≡ [] → Puts old new text before now (Ok x)
+      → HasPut old new text rest before now → rest ≡ [] → PutsText old new text before now (Ok x)
   Puts-whole new rest now x put none =
       let held : Appends old new text = subst (Appends old new) (sym (put.splits ∙ ap (λ l. put.prefix ++ l) none ∙ append-nil put.prefix)) put.held in
       record {
@@ -72,7 +72,7 @@ module _ (old : Option (List ℕ)) (text : List ℕ) (before : ℕ) where
   -- the rest, or a prefix of it, was being put as a call failed
   pub Puts-failed : {T : Type 0} (middle new : Option (List ℕ)) (rest : List ℕ) (between now : ℕ) (e : StoreFault)
       → HasPut old middle text rest before between → AppendsPrefix middle new rest → between ≤ now → (e ≡ fault.Failed → Rose between now)
-      → (¬ (e ≡ fault.Failed) → now ≡ between) → Puts {T = T} old new text before now (Err e)
+      → (¬ (e ≡ fault.Failed) → now ≡ between) → PutsText {T = T} old new text before now (Err e)
   Puts-failed middle new rest between now e put part later cause calm = record {
     whole = tt;
     prefix = (put.prefix ++ part.0, part.1, put.splits ∙ ap (λ l. put.prefix ++ l) part.2 ∙ sym (append_assoc put.prefix part.0 part.1), Appends-twice old middle new put.prefix part.0 put.held part.3);
@@ -82,8 +82,8 @@ module _ (old : Option (List ℕ)) (text : List ℕ) (before : ℕ) where
 
 -- a call of a loop over parts failed: what it answered is handed on
 pub Puts-in_part : {T U : Type 0} (old middle new : Option (List ℕ)) (text rest part others : List ℕ) (before between now : ℕ) (result : Result U StoreFault) (e f : StoreFault)
-    → HasPut old middle text rest before between → rest ≡ part ++ others → Puts middle new part between now result → result ≡ Err e → f ≡ e
-    → Puts {T = T} old new text before now (Err f)
+    → HasPut old middle text rest before between → rest ≡ part ++ others → PutsText middle new part between now result → result ≡ Err e → f ≡ e
+    → PutsText {T = T} old new text before now (Err f)
 Puts-in_part old middle new text rest part others before between now result e f put splits puts is same =
     Puts-failed old text before middle new rest between now f put
     (AppendsPrefix-more middle new rest part others splits puts.prefix) puts.cause.later (λ failed. puts.cause.failed (is ∙ ap Err (sym same ∙ failed)))
@@ -91,12 +91,12 @@ Puts-in_part old middle new text rest part others before between now result e f 
 
 -- a call put its part, which is there then
 pub held_after : {U : Type 0} (middle new : Option (List ℕ)) (part : List ℕ) (between now : ℕ) (result : Result U StoreFault) (x : U)
-    → Puts middle new part between now result → result ≡ Ok x → Appends middle new part
+    → PutsText middle new part between now result → result ≡ Ok x → Appends middle new part
 held_after middle new part between now result x puts is = subst (λ r. OnOk r (Appends middle new part)) is puts.whole
 
 -- and without a fault
 pub calm_after : {U : Type 0} (middle new : Option (List ℕ)) (part : List ℕ) (between now : ℕ) (result : Result U StoreFault) (x : U)
-    → Puts middle new part between now result → result ≡ Ok x → now ≡ between
+    → PutsText middle new part between now result → result ≡ Ok x → now ≡ between
 calm_after {U} middle new part between now result x puts is =
     puts.no_fault (λ failed. not_failed (sym is ∙ failed))
   where
@@ -105,7 +105,7 @@ calm_after {U} middle new part between now result x puts is =
 
 -- the last of two parts was put, or not, and what the call answered is handed on
 pub Puts-after : {T : Type 0} (old middle new : Option (List ℕ)) (text first last : List ℕ) (before between now : ℕ) (result : Result T StoreFault)
-    → Appends old middle first → between ≡ before → text ≡ first ++ last → Puts middle new last between now result → Puts old new text before now result
+    → Appends old middle first → between ≡ before → text ≡ first ++ last → PutsText middle new last between now result → PutsText old new text before now result
 Puts-after {T} old middle new text first last before between now (Ok x) held same splits puts =
     let all : Appends old new text = subst (Appends old new) (sym splits) (Appends-twice old middle new first last held puts.whole) in
     record {
@@ -121,7 +121,7 @@ Puts-after {T} old middle new text first last before between now (Err e) held sa
 
 -- memory ran out behind what was put
 pub Puts-memory : {T : Type 0} (old middle : Option (List ℕ)) (text rest : List ℕ) (before now : ℕ) (e : StoreFault)
-    → HasPut old middle text rest before now → e ≡ fault.Memory → Puts {T = T} old middle text before now (Err e)
+    → HasPut old middle text rest before now → e ≡ fault.Memory → PutsText {T = T} old middle text before now (Err e)
 Puts-memory old middle text rest before now e put is =
     Puts-failed old text before middle middle rest now now e put ([], rest, refl, Appends-nothing middle) (omega arith) (λ failed. memory_is_no_failure (sym is ∙ failed))
     (λ none. refl)

@@ -19,7 +19,7 @@ use Rattle.tsdb_outside.specs.declared.disk.Slot.TheVariants.{A}
 use Rattle.tsdb_recover.specs.Left.{AreLeft, IsStray}
 use Rattle.tsdb_state.proofs.ReplayLemmas.Parted.{replay_once}
 use Rattle.tsdb_state.proofs.ReplayLemmas.Stores.{sound_kept}
-use Rattle.tsdb_state.specs.Stores.{IsWhole, Recorded, StandsFor, store_steps, store_steps_determinate}
+use Rattle.tsdb_state.specs.Stores.{IsWhole, Recorded, StoreStandsFor, store_steps, store_steps_determinate}
 use Rattle.tsdb_run.proofs.Executed.{some_and}
 use Rattle.tsdb_run.proofs.Whole.{tells_sound, told_both}
 use Rattle.tsdb_recover.specs.declared.fault.OpenFault.{OpenFault}
@@ -29,9 +29,9 @@ use Rattle.tsdb_recover.specs.Damage.{AnswersDamageIn, IsDamagedIn}
 use Rattle.tsdb_recover.specs.Stored.{AreStored}
 use Rattle.tsdb_recover.specs.Taking.{HaveLengths}
 use Rattle.tsdb_run.specs.Causes.{ReportsDamage}
-use Rattle.tsdb_run.specs.Headline.{Headline, IsWithoutCommands, Run}
-use Rattle.tsdb_run.specs.Steps.{IsOpeningStatus, IsRefused, opening_status, run_of}
-use Rattle.tsdb_run.specs.Store.{Contents, HasDamage, IsLeftAlone, IsSound, KeepsListed, Tells, contents}
+use Rattle.tsdb_run.specs.Headline.{Headline, IsWithoutCommands, WholeRun}
+use Rattle.tsdb_run.specs.Steps.{IsOpeningStatus, IsOpeningRefused, opening_status, whole_run}
+use Rattle.tsdb_run.specs.Store.{Contents, HasDamage, IsLeftAlone, IsSoundPlace, KeepsListed, TellsPlace, contents}
 use Rattle.tsdb_run.specs.declared.status.Status.{Status}
 use Rattle.tsdb_run.specs.declared.status.Status.TheVariants.{Done, Memory, Words, Script, Source, Sink, Device, Damaged}
 use Rattle.tsdb_state.specs.Records.{numbers_of}
@@ -40,7 +40,7 @@ use Rattle.tsdb_state.specs.State.{File}
 -- ---- a sound store stays sound
 
 module _ (files now : List StoredFile) (bytes : List ℕ) (left : AreLeft (IsStray bytes) files now) (at : plain.State)
-    (stands : StandsFor (kept_bytes files) bytes at) where
+    (stands : StoreStandsFor (kept_bytes files) bytes at) where
   abbrev listed : List File
   listed = stands.recorded.store.sequence ++ stands.recorded.store.unsequence
 
@@ -69,7 +69,7 @@ module _ (files now : List StoredFile) (bytes : List ℕ) (left : AreLeft (IsStr
     content = whole.content;
   }
 
-  pub stands_left : StandsFor (kept_bytes now) bytes at
+  pub stands_left : StoreStandsFor (kept_bytes now) bytes at
   stands_left = record {
     recorded = stands.recorded;
     replayed = stands.replayed;
@@ -85,8 +85,8 @@ module _ (files now : List StoredFile) (bytes : List ℕ) (left : AreLeft (IsStr
   }
 
 pub still_sound : (old new : DiskState) (stored now : Option (List StoredFile)) (at : plain.State) → Keeps old new
-    → KeepsListed (contents old stored) (contents new now) → IsSound (contents old stored) at
-    → IsSound (contents new now) at
+    → KeepsListed (contents old stored) (contents new now) → IsSoundPlace (contents old stored) at
+    → IsSoundPlace (contents new now) at
 still_sound old new stored now at keeps keeps_files sound =
     let tells = tells_sound old stored at sound in
     let left = some_and (AreLeft (IsStray tells.0.a) sound.files) now (keeps_files tells.0 sound.files tells.1) in
@@ -106,7 +106,7 @@ still_sound old new stored now at keeps keeps_files sound =
     }
 
 -- a run that executed no command
-pub without : (run : Run) → run.history ≡ [] → KeepsBytes run.held run.holds → IsLeftAlone run.old run.new
+pub without : (run : WholeRun) → run.history ≡ [] → KeepsBytes run.held run.holds → IsLeftAlone run.old run.new
     → IsWithoutCommands run
 without run none sink alone = record {
   none = none;
@@ -131,7 +131,7 @@ same_left old new stored now keeps same = record { log = keeps; files = same_lis
 -- a store that was not opened, though memory or something of it failed, with no file come or gone
 pub same_refused : (old new : DiskState) (stored now : Option (List StoredFile)) (status : Status) → Keeps old new
     → now ≡ stored → IsOpeningStatus (contents old stored) status
-    → IsRefused (contents old stored) (contents new now) status
+    → IsOpeningRefused (contents old stored) (contents new now) status
 same_refused old new stored now status keeps same why =
     record { why = why; left_alone = same_left old new stored now keeps same }
 
@@ -154,7 +154,7 @@ pub opening_refused : (state new : DiskState) (stored start mid now : Option (Li
     → reason ≡ fault.Damaged which at → IsDamagedIn (kept_bytes files) image.a which at))
     → IfSome state.seen (λ image. IfSome start (λ files. AreStored files
     → IsSomeAnd mid (AreLeft (IsStray image.a) files)))
-    → IsRefused (contents state stored) (contents new now) (opening_status reason)
+    → IsOpeningRefused (contents state stored) (contents new now) (opening_status reason)
 opening_refused state new stored start mid now reason begins ends keeps damaged left = record {
   why = opening_why state stored start reason begins damaged;
   left_alone = record {
@@ -203,8 +203,8 @@ reports state stored start part at reason begins each has = answers_reports part
 -- a place that handed the store out, and took it back after it was not opened
 pub placed_refused : (old journal last new : DiskState) (stored at_rest rest now : Option (List StoredFile))
     (status : Status) → IsLawful old → Keeps old journal → at_rest ≡ stored → Keeps last new → now ≡ rest
-    → IsRefused (contents journal at_rest) (contents last rest) status
-    → IsRefused (contents old stored) (contents new now) status
+    → IsOpeningRefused (contents journal at_rest) (contents last rest) status
+    → IsOpeningRefused (contents old stored) (contents new now) status
 placed_refused old journal last new stored at_rest rest now status laws takes same puts told refused = record {
   why = handed_why status refused.why;
   left_alone = record {
@@ -214,8 +214,8 @@ placed_refused old journal last new stored at_rest rest now status laws takes sa
   };
 }
   where
-    handed : (image : Image) (files : List StoredFile) → Tells (contents old stored) image files
-        → Tells (contents journal at_rest) image files
+    handed : (image : Image) (files : List StoredFile) → TellsPlace (contents old stored) image files
+        → TellsPlace (contents journal at_rest) image files
     handed image files tells = record {
       slots = takes.seen ∙ tells.slots;
       told = same ∙ tells.told;
@@ -258,9 +258,9 @@ err_again P Q (Err fault) step holds = step fault holds
 
 -- the run of these words and this source that left place and sink as they were
 abbrev pub idle : List (List ℕ) → Option (List ℕ) → Contents → ℕ → ℕ → Option (List ℕ) → List Answered
-    → Option (List ℕ) → Run
+    → Option (List ℕ) → WholeRun
 idle words left place before now directory history held =
-    run_of words left place place before now directory history held held
+    whole_run words left place place before now directory history held held
 
 pub without_any : (words : List (List ℕ)) (left : Option (List ℕ)) (place : Contents) (before now : ℕ)
     (directory : Option (List ℕ)) (history : List Answered) (held : Option (List ℕ)) → history ≡ []
@@ -269,7 +269,7 @@ without_any words left place before now directory history held none =
     without (idle words left place before now directory history held) none (Keeps-refl held)
     (same_left place.disk place.disk place.stored place.stored (Keeps-same place.disk) refl)
 
-pub headline_refused : (run : Run) (status : Status) → IsOpeningStatus run.old status → IsWithoutCommands run
+pub headline_refused : (run : WholeRun) (status : Status) → IsOpeningStatus run.old status → IsWithoutCommands run
     → Headline status run
 headline_refused run Done is none = absurd is
 headline_refused run Memory is none = inr none

@@ -4,8 +4,8 @@ use Rattle.std.specs.Prelude.{◌↔◌, IsTrue, filter}
 use Rattle.std.proofs.lemmas.Bool.{false≢true}
 use Rattle.std.specs.Option.{unwrap_or}
 use Rattle.tsdb_run.specs.declared.seen.Seen.{Seen}
-use Rattle.tsdb_run.specs.WordSteps.{Completes, KeepsFirst, MayFollow, directory_in, option_in}
-use Rattle.tsdb_run.specs.Words.{Asked, IsGiven, Argument, Directory, Pair, Workers, End, is_directory}
+use Rattle.tsdb_run.specs.WordSteps.{Completes, KeepsFirst, MayFollowArguments, directory_in, option_in}
+use Rattle.tsdb_run.specs.Words.{Asked, IsOptionGiven, Argument, Directory, Pair, Workers, End, is_directory}
 
 abbrev seen : Option (Bor (List ℕ)) → Option ℕ → Option ℕ → Bool → Seen
 seen d p w e = record { directory = d; pair_points = p; workers = w; ended = e }
@@ -16,11 +16,11 @@ Adds old part may new = (parts : List Argument) (asked : Asked) → Completes ol
 
 -- ---- a directory
 
-without_directory : (e : Bool) (word : List ℕ) (parts : List Argument) → MayFollow e (Directory word ∷ parts) → MayFollow e parts
+without_directory : (e : Bool) (word : List ℕ) (parts : List Argument) → MayFollowArguments e (Directory word ∷ parts) → MayFollowArguments e parts
 without_directory true word parts may = may.1
 without_directory false word parts may = may
 
-with_directory : (e : Bool) (word : List ℕ) (parts : List Argument) → MayFollow e parts → MayFollow e (Directory word ∷ parts)
+with_directory : (e : Bool) (word : List ℕ) (parts : List Argument) → MayFollowArguments e parts → MayFollowArguments e (Directory word ∷ parts)
 with_directory true word parts may = (refl, may)
 with_directory false word parts may = may
 
@@ -44,17 +44,17 @@ adds_directory (Some first) kept p w e may word keeps parts asked = (
 
 -- no option is given twice
 given_twice : (option : ℕ → Argument) (first second : Argument) (others : List Argument) (default number : ℕ)
-    → ¬ IsGiven option (first ∷ second ∷ others) default number
+    → ¬ IsOptionGiven option (first ∷ second ∷ others) default number
 given_twice option first second others default number (inl one) = cc
 given_twice option first second others default number (inr none) = let empty : first ∷ second ∷ others ≡ [] = none.0 in cc
 
-without_option : (e : Bool) (part : Argument) (parts : List Argument) → e ≡ false → (MayFollow false (part ∷ parts) → MayFollow false parts)
-    → MayFollow e (part ∷ parts) → MayFollow e parts
+without_option : (e : Bool) (part : Argument) (parts : List Argument) → e ≡ false → (MayFollowArguments false (part ∷ parts) → MayFollowArguments false parts)
+    → MayFollowArguments e (part ∷ parts) → MayFollowArguments e parts
 without_option true part parts unended less may = absurd (true≢false unended)
 without_option false part parts unended less may = less may
 
-with_option : (e : Bool) (part : Argument) (parts : List Argument) → e ≡ false → (MayFollow false parts → MayFollow false (part ∷ parts))
-    → MayFollow e parts → MayFollow e (part ∷ parts)
+with_option : (e : Bool) (part : Argument) (parts : List Argument) → e ≡ false → (MayFollowArguments false parts → MayFollowArguments false (part ∷ parts))
+    → MayFollowArguments e parts → MayFollowArguments e (part ∷ parts)
 with_option true part parts unended more may = absurd (true≢false unended)
 with_option false part parts unended more may = more may
 
@@ -87,7 +87,7 @@ adds_workers d p (Some first) kept e may number unended keeps parts asked = (λ 
 -- behind a lone `--` no option may stand
 pub adds_none : (s : Seen) (part : Argument) → s.ended ≡ true → ¬ IsTrue (is_directory part) → Adds s part (not s.ended) s
 adds_none s part ended option parts asked = (
-  λ c. absurd (option (subst (λ e. MayFollow e (part ∷ parts)) ended c.end).0),
+  λ c. absurd (option (subst (λ e. MayFollowArguments e (part ∷ parts)) ended c.end).0),
   λ t. absurd (true≢false (sym t.0 ∙ ap not ended)),
 )
 
@@ -102,12 +102,12 @@ adds_end d p w false parts asked = (
 
 -- ---- no part
 
-nothing_follows : (e : Bool) → MayFollow e []
+nothing_follows : (e : Bool) → MayFollowArguments e []
 nothing_follows true = tt
 nothing_follows false = tt
 
 given_or : (option : ℕ → Argument) (read : Option ℕ) (default number : ℕ) → number ≡ unwrap_or read default
-    → IsGiven option (option_in option read ++ []) default number
+    → IsOptionGiven option (option_in option read ++ []) default number
 given_or option None default number is = inr (refl, is)
 given_or option (Some given) default number is = inl (ap (λ n. option n ∷ []) (sym is))
 

@@ -17,8 +17,8 @@ use Rattle.tsdb_recover.proofs.Rest.{holds_itself}
 use Rattle.tsdb_recover.specs.Stored.{AreStored}
 use Rattle.tsdb_state.proofs.ReplayLemmas.Stores.{stands_with_more}
 use Rattle.tsdb_state.specs.Stores as replay
-use Rattle.tsdb_state.specs.Stores.{Files, HoldsKept}
-use Rattle.tsdb_run.specs.Store.{StandsFor}
+use Rattle.tsdb_state.specs.Stores.{BytesByNumber, HoldsKept}
+use Rattle.tsdb_run.specs.Store.{SlotsStandFor}
 
 -- ---- files that hold themselves
 
@@ -45,7 +45,7 @@ found_or_not (Some other) bytes = by (same_or_not other bytes)
     by (inl same) = inl (ap Some same)
     by (inr not) = inr (λ same. not (same_Some other bytes same))
 
-held_or_not : (files : Files) (kept : List StoredFile) → HoldsKept kept files ⊎ (¬ HoldsKept kept files)
+held_or_not : (files : BytesByNumber) (kept : List StoredFile) → HoldsKept kept files ⊎ (¬ HoldsKept kept files)
 held_or_not files [] = inl tt
 held_or_not files (file ∷ kept) = by (found_or_not (files file.number) file.bytes) (held_or_not files kept)
   where
@@ -57,7 +57,7 @@ held_or_not files (file ∷ kept) = by (found_or_not (files file.number) file.by
     by (inr not) rest = inr (λ holds. not holds.0)
 
 -- one more file before those that are looked up, which all are held at once
-holds_behind : (file : StoredFile) (others files : List StoredFile) (there : Files) → there file.number ≡ Some file.bytes
+holds_behind : (file : StoredFile) (others files : List StoredFile) (there : BytesByNumber) → there file.number ≡ Some file.bytes
     → HoldsKept files there → HoldsKept files (kept_bytes others) → HoldsKept files (kept_bytes (file ∷ others))
 holds_behind file others [] there here holds is = tt
 holds_behind file others (other ∷ files) there here holds is = (
@@ -76,7 +76,7 @@ first_found file others true same = refl
 first_found file others false apart = absurd (false≢true (sym apart ∙ eq-eqb file.number file.number refl))
 
 -- files that are held at once are held by what they are
-held_at_once : (files : List StoredFile) (there : Files) → HoldsKept files there → HoldsKept files (kept_bytes files)
+held_at_once : (files : List StoredFile) (there : BytesByNumber) → HoldsKept files there → HoldsKept files (kept_bytes files)
 held_at_once [] there holds = tt
 held_at_once (file ∷ files) there holds = (
   first_found file files (nat_eq file.number file.number) refl,
@@ -87,34 +87,34 @@ held_at_once (file ∷ files) there holds = (
 
 -- with their own bytes, and so with whatever files hold them
 pub stands_with : (files : List StoredFile) (image : Image) (at : plain.State)
-    → replay.StandsFor (kept_bytes files) image.a at → StandsFor files image at
+    → replay.StoreStandsFor (kept_bytes files) image.a at → SlotsStandFor files image at
 stands_with files image at stands kept holds = stands_with_more (kept_bytes files) kept image.a at
     (λ number bytes found. holds_found files kept holds number bytes found) stands
 
 -- with some files, and so with more
 pub stands_with_put : (files put : List StoredFile) (image : Image) (at : plain.State)
-    → replay.StandsFor (kept_bytes files) image.a at → StandsFor (files ++ put) image at
+    → replay.StoreStandsFor (kept_bytes files) image.a at → SlotsStandFor (files ++ put) image at
 stands_with_put files put image at stands kept holds = stands_with_more (kept_bytes files) kept image.a at
     (λ number bytes found. holds_found (files ++ put) kept holds number bytes
     (found_with_more files put number bytes found)) stands
 
 -- One prefix stands with whatever files hold these.
 pub one_prefix : (files : List StoredFile) (image : Image) (start : plain.State) (entries : List Entry)
-    → ((kept : Files) → HoldsKept files kept → StandsAfterPrefix (replay.StandsFor kept image.a) start entries)
-    → StandsAfterPrefix (StandsFor files image) start entries
+    → ((kept : BytesByNumber) → HoldsKept files kept → StandsAfterPrefix (replay.StoreStandsFor kept image.a) start entries)
+    → StandsAfterPrefix (SlotsStandFor files image) start entries
 one_prefix files image start entries each = by (held_or_not (kept_bytes files) files)
   where
     by : HoldsKept files (kept_bytes files) ⊎ (¬ HoldsKept files (kept_bytes files))
-        → StandsAfterPrefix (StandsFor files image) start entries
-    by (inl held) = prefix_wider (replay.StandsFor (kept_bytes files) image.a) (StandsFor files image)
+        → StandsAfterPrefix (SlotsStandFor files image) start entries
+    by (inl held) = prefix_wider (replay.StoreStandsFor (kept_bytes files) image.a) (SlotsStandFor files image)
         (stands_with files image) start entries (each (kept_bytes files) held)
-    by (inr not) = no_prefix (StandsFor files image) start entries
+    by (inr not) = no_prefix (SlotsStandFor files image) start entries
         (λ kept holds. absurd (not (held_at_once files kept holds)))
 
 -- So do stored files.
 pub all_stand : (files : List StoredFile) (image : Image) (after : plain.State) (entries : List Entry) → AreStored files
-    → ((kept : Files) → HoldsKept files kept → StandsAfter (replay.StandsFor kept image.a) after entries)
-    → StandsAfter (StandsFor files image) after entries
+    → ((kept : BytesByNumber) → HoldsKept files kept → StandsAfter (replay.StoreStandsFor kept image.a) after entries)
+    → StandsAfter (SlotsStandFor files image) after entries
 all_stand files image after entries stored each =
-    after_wider (replay.StandsFor (kept_bytes files) image.a) (StandsFor files image) (stands_with files image) after
+    after_wider (replay.StoreStandsFor (kept_bytes files) image.a) (SlotsStandFor files image) (stands_with files image) after
     entries (each (kept_bytes files) (holds_itself files stored.differ))

@@ -23,7 +23,7 @@ use Rattle.tsdb_run.proofs.Executed.{some_and}
 use Rattle.tsdb_run.proofs.Refused.{stands_left}
 use Rattle.tsdb_run.specs.Headline.{AreNewer}
 use Rattle.tsdb_run.specs.Stops.{IsStopped}
-use Rattle.tsdb_run.specs.Store.{Contents, IsSound, StandsFor, contents, new_state}
+use Rattle.tsdb_run.specs.Store.{Contents, IsSoundPlace, SlotsStandFor, contents, new_state}
 use Rattle.tsdb_state.specs.Stored.{kept_bytes}
 use Rattle.tsdb_state.specs.Stores as replay
 
@@ -74,7 +74,7 @@ module _ (old new left : Contents) (start : plain.State) (first : List Entry) (u
   now = found.0
 
   -- the log stands with the files that are left for what it stood for with all of them
-  stands_now : (at : plain.State) → StandsFor all is.image at → replay.StandsFor (kept_bytes now) is.image.a at
+  stands_now : (at : plain.State) → SlotsStandFor all is.image at → replay.StoreStandsFor (kept_bytes now) is.image.a at
   stands_now at stands = stands_left all now is.image.a found.2 at (stands (kept_bytes all)
       (holds_itself all (differ_with_newer is.sound.files is.run.put is.sound.are_stored.differ
       (all_differ is.run.put is.run.once) is.run.newer)))
@@ -82,7 +82,7 @@ module _ (old new left : Contents) (start : plain.State) (first : List Entry) (u
   same_image : (seen : Image) → left.disk.seen ≡ Some seen → is.image ≡ seen
   same_image seen there = same_Some is.image seen (sym is.after_stop.slots ∙ there)
 
-  sound_now : (at : plain.State) → StandsFor all is.image at → IsSound left at
+  sound_now : (at : plain.State) → SlotsStandFor all is.image at → IsSoundPlace left at
   sound_now at stands = record {
     files = now;
     told = found.1;
@@ -92,30 +92,30 @@ module _ (old new left : Contents) (start : plain.State) (first : List Entry) (u
       settled = λ payloads seen image there records may.
           subst (HasRecords payloads)
           (ap (λ (i : Image). i.a) (sym (same_image seen there)) ∙ sym (is.after_stop.durable image may)) records;
-      stands = λ seen there. subst (λ (i : Image). replay.StandsFor (kept_bytes now) i.a at) (same_image seen there)
+      stands = λ seen there. subst (λ (i : Image). replay.StoreStandsFor (kept_bytes now) i.a at) (same_image seen there)
           (stands_now at stands);
     };
   }
 
   -- it is a sound store, in the state after a prefix of the entries
-  pub stopped_sound : StandsAfterPrefix (IsSound left) start first
-  stopped_sound = prefix_wider (StandsFor all is.image) (IsSound left) sound_now start first
+  pub stopped_sound : StandsAfterPrefix (IsSoundPlace left) start first
+  stopped_sound = prefix_wider (SlotsStandFor all is.image) (IsSoundPlace left) sound_now start first
       (is.run.moments.each is.image is.moment)
 
   -- whoever begins on it follows such a prefix
-  pub stopped_joined : (middle last : plain.State) (second : List Entry) → IsSound left middle
+  pub stopped_joined : (middle last : plain.State) (second : List Entry) → IsSoundPlace left middle
       → IsLegal middle second last → IsJoined start first second last
   stopped_joined middle last second sound legal = joined (kept_bytes now) is.image.a start middle last first second
-      (prefix_wider (StandsFor all is.image) (replay.StandsFor (kept_bytes now) is.image.a) stands_now start first
+      (prefix_wider (SlotsStandFor all is.image) (replay.StoreStandsFor (kept_bytes now) is.image.a) stands_now start first
       (is.run.moments.each is.image is.moment))
-      (subst (λ files. replay.StandsFor (kept_bytes files) is.image.a middle)
+      (subst (λ files. replay.StoreStandsFor (kept_bytes files) is.image.a middle)
       (same_Some sound.files now (sym sound.told ∙ found.1)) (sound.sound.stands is.image is.after_stop.slots)) legal
 
 -- ---- a new place
 
 pub new_place_sound : (disk : DiskState) (stored : Option (List StoredFile)) (image : Image) → disk.seen ≡ Some image
     → image.a ≡ 0 ∷ [] → ((left : Image) → disk.may_leave left → left.a ≡ 0 ∷ []) → stored ≡ Some []
-    → IsSound (contents disk stored) new_state
+    → IsSoundPlace (contents disk stored) new_state
 new_place_sound disk stored image seen here leaves none = record {
   files = [];
   told = none;

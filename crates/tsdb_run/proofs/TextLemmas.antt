@@ -8,11 +8,11 @@ use Rattle.std.proofs.lemmas.List.Elements.{filter-append}
 use Rattle.std.proofs.lemmas.Map.Views.{any-filter_same}
 use Rattle.tsdb_print.specs.Text.{reply_text}
 use Rattle.tsdb_script.specs.declared.numbered.Numbered.{Numbered}
-use Rattle.tsdb_history.specs.History.{command_of, entry_of}
+use Rattle.tsdb_history.specs.History.{replied_command, history_entry}
 use Rattle.tsdb_model.specs.History.{Entry}
 use Rattle.tsdb_model.specs.declared.command.Command.{Command}
 use Rattle.tsdb_run.proofs.LineOrder.{their_own}
-use Rattle.tsdb_run.specs.Output.{replies_text, sessions_of}
+use Rattle.tsdb_run.specs.Output.{replies_text, distinct_sessions}
 use Rattle.tsdb_run.specs.Steps.{IsAnswered, reply_text_of, with_session}
 use Rattle.tsdb_history.specs.declared.told.Told.{Told}
 
@@ -68,12 +68,12 @@ module _ (first session : ℕ) (sessions : List ℕ) where
 
 -- the sessions of a script with one more command
 pub sessions_of-push : (script : List Numbered) (numbered : Numbered)
-    → sessions_of (script ++ numbered ∷ []) ≡ with_session (sessions_of script) numbered.session
+    → distinct_sessions (script ++ numbered ∷ []) ≡ with_session (distinct_sessions script) numbered.session
 sessions_of-push [] numbered = refl
 sessions_of-push (first ∷ script) numbered =
     ap (λ l. first.session ∷ filter (is_other first.session) l) (sessions_of-push script numbered)
-    ∙ behind_first first.session numbered.session (sessions_of script) (eqb first.session numbered.session)
-    (list_any (λ other. eqb other numbered.session) (sessions_of script)) refl refl
+    ∙ behind_first first.session numbered.session (distinct_sessions script) (eqb first.session numbered.session)
+    (list_any (λ other. eqb other numbered.session) (distinct_sessions script)) refl refl
 
 -- each command has a reply
 pub length-answered : (script : List Numbered) (history : List Told) → IsAnswered script history → length history ≡ length script
@@ -93,18 +93,18 @@ answered told command = record { command = command; reply = told.reply }
 abbrev entry_text : Entry → List ℕ
 entry_text entry = reply_text entry.command entry.reply
 
-beside : (all script : List Numbered) (history : List Told) (session : ℕ) → map (command_of all) history ≡ map (λ numbered. Some numbered.command) script
-    → flat_map entry_text (filter_map (entry_of all) (filter (λ told. eqb told.session session) history)) ≡ side_by_side session script history
+beside : (all script : List Numbered) (history : List Told) (session : ℕ) → map (replied_command all) history ≡ map (λ numbered. Some numbered.command) script
+    → flat_map entry_text (filter_map (history_entry all) (filter (λ told. eqb told.session session) history)) ≡ side_by_side session script history
 beside all [] [] session same = refl
 beside all [] (t ∷ history) session same = cc
 beside all (n ∷ script) [] session same = refl
 beside all (n ∷ script) (t ∷ history) session same =
-    let h = heads (command_of all t) (Some n.command) (map (command_of all) history) (map (λ numbered. Some numbered.command) script) same in
+    let h = heads (replied_command all t) (Some n.command) (map (replied_command all) history) (map (λ numbered. Some numbered.command) script) same in
     let more = beside all script history session h.1 in
     let others = filter (λ told. eqb told.session session) history in
-    elim (eqb t.session session) as (λ b. flat_map entry_text (filter_map (entry_of all) (cond b (t ∷ others) others))
+    elim (eqb t.session session) as (λ b. flat_map entry_text (filter_map (history_entry all) (cond b (t ∷ others) others))
     ≡ cond b (reply_text n.command t.reply) [] ++ side_by_side session script history) [
-      | true ↦ ap (λ c. flat_map entry_text (cons_option (option_map (answered t) c) (filter_map (entry_of all) others))) h.0
+      | true ↦ ap (λ c. flat_map entry_text (cons_option (option_map (answered t) c) (filter_map (history_entry all) others))) h.0
           ∙ ap (λ l. reply_text n.command t.reply ++ l) more
       | false ↦ more
     ]

@@ -22,10 +22,10 @@ use Rattle.tsdb_base.proofs.Lists.{each_weaker}
 use Rattle.tsdb_state.proofs.ReplayLemmas.Parted.{damaged_none, replay_once}
 use Rattle.tsdb_state.proofs.ReplayLemmas.Stores.{sound_images, sound_kept}
 use Rattle.tsdb_recover.specs.Stored.{AreStored}
-use Rattle.tsdb_state.specs.Stores.{Files, IsWhole, Recorded, StandsFor, store_steps, store_steps_determinate}
-use Rattle.tsdb_run.specs.Store.{IsDamaged, IsSound, Tells, contents}
-use Rattle.tsdb_run.specs.Store.{IsNextNumber as IsNextNumberOf}
-use Rattle.tsdb_state.specs.State.{File, Told}
+use Rattle.tsdb_state.specs.Stores.{BytesByNumber, IsWhole, Recorded, StoreStandsFor, store_steps, store_steps_determinate}
+use Rattle.tsdb_run.specs.Store.{IsPlaceDamaged, IsSoundPlace, TellsPlace, contents}
+use Rattle.tsdb_run.specs.Store.{IsNextNumberOfPlace as IsNextNumberOf}
+use Rattle.tsdb_state.specs.State.{File, ToldContents}
 
 seen_some : (seen : Option Image) → IsSome seen → (image : Image) × (seen ≡ Some image)
 seen_some None some = absurd (false≢true some)
@@ -33,15 +33,15 @@ seen_some (Some image) some = (image, refl)
 
 -- a sound store tells its slots and its files
 pub tells_sound : (disk : DiskState) (stored : Option (List StoredFile)) (at : plain.State)
-    (sound : IsSound (contents disk stored) at)
-    → (image : Image) × Tells (contents disk stored) image sound.files
+    (sound : IsSoundPlace (contents disk stored) at)
+    → (image : Image) × TellsPlace (contents disk stored) image sound.files
 tells_sound disk stored at sound =
     let seen = seen_some disk.seen sound.sound.told in
     (seen.0, record { slots = seen.1; told = sound.told; are_stored = sound.are_stored })
 
 -- a call that writes nothing leaves a store sound
 abbrev pub sound_after : (old new : DiskState) (stored now : Option (List StoredFile)) (at : plain.State) → Keeps old new
-    → now ≡ stored → IsSound (contents old stored) at → IsSound (contents new now) at
+    → now ≡ stored → IsSoundPlace (contents old stored) at → IsSoundPlace (contents new now) at
 sound_after old new stored now at keeps same sound = record {
   files = sound.files;
   told = same ∙ sound.told;
@@ -49,7 +49,7 @@ sound_after old new stored now at keeps same sound = record {
   sound = sound_kept A old new (kept_bytes sound.files) at keeps sound.sound;
 }
 
-whole_is : (files : Files) (told : Told) (file : File) → IsWhole files told file → IsTreeFile files file
+whole_is : (files : BytesByNumber) (told : ToldContents) (file : File) → IsWhole files told file → IsTreeFile files file
 whole_is files told file whole = record {
   bytes = whole.bytes;
   tree = whole.tree;
@@ -60,8 +60,8 @@ whole_is files told file whole = record {
 }
 
 -- a log that stands with its files for a state is damaged nowhere
-stands_whole : (files : Files) (bytes : List ℕ) (at : plain.State) (which : Part) (place : ℕ)
-    → StandsFor files bytes at → IsDamagedIn files bytes which place → ⊥
+stands_whole : (files : BytesByNumber) (bytes : List ℕ) (at : plain.State) (which : Part) (place : ℕ)
+    → StoreStandsFor files bytes at → IsDamagedIn files bytes which place → ⊥
 stands_whole files bytes at part.Log place stands damaged =
     damaged_none store_steps store_steps_determinate place bytes stands.recorded damaged stands.replayed
 stands_whole files bytes at (part.File number) place stands damaged =
@@ -73,7 +73,7 @@ stands_whole files bytes at (part.File number) place stands damaged =
     (subst (λ (r : Recorded). IsDamagedFile files r.store number.0 place) same damaged.2)
 
 pub not_damaged : (disk : DiskState) (stored : Option (List StoredFile)) (at : plain.State) (which : Part) (place : ℕ)
-    → IsSound (contents disk stored) at → IsDamaged (contents disk stored) which place → ⊥
+    → IsSoundPlace (contents disk stored) at → IsPlaceDamaged (contents disk stored) which place → ⊥
 not_damaged disk stored at which place sound damaged =
     let tells = tells_sound disk stored at sound in
     stands_whole (kept_bytes sound.files) tells.0.a at which place (sound.sound.stands tells.0 tells.1.slots)
@@ -81,8 +81,8 @@ not_damaged disk stored at which place sound damaged =
 
 -- whatever a stop leaves of a sound store stands for its state
 pub sound_left : (disk : DiskState) (stored : Option (List StoredFile)) (at : plain.State) (image : Image)
-    (sound : IsSound (contents disk stored) at) → disk.may_leave image
-    → StandsFor (kept_bytes sound.files) image.a at
+    (sound : IsSoundPlace (contents disk stored) at) → disk.may_leave image
+    → StoreStandsFor (kept_bytes sound.files) image.a at
 sound_left disk stored at image sound left = sound_images A disk (kept_bytes sound.files) at image sound.sound left
 
 -- what is said where a place tells its store
@@ -97,7 +97,7 @@ if_some P found x is holds = subst (λ o. IfSome o P) is holds
 
 -- what is read at an opening of a sound store
 module _ {J F S R P : Type 0} {means : disk.Ghosts J} {counts : counted.Ghosts J} (core : Core J F S R P means counts)
-    (state : DiskState) (stored now : Option (List StoredFile)) (start : plain.State) (sound : IsSound (contents state stored) start)
+    (state : DiskState) (stored now : Option (List StoredFile)) (start : plain.State) (sound : IsSoundPlace (contents state stored) start)
     (same : now ≡ stored) where
   abbrev pub image : Image
   image = (tells_sound state stored start sound).0

@@ -5,9 +5,9 @@ use Rattle.std.specs.Io.KnownBytes.{Appends}
 use Rattle.std.proofs.Math.ListN.{get_or-map}
 use Rattle.std.proofs.lemmas.List.{length-map}
 use Rattle.tsdb_history.specs.History.{session_numbers}
-use Rattle.tsdb_run.specs.Headline.{HasUnanswered, Headline, IsExecuted, Run}
+use Rattle.tsdb_run.specs.Headline.{HasUnanswered, Headline, IsExecuted, WholeRun}
 use Rattle.tsdb_run.specs.Output.{AppendsPrefix, output_text}
-use Rattle.tsdb_run.specs.Steps.{IsRunOn, IsWritten}
+use Rattle.tsdb_run.specs.Steps.{IsRunOn, IsOutputWritten}
 use Rattle.tsdb_run.specs.declared.status.Status.{Status}
 use Rattle.tsdb_run.specs.declared.status.Status.TheVariants.{Done, Memory, Words, Script, Source, Sink, Device, Damaged}
 use Rattle.tsdb_script.proofs.ReadingLemmas.{within_limits}
@@ -23,7 +23,7 @@ small_sessions bytes script is = λ k numbered lt.
     omega (arith, numbers.1, get_or-map (λ n. n.session) script k numbered)
 
 -- a script that was executed, and what was written of its output
-module _ (run : Run) (script : List Numbered) (asked : Asked) (words : AreWords run.words asked)
+module _ (run : WholeRun) (script : List Numbered) (asked : Asked) (words : AreWords run.words asked)
     (directory : run.directory ≡ Some asked.directory) (read : IfSome run.left (λ bytes. IsScript bytes script))
     (done : IsRunOn script run.history run.old run.new (HasUnanswered run)) where
   executed : (puts : List ℕ → Type 0) → puts (output_text script run.history) → IsExecuted run puts
@@ -38,7 +38,7 @@ module _ (run : Run) (script : List Numbered) (asked : Asked) (words : AreWords 
     printed = printed;
   }
 
-  pub headline_written : (status : Status) → IsWritten status run.held run.holds (output_text script run.history)
+  pub headline_written : (status : Status) → IsOutputWritten status run.held run.holds (output_text script run.history)
       → Headline status run
   headline_written Done written = executed (Appends run.held run.holds) written
   headline_written Sink written = executed (AppendsPrefix run.held run.holds) written

@@ -5,7 +5,7 @@ use Rattle.std.specs.Prelude.{◌≡◌, ◌⊎◌, ℕ, ◌+◌, ◌*◌, ◌<�
 use Rattle.std.specs.Io.KnownBytes.{Appends, Keeps as KeepsBytes}
 use Rattle.std.specs.List.{AllByRecursion as Each}
 use Rattle.tsdb_base.specs.Causes.{Rose}
-use Rattle.tsdb_history.specs.History.{IsHistory, IsInLineOrder, is_device}
+use Rattle.tsdb_history.specs.History.{IsHistory, IsInLineOrder, told_device}
 use Rattle.tsdb_history.specs.Prefixes.{EndsDone, EndsListed, StandsAfter, StandsAfterPrefix}
 use Rattle.tsdb_history.specs.Reach.{AreFullWithin, max_drawn}
 use Rattle.tsdb_history.specs.declared.told.Told.{Told}
@@ -17,16 +17,17 @@ use Rattle.tsdb_outside.specs.Disk.{Image, DiskState}
 use Rattle.tsdb_outside.specs.Files.{StoredFile}
 use Rattle.tsdb_outside.specs.Moments.{LeavesOnly}
 use Rattle.tsdb_run.specs.Output.{AppendsPrefix, output_text}
-use Rattle.tsdb_run.specs.Store.{Contents, IsDamaged, IsLeftAlone, IsListed, IsNextNumber, IsSound, StandsFor, Stores}
+use Rattle.tsdb_run.specs.Store.{Contents, IsPlaceDamaged, IsLeftAlone, IsListed, IsNextNumberOfPlace, IsSoundPlace}
+use Rattle.tsdb_run.specs.Store.{SlotsStandFor, Stores}
 use Rattle.tsdb_run.specs.declared.status.Status.{Status}
 use Rattle.tsdb_run.specs.declared.status.Status.TheVariants.{Done, Memory, Words, Script, Source, Sink, Device}
 use Rattle.tsdb_run.specs.declared.status.Status.TheVariants.{Damaged}
-use Rattle.tsdb_script.specs.Reading.{IsScript, IsFirstBad}
+use Rattle.tsdb_script.specs.Reading.{IsScript, IsFirstBadLine}
 use Rattle.tsdb_script.specs.declared.numbered.Numbered.{Numbered}
 use Rattle.tsdb_run.specs.Words.{AreWords, Asked}
 
 -- What a run was given, and what it left.
-pub record Run : Type 1 where
+pub record WholeRun : Type 1 where
   -- the words of the command line
   pub words : List (List ℕ)
   -- what was left of the source, where the source tells that
@@ -50,8 +51,8 @@ AreNewer files others =
     Each (λ (file : StoredFile). Each (λ (other : StoredFile). other.number < file.number) others) files
 
 -- More faults of the place were counted in the run than commands were answered `device`.
-abbrev pub HasUnanswered : Run → Type 0
-HasUnanswered run = Rose (run.faults_before + count_by is_device run.history) run.faults_after
+abbrev pub HasUnanswered : WholeRun → Type 0
+HasUnanswered run = Rose (run.faults_before + count_by told_device run.history) run.faults_after
 
 -- Nothing is in doubt at the end: each fault was answered, or the last of the entries that is no query is a change that
 -- was done.
@@ -70,31 +71,32 @@ pub record HasRun (files : List StoredFile) (start : plain.State) (entries : Lis
   pub newer : AreNewer put files
   pub once : AreDifferent (map (λ (file : StoredFile). file.number) put)
   -- a stop at any moment left what stands for the state after a prefix of the entries
-  pub moments : LeavesOnly old new.disk (λ image. StandsAfterPrefix (StandsFor (files ++ put) image) start entries)
+  pub moments : LeavesOnly old new.disk (λ image. StandsAfterPrefix (SlotsStandFor (files ++ put) image) start entries)
   -- the files that are stored then, none but those of the run
   pub stored : List StoredFile
   pub at_rest : Stores new stored (files ++ put)
   -- what is left stands with them for the state after all entries
-  pub holds : (image : Image) → new.disk.may_leave image → StandsAfter (StandsFor stored image) after entries
+  pub holds : (image : Image) → new.disk.may_leave image → StandsAfter (SlotsStandFor stored image) after entries
   -- where nothing is in doubt it is a sound store, on which the next run begins,
-  pub sound : EndsSettled unanswered entries → IsSound new after
+  pub sound : EndsSettled unanswered entries → IsSoundPlace new after
   -- whatever a stop leaves of it stands for that state alone,
-  pub alone : EndsSettled unanswered entries → (image : Image) → new.disk.may_leave image → StandsFor stored image after
+  pub alone : EndsSettled unanswered entries → (image : Image) → new.disk.may_leave image
+      → SlotsStandFor stored image after
   -- and a listing that is the last reply is that of this store
   pub listed : EndsSettled unanswered entries → (listing : Listing) → EndsListed entries listing → IsListed new listing
 
 -- A reply is `full` only where the stamp at its place can rise no further, or with a counter up to the number that the
 -- commands of the script can have drawn, from the next number of the store on.
 abbrev pub HaveReach : Contents → List Numbered → List Entry → Type 0
-HaveReach old script entries = (start : plain.State) (sound : IsSound old start) (next : ℕ)
-    → IsNextNumber old sound.files next → AreFullWithin (next + max_drawn * length script) start entries
+HaveReach old script entries = (start : plain.State) (sound : IsSoundPlace old start) (next : ℕ)
+    → IsNextNumberOfPlace old sound.files next → AreFullWithin (next + max_drawn * length script) start entries
 
 -- the store of the directory that the words name was taken up last
 abbrev pub IsTakenUp : List (List ℕ) → Option (List ℕ) → Type 0
 IsTakenUp words directory = (asked : Asked) × AreWords words asked × (directory ≡ Some asked.directory)
 
 -- The script was executed on the store of the directory that the words name.
-pub record IsExecuted (run : Run) (puts : List ℕ → Type 0) : Type 0 where
+pub record IsExecuted (run : WholeRun) (puts : List ℕ → Type 0) : Type 0 where
   pub taken_up : IsTakenUp run.words run.directory
   pub script : List Numbered
   pub read : IfSome run.left (λ bytes. IsScript bytes script)
@@ -102,7 +104,7 @@ pub record IsExecuted (run : Run) (puts : List ℕ → Type 0) : Type 0 where
   pub entries : List Entry
   pub history_of : IsHistory script run.history entries
   -- from a state for which the store stood
-  pub served : (start : plain.State) (sound : IsSound run.old start)
+  pub served : (start : plain.State) (sound : IsSoundPlace run.old start)
       → HasRun sound.files start entries run.old.disk run.new (HasUnanswered run)
   -- and none is `full` before a counter is at its end, or the numbers of files can have come so far in this run
   pub within : HaveReach run.old script entries
@@ -114,21 +116,21 @@ KeepsLineOrder bytes history =
     (script : List Numbered) → IsScript bytes script → (history ≡ []) ⊎ IsInLineOrder script history
 
 -- No command was executed, nothing was written, and the store was left alone.
-pub record IsWithoutCommands (run : Run) : Type 0 where
+pub record IsWithoutCommands (run : WholeRun) : Type 0 where
   pub none : run.history ≡ []
   pub sink : KeepsBytes run.held run.holds
   pub left_alone : IsLeftAlone run.old run.new
   -- so a sound store is left sound, in the state that it was in
-  pub sound : (at : plain.State) → IsSound run.old at → IsSound run.new at
+  pub sound : (at : plain.State) → IsSoundPlace run.old at → IsSoundPlace run.new at
 
 -- What holds of a run that ended so. Done: the script was executed and exactly its output written. Where the sink failed,
 -- or memory ran out as the output was written, a prefix of the output was. With every other status nothing was written.
-abbrev pub Headline : Status → Run → Type 0
+abbrev pub Headline : Status → WholeRun → Type 0
 Headline Done run = IsExecuted run (Appends run.held run.holds)
 Headline Sink run = IsExecuted run (AppendsPrefix run.held run.holds)
 Headline Memory run = IsExecuted run (AppendsPrefix run.held run.holds) ⊎ IsWithoutCommands run
 Headline Words run = IsWithoutCommands run
-Headline (Script line kind) run = IfSome run.left (λ bytes. IsFirstBad bytes line kind) × IsWithoutCommands run
+Headline (Script line kind) run = IfSome run.left (λ bytes. IsFirstBadLine bytes line kind) × IsWithoutCommands run
 Headline Source run = IsWithoutCommands run
 Headline Device run = IsWithoutCommands run
-Headline (Damaged part at) run = IsDamaged run.old part at × IsWithoutCommands run
+Headline (Damaged part at) run = IsPlaceDamaged run.old part at × IsWithoutCommands run

@@ -19,23 +19,23 @@ use Rattle.tsdb_print.specs.Text.{reply_text}
 use Rattle.tsdb_recover.specs.declared.fault.OpenFault.{OpenFault}
 use Rattle.tsdb_recover.specs.declared.fault.OpenFault.TheVariants as fault
 use Rattle.tsdb_run.specs.Causes.{AreGoodWords}
-use Rattle.tsdb_run.specs.Headline.{HasRun, HaveReach, Run}
+use Rattle.tsdb_run.specs.Headline.{HasRun, HaveReach, WholeRun}
 use Rattle.tsdb_run.specs.Input.{TakesScript}
 use Rattle.tsdb_run.specs.Output.{AppendsPrefix}
-use Rattle.tsdb_run.specs.Store.{Contents, IsDamaged, IsLeftAlone, IsSound}
+use Rattle.tsdb_run.specs.Store.{Contents, IsPlaceDamaged, IsLeftAlone, IsSoundPlace}
 use Rattle.tsdb_run.specs.declared.status.Status.{Status}
 use Rattle.tsdb_run.specs.declared.status.Status.TheVariants.{Done, Memory, Words, Script, Source, Sink, Device}
 use Rattle.tsdb_run.specs.declared.status.Status.TheVariants.{Damaged}
-use Rattle.tsdb_script.specs.Reading.{IsFirstBad, IsScript}
+use Rattle.tsdb_script.specs.Reading.{IsFirstBadLine, IsScript}
 use Rattle.tsdb_script.specs.declared.fault.ScriptFault.{ScriptFault}
 use Rattle.tsdb_script.specs.declared.fault.ScriptFault.TheVariants as script_fault
 use Rattle.tsdb_script.specs.declared.numbered.Numbered.{Numbered}
 use Rattle.tsdb_history.specs.Serving.{IsServing, disk_under}
 
 -- the run of these words and this source, with what it left
-abbrev pub run_of : List (List ℕ) → Option (List ℕ) → Contents → Contents → ℕ → ℕ → Option (List ℕ) → List Told
-    → Option (List ℕ) → Option (List ℕ) → Run
-run_of words left old new faults_before faults_after directory history held holds = record {
+abbrev pub whole_run : List (List ℕ) → Option (List ℕ) → Contents → Contents → ℕ → ℕ → Option (List ℕ) → List Told
+    → Option (List ℕ) → Option (List ℕ) → WholeRun
+whole_run words left old new faults_before faults_after directory history held holds = record {
   words = words;
   left = left;
   old = old;
@@ -61,7 +61,7 @@ pub record IsRunOn (script : List Numbered) (history : List Told) (old new : Con
   pub entries : List Entry
   pub history_of : IsHistory script history entries
   pub in_line_order : IsInLineOrder script history
-  pub served : (start : plain.State) (sound : IsSound old start)
+  pub served : (start : plain.State) (sound : IsSoundPlace old start)
       → HasRun sound.files start entries old.disk new unanswered
   pub within : HaveReach old script entries
 
@@ -94,7 +94,7 @@ reply_text_of session numbered told = if told.session == session then reply_text
 
 -- A call put the text: all of it where it succeeded, and a prefix of it in any case. Its faults have a cause, and the
 -- count of faults rises in no other answer than `Failed`.
-pub record Puts {T : Type 0} (old new : Option (List ℕ)) (text : List ℕ)
+pub record PutsText {T : Type 0} (old new : Option (List ℕ)) (text : List ℕ)
     (before now : ℕ) (result : Result T StoreFault) : Type 0 where
   pub whole : OnOk result (Appends old new text)
   pub prefix : AppendsPrefix old new text
@@ -102,19 +102,19 @@ pub record Puts {T : Type 0} (old new : Option (List ℕ)) (text : List ℕ)
   pub no_fault : RisesOnlyByFailed before now result
 
 -- the status of a run that wrote a text, or a prefix of it
-abbrev pub IsWritten : Status → Option (List ℕ) → Option (List ℕ) → List ℕ → Type 0
-IsWritten Done old new text = Appends old new text
-IsWritten Sink old new text = AppendsPrefix old new text
-IsWritten Memory old new text = AppendsPrefix old new text
-IsWritten Words old new text = ⊥
-IsWritten (Script line kind) old new text = ⊥
-IsWritten Source old new text = ⊥
-IsWritten Device old new text = ⊥
-IsWritten (Damaged part at) old new text = ⊥
+abbrev pub IsOutputWritten : Status → Option (List ℕ) → Option (List ℕ) → List ℕ → Type 0
+IsOutputWritten Done old new text = Appends old new text
+IsOutputWritten Sink old new text = AppendsPrefix old new text
+IsOutputWritten Memory old new text = AppendsPrefix old new text
+IsOutputWritten Words old new text = ⊥
+IsOutputWritten (Script line kind) old new text = ⊥
+IsOutputWritten Source old new text = ⊥
+IsOutputWritten Device old new text = ⊥
+IsOutputWritten (Damaged part at) old new text = ⊥
 
 -- these are the commands of a script that was read to the end of its source
-abbrev pub IsReadFrom : Option (List ℕ) → Option (List ℕ) → List Numbered → Type 0
-IsReadFrom left new commands = (bytes : List ℕ) × TakesScript left new bytes × IsScript bytes commands
+abbrev pub IsScriptReadFrom : Option (List ℕ) → Option (List ℕ) → List Numbered → Type 0
+IsScriptReadFrom left new commands = (bytes : List ℕ) × TakesScript left new bytes × IsScript bytes commands
 
 -- why a script was not read, as the status of a run
 abbrev pub script_status : ScriptFault → Status
@@ -126,7 +126,7 @@ abbrev pub EndsInput : List (List ℕ) → Option (List ℕ) → Status → Type
 EndsInput words left Done = ⊥
 EndsInput words left Memory = AreGoodWords words
 EndsInput words left Words = ¬ AreGoodWords words
-EndsInput words left (Script line kind) = AreGoodWords words × IfSome left (λ bytes. IsFirstBad bytes line kind)
+EndsInput words left (Script line kind) = AreGoodWords words × IfSome left (λ bytes. IsFirstBadLine bytes line kind)
 EndsInput words left Source = AreGoodWords words
 EndsInput words left Sink = ⊥
 EndsInput words left Device = ⊥
@@ -158,9 +158,9 @@ IsOpeningStatus place (Script line kind) = ⊥
 IsOpeningStatus place Source = ⊥
 IsOpeningStatus place Sink = ⊥
 IsOpeningStatus place Device = Unit {0}
-IsOpeningStatus place (Damaged part at) = IsDamaged place part at
+IsOpeningStatus place (Damaged part at) = IsPlaceDamaged place part at
 
 -- The store of a place was not opened, for this reason, and was left alone.
-pub record IsRefused (old new : Contents) (status : Status) : Type 0 where
+pub record IsOpeningRefused (old new : Contents) (status : Status) : Type 0 where
   pub why : IsOpeningStatus old status
   pub left_alone : IsLeftAlone old new

@@ -5,7 +5,7 @@ use Rattle.tsdb_model.specs.State as plain
 use Rattle.tsdb_outside.specs.Disk.{Image}
 use Rattle.tsdb_outside.specs.Files.{StoredFile}
 use Rattle.tsdb_run.specs.Headline.{HasRun}
-use Rattle.tsdb_run.specs.Store.{Contents, IsSound, KeepsAllListed}
+use Rattle.tsdb_run.specs.Store.{Contents, IsSoundPlace, KeepsAllListed}
 
 -- What a stop left of a place: reads give these bytes of its slots, and a later stop leaves the same in slot A. Each of
 -- these files is stored as it was; one that the log does not list may be gone.
@@ -17,7 +17,7 @@ pub record IsLeftByStop (image : Image) (files : List StoredFile) (place : Conte
 -- A run of these entries on a sound store, from the start, was stopped at some moment, which left the last place.
 pub record IsStopped (old new left : Contents) (start : plain.State) (entries : List Entry) (unanswered : Type 0)
     : Type 0 where
-  pub sound : IsSound old start
+  pub sound : IsSoundPlace old start
   pub run : HasRun sound.files start entries old.disk new unanswered
   pub image : Image
   pub moment : new.disk.left_since old.disk.moment image

@@ -30,7 +30,7 @@ abbrev pub contents : DiskState → Option (List StoredFile) → Contents
 contents disk stored = record { disk = disk; stored = stored }
 
 -- It tells what reads of its slots give, and these files, which are stored as files are.
-pub record Tells (place : Contents) (image : Image) (files : List StoredFile) : Type 0 where
+pub record TellsPlace (place : Contents) (image : Image) (files : List StoredFile) : Type 0 where
   pub slots : place.disk.seen ≡ Some image
   pub told : place.stored ≡ Some files
   pub are_stored : AreStored files
@@ -42,15 +42,16 @@ new_state = record { world = empty; stamp = 0 }
 -- ---- what a store stands for
 
 -- with whatever files hold these, the log in slot A of what a stop left stands for the state
-abbrev pub StandsFor : List StoredFile → Image → plain.State → Type 0
-StandsFor files image at = (kept : store.Files) → store.HoldsKept files kept → store.StandsFor kept image.a at
+abbrev pub SlotsStandFor : List StoredFile → Image → plain.State → Type 0
+SlotsStandFor files image at =
+    (kept : store.BytesByNumber) → store.HoldsKept files kept → store.StoreStandsFor kept image.a at
 
 -- The log in slot A is sound, and stands with these files for the state.
 abbrev pub IsSoundWith : List StoredFile → DiskState → plain.State → Type 0
 IsSoundWith files disk at = store.IsSound A disk (kept_bytes files) at
 
 -- The place has a sound store, which stands for the state.
-pub record IsSound (place : Contents) (at : plain.State) : Type 0 where
+pub record IsSoundPlace (place : Contents) (at : plain.State) : Type 0 where
   pub files : List StoredFile
   pub told : place.stored ≡ Some files
   pub are_stored : AreStored files
@@ -58,7 +59,7 @@ pub record IsSound (place : Contents) (at : plain.State) : Type 0 where
 
 -- the place does not tell its files, or has a sound store
 abbrev pub IsSoundOrSilent : Contents → Type 0
-IsSoundOrSilent place = (place.stored ≡ None) ⊎ ((at : plain.State) × IsSound place at)
+IsSoundOrSilent place = (place.stored ≡ None) ⊎ ((at : plain.State) × IsSoundPlace place at)
 
 -- ---- damage
 
@@ -66,20 +67,20 @@ IsSoundOrSilent place = (place.stored ≡ None) ⊎ ((at : plain.State) × IsSou
 pub record HasDamage (place : Contents) (part : Part) (at : ℕ) : Type 0 where
   pub image : Image
   pub files : List StoredFile
-  pub tells : Tells place image files
+  pub tells : TellsPlace place image files
   pub lengths : HaveLengths files
   pub damaged : IsDamagedIn (kept_bytes files) image.a part at
 
 -- where the place tells its store, the store is damaged in this part, at this place in it
-abbrev pub IsDamaged : Contents → Part → ℕ → Type 0
-IsDamaged place part at = (image : Image) (files : List StoredFile) → Tells place image files
+abbrev pub IsPlaceDamaged : Contents → Part → ℕ → Type 0
+IsPlaceDamaged place part at = (image : Image) (files : List StoredFile) → TellsPlace place image files
     → IsDamagedIn (kept_bytes files) image.a part at
 
 -- ---- what a run begins with, and what it leaves
 
 -- The number of the next file of a place with these files: one more than the greatest that a record of its log has named
 -- or that a file has.
-pub record IsNextNumber (place : Contents) (files : List StoredFile) (next : ℕ) : Type 0 where
+pub record IsNextNumberOfPlace (place : Contents) (files : List StoredFile) (next : ℕ) : Type 0 where
   pub image : Image
   pub slots : place.disk.seen ≡ Some image
   pub recorded : store.Recorded
@@ -103,7 +104,8 @@ KeepsAllListed image files new = IsSomeAnd new.stored (AreLeft (IsStray image.a)
 
 -- so is each file of the store
 abbrev pub KeepsListed : Contents → Contents → Type 0
-KeepsListed old new = (image : Image) (files : List StoredFile) → Tells old image files → KeepsAllListed image files new
+KeepsListed old new = (image : Image) (files : List StoredFile) → TellsPlace old image files
+    → KeepsAllListed image files new
 
 -- The store was left alone: its log means what it meant, and each file is as it was, but that some which the log does not
 -- list may be gone.

@@ -76,8 +76,8 @@ HasNoOptionBehindEnd (End ∷ parts) = AllByRecursion (λ part. IsTrue (is_direc
 HasNoOptionBehindEnd (part ∷ parts) = HasNoOptionBehindEnd parts
 
 -- an option is given once, with this number, or not at all, and the number is the default
-abbrev pub IsGiven : (ℕ → Argument) → List Argument → ℕ → ℕ → Type 0
-IsGiven option given default number = (given ≡ option number ∷ []) ⊎ ((given ≡ []) × (number ≡ default))
+abbrev pub IsOptionGiven : (ℕ → Argument) → List Argument → ℕ → ℕ → Type 0
+IsOptionGiven option given default number = (given ≡ option number ∷ []) ⊎ ((given ≡ []) × (number ≡ default))
 
 -- the words ask for this: `run`, and behind it the parts in any order, with exactly one directory
 pub record AreWords (words : List (List ℕ)) (asked : Asked) : Type 0 where
@@ -87,11 +87,11 @@ pub record AreWords (words : List (List ℕ)) (asked : Asked) : Type 0 where
   pub are : AreArguments parts behind
   pub end : HasNoOptionBehindEnd parts
   pub directory : filter is_directory parts ≡ Directory asked.directory ∷ []
-  pub pair_points : IsGiven Pair (filter is_pair parts) default_pair_points asked.pair_points
-  pub workers : IsGiven Workers (filter is_workers parts) default_workers asked.workers
+  pub pair_points : IsOptionGiven Pair (filter is_pair parts) default_pair_points asked.pair_points
+  pub workers : IsOptionGiven Workers (filter is_workers parts) default_workers asked.workers
 
 -- within the limits of the options
-pub record IsWithinLimits (asked : Asked) : Type 0 where
+pub record AreOptionsWithinLimits (asked : Asked) : Type 0 where
   pub least : 1 ≤ asked.pair_points
   pub most : asked.pair_points ≤ max_pair_points
   pub workers : asked.workers ≤ max_workers

@@ -5,7 +5,7 @@ ghost use Rattle.tsdb_recover.specs.Limits.{IsPairLimit};
 ghost use Rattle.tsdb_outside.specs.Causes.{HasStoreCause};
 ghost use Rattle.tsdb_run.specs.Causes.{TellsFaults};
 ghost use Rattle.tsdb_run.specs.Input.{TakesPrefix, TakesScript};
-ghost use Rattle.tsdb_run.specs.Steps.{EndsInput, IsReadFrom, script_status};
+ghost use Rattle.tsdb_run.specs.Steps.{EndsInput, IsScriptReadFrom, script_status};
 ghost use Rattle.tsdb_run.specs.Words.{AreWords};
 
 use crate::asked::Asked;
@@ -29,7 +29,7 @@ pub fn read_input<'a, S: Source>(
 ) -> Result<(Asked<'a>, Vec<Numbered>), Status>
     ensures words { IfOk result (λ input. AreWords words.now input.0) }
     ensures limit { IfOk result (λ input. IsPairLimit input.0.pair_points) }
-    ensures script { IfOk result (λ input. IsReadFrom (S.left script.old) (S.left script.new) input.1.items) }
+    ensures script { IfOk result (λ input. IsScriptReadFrom (S.left script.old) (S.left script.new) input.1.items) }
     ensures status { IfErr result (EndsInput words.now (S.left script.old)) }
     ensures untouched { IsErrOf result Status.Words → script.new ≡ script.old }
     ensures budget { TakesPrefix (S.left script.old) (S.left script.new) }

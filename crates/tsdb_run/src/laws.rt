@@ -12,7 +12,7 @@ ghost use Rattle.tsdb_history.specs.Serving.{IsServing};
 ghost use Rattle.tsdb_recover.specs.Opened.{IsRecovered};
 ghost use Rattle.tsdb_run.specs.Headline.{HasRun};
 ghost use Rattle.tsdb_run.specs.Stops.{IsStopped};
-ghost use Rattle.tsdb_run.specs.Store.{IsSound, contents, new_state};
+ghost use Rattle.tsdb_run.specs.Store.{IsSoundPlace, contents, new_state};
 
 use tsdb_outside::{Files, Journal, Place};
 use tsdb_recover::Core;
@@ -29,7 +29,7 @@ pub fn a_run_follows_another<P: Place>(_before: &P, _between: &P)
     ensures { (files : List StoredFile) (start middle last : plain.State) (first second : List Entry) (before now : ℕ)
         → HasRun files start first (P.state _before.now)
         (contents (P.state _between.now) (P.stored _between.now)) (Rose before now)
-        → IsSound (contents (P.state _between.now) (P.stored _between.now)) middle → IsLegal middle second last
+        → IsSoundPlace (contents (P.state _between.now) (P.stored _between.now)) middle → IsLegal middle second last
         → IsFollowed start first second last }
 {}
 
@@ -41,12 +41,12 @@ pub fn a_stop_leaves_a_sound_store<P: Place>(_before: &P, _behind: &P, _left: &P
         → IsStopped (contents (P.state _before.now) (P.stored _before.now))
         (contents (P.state _behind.now) (P.stored _behind.now)) (contents (P.state _left.now) (P.stored _left.now))
         start first (Rose before now)
-        → StandsAfterPrefix (IsSound (contents (P.state _left.now) (P.stored _left.now))) start first }
+        → StandsAfterPrefix (IsSoundPlace (contents (P.state _left.now) (P.stored _left.now))) start first }
     ensures joined { (start middle last : plain.State) (first second : List Entry) (before now : ℕ)
         → IsStopped (contents (P.state _before.now) (P.stored _before.now))
         (contents (P.state _behind.now) (P.stored _behind.now)) (contents (P.state _left.now) (P.stored _left.now))
         start first (Rose before now)
-        → IsSound (contents (P.state _left.now) (P.stored _left.now)) middle → IsLegal middle second last
+        → IsSoundPlace (contents (P.state _left.now) (P.stored _left.now)) middle → IsLegal middle second last
         → IsJoined start first second last }
 {}
 
@@ -55,5 +55,5 @@ pub fn a_stop_leaves_a_sound_store<P: Place>(_before: &P, _behind: &P, _left: &P
 pub fn a_new_place_is_sound<P: Place>(_place: &P)
     ensures { (image : Image) → (P.state _place.now).seen ≡ Some image → image.a ≡ 0 ∷ []
         → ((left : Image) → (P.state _place.now).may_leave left → left.a ≡ 0 ∷ []) → P.stored _place.now ≡ Some []
-        → IsSound (contents (P.state _place.now) (P.stored _place.now)) new_state }
+        → IsSoundPlace (contents (P.state _place.now) (P.stored _place.now)) new_state }
 {}

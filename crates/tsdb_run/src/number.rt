@@ -8,7 +8,7 @@ use std::str;
 const MAX_DIGITS: usize = 7;
 
 /// The number that these bytes write.
-pub fn number_of(bytes: &[u8]) -> Option<u64>
+pub fn read_number(bytes: &[u8]) -> Option<u64>
     ensures found { IfSome result (IsNumber bytes.now) }
     ensures none { IfNone result ((number : ℕ) → ¬ IsNumber bytes.now number) }
 {

@@ -1,7 +1,7 @@
 //! Puts the text of the output into a sink. Depends on `put`, tsdb_history and tsdb_print.
 ghost use Rattle.std.specs.Prelude.{◌≡◌, IfOk, OnOk, List, ◌++◌, map};
-ghost use Rattle.tsdb_run.specs.Output.{output_text, part_text, replies_text, sessions_of};
-ghost use Rattle.tsdb_run.specs.Steps.{IsAnswered, Puts, reply_text_of, with_session};
+ghost use Rattle.tsdb_run.specs.Output.{output_text, session_part, replies_text, distinct_sessions};
+ghost use Rattle.tsdb_run.specs.Steps.{IsAnswered, PutsText, reply_text_of, with_session};
 
 use crate::put::put_lines;
 use std::alloc::Global;
@@ -19,7 +19,7 @@ pub fn put_output<K: Sink>(
     history: &[Told],
 ) -> Result<(), StoreFault>
     requires { IsAnswered script.now history.now }
-    ensures { Puts (K.held out.old) (K.held out.new) (output_text script.now history.now)
+    ensures { PutsText (K.held out.old) (K.held out.new) (output_text script.now history.now)
         (K.faults out.old) (K.faults out.new) result }
 {
     let order = order(alloc, history)?;
@@ -32,7 +32,7 @@ pub fn put_output<K: Sink>(
 
 /// The sessions of a script, in the order in which they first appear.
 fn sessions(alloc: Global, script: &[Numbered]) -> Result<Vec<u16>, Memory>
-    ensures { IfOk result (λ sessions. sessions.items ≡ sessions_of script.now) }
+    ensures { IfOk result (λ sessions. sessions.items ≡ distinct_sessions script.now) }
 {
     let mut sessions = Vec::new(alloc);
     for numbered in script {
@@ -67,7 +67,7 @@ fn put_part<K: Sink>(
     history: &[Told],
 ) -> Result<(), StoreFault>
     requires { IsAnswered script.now history.now }
-    ensures { Puts (K.held out.old) (K.held out.new) (part_text script.now history.now session)
+    ensures { PutsText (K.held out.old) (K.held out.new) (session_part script.now history.now session)
         (K.faults out.old) (K.faults out.new) result }
 {
     put_lines(out, &print_session(alloc, session)?)?;
@@ -83,7 +83,7 @@ fn put_replies<K: Sink>(
     history: &[Told],
 ) -> Result<(), StoreFault>
     requires { IsAnswered script.now history.now }
-    ensures { Puts (K.held out.old) (K.held out.new) (replies_text script.now history.now session)
+    ensures { PutsText (K.held out.old) (K.held out.new) (replies_text script.now history.now session)
         (K.faults out.old) (K.faults out.new) result }
 {
     for at in 0..script.len() {
@@ -100,7 +100,7 @@ fn put_reply<K: Sink>(
     numbered: &Numbered,
     told: &Told,
 ) -> Result<(), StoreFault>
-    ensures { Puts (K.held out.old) (K.held out.new) (reply_text_of session numbered.now told.now)
+    ensures { PutsText (K.held out.old) (K.held out.new) (reply_text_of session numbered.now told.now)
         (K.faults out.old) (K.faults out.new) result }
 {
     if told.session != session {

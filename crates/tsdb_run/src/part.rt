@@ -1,17 +1,17 @@
 //! One part of the command line: a directory, an option with its number, or a lone `--`. Depends on `word` and
 //! `number`.
 ghost use Rattle.std.specs.Prelude.{◌≡◌, ◌↔◌, ℕ, List, IfSome, IfNone, IsTrue, codes};
-ghost use Rattle.tsdb_run.specs.WordSteps.{shown};
+ghost use Rattle.tsdb_run.specs.WordSteps.{argument_of};
 ghost use Rattle.tsdb_run.specs.Words as model;
 ghost use Rattle.tsdb_run.specs.Words.{HasDigits, IsDirectory, IsOption, IsArgument};
 
-use crate::number::number_of;
+use crate::number::read_number;
 use crate::word::Word;
 use tsdb_base::limits::{MAX_PAIR_POINTS, MAX_WORKERS};
 
 /// A part of the command line.
 #[derive(Drop)]
-pub enum Part<'a> {
+pub enum WordPart<'a> {
     Directory(&'a [u8]),
     Pair(u64),
     Workers(u64),
@@ -19,16 +19,16 @@ pub enum Part<'a> {
 }
 
 /// The part that the words begin with, and the words behind it.
-pub fn next_part<'a>(words: &'a [Word]) -> Option<(Part<'a>, &'a [Word])>
-    ensures found { IfSome result (λ found. IsArgument (shown found.0) words.now found.1.now) }
+pub fn next_part<'a>(words: &'a [Word]) -> Option<(WordPart<'a>, &'a [Word])>
+    ensures found { IfSome result (λ found. IsArgument (argument_of found.0) words.now found.1.now) }
     ensures none { IfNone result ((part : model.Argument) (rest : List (List ℕ)) → ¬ IsArgument part words.now rest) }
 {
     let (word, behind) = words.split_first()?;
     if is_directory(word.bytes()) {
-        return Some((Part::Directory(word.bytes()), behind));
+        return Some((WordPart::Directory(word.bytes()), behind));
     }
     if is_end(word.bytes()) {
-        return Some((Part::End, behind));
+        return Some((WordPart::End, behind));
     }
     match pair(words) {
         Some(found) => Some(found),
@@ -54,20 +54,20 @@ fn is_end(word: &[u8]) -> bool
 }
 
 /// The option `--pair` that the words begin with, and the words behind it.
-fn pair<'a>(words: &'a [Word]) -> Option<(Part<'a>, &'a [Word])>
-    ensures found { IfSome result (λ found. IsArgument (shown found.0) words.now found.1.now) }
+fn pair<'a>(words: &'a [Word]) -> Option<(WordPart<'a>, &'a [Word])>
+    ensures found { IfSome result (λ found. IsArgument (argument_of found.0) words.now found.1.now) }
     ensures none { IfNone result ((number : ℕ) (rest : List (List ℕ)) → ¬ IsArgument (model.Pair number) words.now rest) }
 {
     let (number, rest) = option(b"--pair", words)?;
     if number < 1 || number > MAX_PAIR_POINTS {
         return None;
     }
-    Some((Part::Pair(number), rest))
+    Some((WordPart::Pair(number), rest))
 }
 
 /// The option `--workers` that the words begin with, and the words behind it.
-fn workers<'a>(words: &'a [Word]) -> Option<(Part<'a>, &'a [Word])>
-    ensures found { IfSome result (λ found. IsArgument (shown found.0) words.now found.1.now) }
+fn workers<'a>(words: &'a [Word]) -> Option<(WordPart<'a>, &'a [Word])>
+    ensures found { IfSome result (λ found. IsArgument (argument_of found.0) words.now found.1.now) }
     ensures none { IfNone result ((number : ℕ) (rest : List (List ℕ))
         → ¬ IsArgument (model.Workers number) words.now rest) }
 {
@@ -75,7 +75,7 @@ fn workers<'a>(words: &'a [Word]) -> Option<(Part<'a>, &'a [Word])>
     if number > MAX_WORKERS {
         return None;
     }
-    Some((Part::Workers(number), rest))
+    Some((WordPart::Workers(number), rest))
 }
 
 /// The number of the option of this name that the words begin with, and the words behind it.
@@ -84,7 +84,7 @@ fn option<'a>(name: &[u8], words: &'a [Word]) -> Option<(u64, &'a [Word])>
     ensures none { IfNone result ((number : ℕ) (rest : List (List ℕ)) → ¬ IsOption name.now number words.now rest) }
 {
     let (digits, rest) = digits_of(name, words)?;
-    let number = number_of(digits)?;
+    let number = read_number(digits)?;
     Some((number, rest))
 }
 

@@ -1,12 +1,12 @@
 //! Puts texts into a sink, line by line. Depends on nothing here.
 ghost use Rattle.std.specs.Prelude.{◌≡◌, ◌<◌, ◌++◌, length};
-ghost use Rattle.tsdb_run.specs.Steps.{Puts};
+ghost use Rattle.tsdb_run.specs.Steps.{PutsText};
 
 use tsdb_outside::{Sink, StoreFault};
 
 /// Puts a text line by line, each line until it is taken whole.
 pub fn put_lines<K: Sink>(out: &mut K, text: &[u8]) -> Result<(), StoreFault>
-    ensures { Puts (K.held out.old) (K.held out.new) text.now (K.faults out.old) (K.faults out.new) result }
+    ensures { PutsText (K.held out.old) (K.held out.new) text.now (K.faults out.old) (K.faults out.new) result }
 {
     let mut rest = text;
     while !rest.is_empty() {
@@ -31,7 +31,7 @@ fn first_line(text: &[u8]) -> (&[u8], &[u8])
 
 /// Puts bytes until they are taken whole.
 fn put_all<K: Sink>(out: &mut K, bytes: &[u8]) -> Result<(), StoreFault>
-    ensures { Puts (K.held out.old) (K.held out.new) bytes.now (K.faults out.old) (K.faults out.new) result }
+    ensures { PutsText (K.held out.old) (K.held out.new) bytes.now (K.faults out.old) (K.faults out.new) result }
 {
     let mut rest = bytes;
     while !rest.is_empty() {

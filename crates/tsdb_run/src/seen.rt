@@ -1,10 +1,10 @@
 //! The parts that were read, as what they ask for. Depends on `part` and `asked`.
 ghost use Rattle.std.specs.Prelude.{◌≡◌, ◌↔◌, ◌∷◌, [], List, IfSome, IfNone, IsTrue};
-ghost use Rattle.tsdb_run.specs.WordSteps.{Completes, KeepsFirst, nothing, shown};
+ghost use Rattle.tsdb_run.specs.WordSteps.{Completes, KeepsFirst, nothing, argument_of};
 ghost use Rattle.tsdb_run.specs.Words as model;
 
 use crate::asked::Asked;
-use crate::part::Part;
+use crate::part::WordPart;
 
 /// The points of a pair where `--pair` is not given.
 const DEFAULT_PAIR_POINTS: u64 = 10_000;
@@ -35,15 +35,16 @@ impl<'a> Seen<'a> {
     }
 
     /// Takes one more part, if it may stand here.
-    pub fn take(&mut self, part: Part<'a>) -> bool
-        ensures { (parts : List model.Argument) (asked : model.Asked) → Completes self.old (shown part.entry ∷ parts) asked
+    pub fn take(&mut self, part: WordPart<'a>) -> bool
+        ensures { (parts : List model.Argument) (asked : model.Asked)
+            → Completes self.old (argument_of part.entry ∷ parts) asked
             ↔ (IsTrue result × Completes self.new parts asked) }
     {
         match part {
-            Part::Directory(word) => keep(&mut self.directory, word),
-            Part::Pair(number) => !self.ended && keep(&mut self.pair_points, number),
-            Part::Workers(number) => !self.ended && keep(&mut self.workers, number),
-            Part::End => self.end(),
+            WordPart::Directory(word) => keep(&mut self.directory, word),
+            WordPart::Pair(number) => !self.ended && keep(&mut self.pair_points, number),
+            WordPart::Workers(number) => !self.ended && keep(&mut self.workers, number),
+            WordPart::End => self.end(),
         }
     }
 

@@ -3,13 +3,13 @@ ghost use Rattle.std.specs.Prelude.{◌≡◌, ℕ, ◌+◌, ◌-◌, ◌^◌, �
 ghost use Rattle.std.specs.Prelude.{count_by, length};
 ghost use Rattle.tsdb_recover.specs.Core.{limit_of};
 ghost use Rattle.tsdb_recover.specs.Limits.{IsPairLimit};
-ghost use Rattle.tsdb_history.specs.History.{CanExecute, is_device};
+ghost use Rattle.tsdb_history.specs.History.{CanExecute, told_device};
 ghost use Rattle.tsdb_history.specs.Rooms.{IsRoomFor};
 ghost use Rattle.tsdb_base.specs.Causes.{Rose};
 ghost use Rattle.tsdb_outside.specs.declared.disk.Slot.TheVariants as slots;
 ghost use Rattle.tsdb_recover.specs.declared.fault.Part as store_part;
 ghost use Rattle.tsdb_run.specs.Causes.{ReportsDamage, TellsDevice};
-ghost use Rattle.tsdb_run.specs.Steps.{IsRefused, IsRunOn, IsServedFrom, opening_status};
+ghost use Rattle.tsdb_run.specs.Steps.{IsOpeningRefused, IsRunOn, IsServedFrom, opening_status};
 ghost use Rattle.tsdb_run.specs.Store.{HasDamage, IsSoundOrSilent, contents};
 ghost use Rattle.tsdb_history.specs.Flushing.{IsReady};
 ghost use Rattle.tsdb_history.specs.Serving.{IsSure, slot_under};
@@ -19,7 +19,7 @@ use crate::laws::a_recovered_core_serves;
 use crate::status::Status;
 use std::alloc::Global;
 use tsdb_base::List;
-use tsdb_history::{Room, Told, close, execute};
+use tsdb_history::{ReplyRoom, Told, close, execute};
 use tsdb_outside::{Files, Journal, Place, StoreFault};
 use tsdb_recover::{Core, OpenFault, OpenRefused, Options, recover};
 use tsdb_script::Numbered;
@@ -36,11 +36,11 @@ pub fn run_commands<P: Place>(
     requires script { CanExecute script.now }
     ensures executed { IfOk result (λ history. IsRunOn script.now history
         (contents (P.state place.old) (P.stored place.old)) (contents (P.state place.new) (P.stored place.new))
-        (Rose (P.faults place.old + count_by is_device history) (P.faults place.new))) }
+        (Rose (P.faults place.old + count_by told_device history) (P.faults place.new))) }
     ensures directory { OnOk result (P.asked place.new ≡ Some asked.now.directory) }
     ensures devices { IfOk result (λ history. IsSoundOrSilent (contents (P.state place.old) (P.stored place.old))
-        → min (P.faults place.old + count_by is_device history) (2 ^ 64 - 1) ≤ P.faults place.new) }
-    ensures refused { IfErr result (IsRefused (contents (P.state place.old) (P.stored place.old))
+        → min (P.faults place.old + count_by told_device history) (2 ^ 64 - 1) ≤ P.faults place.new) }
+    ensures refused { IfErr result (IsOpeningRefused (contents (P.state place.old) (P.stored place.old))
         (contents (P.state place.new) (P.stored place.new))) }
     ensures device { IfErr result (λ status. TellsDevice status (P.asked place.new ≡ Some asked.now.directory)
         (P.faults place.old) (P.faults place.new)) }
@@ -49,7 +49,7 @@ pub fn run_commands<P: Place>(
         → IsErrAnd result (λ status. ReportsDamage status part at) }
     ensures later { P.faults place.old ≤ P.faults place.new }
 {
-    let Ok(room) = Room::new(alloc, script.len()) else {
+    let Ok(room) = ReplyRoom::new(alloc, script.len()) else {
         return Err(Status::Memory);
     };
     match place.take_up(asked.directory()) {
@@ -72,7 +72,7 @@ fn run_on<J: Journal, F: Files>(
     files: &mut F,
     asked: &Asked,
     script: &[Numbered],
-    room: Room,
+    room: ReplyRoom,
 ) -> (J, Result<List<Told>, Status>)
     requires limit { IsPairLimit asked.now.pair_points }
     requires script { CanExecute script.now }
@@ -80,10 +80,10 @@ fn run_on<J: Journal, F: Files>(
     requires no_faults { (J.faults journal ≡ 0) × (F.faults files.old ≡ 0) }
     ensures executed { IfOk result.1 (λ history. IsRunOn script.now history (contents (J.state journal)
         (F.at_rest files.old)) (contents (J.state result.0) (F.at_rest files.new))
-        (Rose (count_by is_device history) (J.faults result.0 + F.faults files.new))) }
+        (Rose (count_by told_device history) (J.faults result.0 + F.faults files.new))) }
     ensures devices { IfOk result.1 (λ history. IsSoundOrSilent (contents (J.state journal) (F.at_rest files.old))
-        → min (count_by is_device history) (2 ^ 64 - 1) ≤ J.faults result.0 + F.faults files.new) }
-    ensures refused { IfErr result.1 (IsRefused (contents (J.state journal) (F.at_rest files.old))
+        → min (count_by told_device history) (2 ^ 64 - 1) ≤ J.faults result.0 + F.faults files.new) }
+    ensures refused { IfErr result.1 (IsOpeningRefused (contents (J.state journal) (F.at_rest files.old))
         (contents (J.state result.0) (F.at_rest files.new))) }
     ensures device { IfErr result.1 (λ status. status ≡ Status.Device → 0 < J.faults result.0 + F.faults files.new) }
     ensures damaged { (part : store_part.Part) (at : ℕ)
@@ -116,7 +116,7 @@ fn serve_script<J: Journal, F: Files>(
     port: F::Port,
     _asked: &Asked,
     script: &[Numbered],
-    room: Room,
+    room: ReplyRoom,
 ) -> (J, List<Told>)
     requires limit { limit_of core ≡ _asked.now.pair_points }
     requires script { CanExecute script.now }
@@ -126,9 +126,9 @@ fn serve_script<J: Journal, F: Files>(
     requires slot { slot_under core ≡ slots.A }
     ensures served { IsServedFrom script.now result.1 (F.at_rest files.old) core
         (contents (J.state result.0) (F.at_rest files.new))
-        (Rose (count_by is_device result.1) (J.faults result.0 + F.faults files.new)) }
+        (Rose (count_by told_device result.1) (J.faults result.0 + F.faults files.new)) }
     ensures devices { IsSure (F.store files.old) core
-        → min (count_by is_device result.1) (2 ^ 64 - 1) ≤ J.faults result.0 + F.faults files.new }
+        → min (count_by told_device result.1) (2 ^ 64 - 1) ≤ J.faults result.0 + F.faults files.new }
 {
     let mut core = core;
     let mut port = port;

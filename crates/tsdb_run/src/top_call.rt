@@ -3,7 +3,7 @@ ghost use Rattle.std.specs.Prelude.{◌≡◌, ◌≢◌, ◌⊎◌, ◌↔◌, 
 ghost use Rattle.std.specs.declared.option.Option.{Option};
 ghost use Rattle.std.specs.Io.KnownBytes.{IsAtEnd};
 ghost use Rattle.tsdb_recover.specs.Limits.{IsPairLimit};
-ghost use Rattle.tsdb_history.specs.History.{IsInLineOrder, is_device};
+ghost use Rattle.tsdb_history.specs.History.{IsInLineOrder, told_device};
 ghost use Rattle.tsdb_model.specs.State as plain;
 ghost use Rattle.tsdb_base.specs.Causes.{Rose};
 ghost use Rattle.tsdb_run.specs.Causes.{AreGoodWords, IsBeforeStore, IsDoneOrMemory, IsGoodScript, IsRefusedStore};
@@ -11,9 +11,9 @@ ghost use Rattle.tsdb_run.specs.Causes.{ReportsBad, ReportsDamageOf, TellsDevice
 ghost use Rattle.tsdb_run.specs.Headline.{Headline, IsTakenUp, KeepsLineOrder};
 ghost use Rattle.tsdb_run.specs.Input.{TakesPrefix};
 ghost use Rattle.tsdb_run.specs.Output.{output_text};
-ghost use Rattle.tsdb_run.specs.Steps.{IsAnswered, IsServedStatus, IsWritten, run_of};
-ghost use Rattle.tsdb_run.specs.Store.{IsSound, IsSoundOrSilent, contents};
-ghost use Rattle.tsdb_script.specs.Reading.{IsFirstBad, IsScript};
+ghost use Rattle.tsdb_run.specs.Steps.{IsAnswered, IsServedStatus, IsOutputWritten, whole_run};
+ghost use Rattle.tsdb_run.specs.Store.{IsSoundPlace, IsSoundOrSilent, contents};
+ghost use Rattle.tsdb_script.specs.Reading.{IsFirstBadLine, IsScript};
 ghost use Rattle.tsdb_run.specs.Words.{AreWords};
 
 use crate::asked::Asked;
@@ -67,17 +67,18 @@ pub fn run<S: Source, K: Sink, P: Place>(
     ensures device { TellsDevice result.status (IsTakenUp words.now (P.asked place.new)) (P.faults place.old)
         (P.faults place.new) }
     ensures devices { IsSoundOrSilent (contents (P.state place.old) (P.stored place.old))
-        → min (P.faults place.old + count_by is_device result.history) (2 ^ 64 - 1) ≤ P.faults place.new }
+        → min (P.faults place.old + count_by told_device result.history) (2 ^ 64 - 1) ≤ P.faults place.new }
     ensures refused { IsRefusedStore result.status → IfSome (S.left script.old) IsGoodScript }
     ensures source_untouched { result.status ≡ Status.Words → script.new ≡ script.old }
     ensures sink_untouched { IsBeforeStore result.status ⊎ IsRefusedStore result.status → out.new ≡ out.old }
     ensures place_untouched { IsBeforeStore result.status → place.new ≡ place.old }
     ensures first_bad { AreGoodWords words.now → IfSome (S.left script.old) (λ bytes. (line kind : ℕ)
-        → IsFirstBad bytes line kind → ReportsBad result.status line kind) }
+        → IsFirstBadLine bytes line kind → ReportsBad result.status line kind) }
     ensures damaged { AreGoodWords words.now → IfSome (S.left script.old) (λ bytes. IsGoodScript bytes
         → ReportsDamageOf (contents (P.state place.old) (P.stored place.old)) result.status) }
     ensures complete { AreGoodWords words.now → IfSome (S.left script.old) (λ bytes. IsGoodScript bytes → (at : plain.State)
-        → IsSound (contents (P.state place.old) (P.stored place.old)) at → ¬ Rose (S.faults script.old) (S.faults script.new)
+        → IsSoundPlace (contents (P.state place.old) (P.stored place.old)) at → ¬ Rose (S.faults script.old)
+        (S.faults script.new)
         → ¬ Rose (K.faults out.old) (K.faults out.new) → ¬ Rose (P.faults place.old) (P.faults place.new)
         → IsDoneOrMemory result.status) }
 {
@@ -98,7 +99,7 @@ fn run_script<K: Sink, P: Place>(
     requires limit { IsPairLimit asked.now.pair_points }
     requires some { (bytes : List ℕ) × IsScript bytes script.now }
     ensures headline { (words : List (List ℕ)) (left : Option (List ℕ)) → AreWords words asked.now
-        → IfSome left (λ bytes. IsScript bytes script.now) → Headline result.status (run_of words left
+        → IfSome left (λ bytes. IsScript bytes script.now) → Headline result.status (whole_run words left
         (contents (P.state place.old) (P.stored place.old)) (contents (P.state place.new) (P.stored place.new))
         (P.faults place.old) (P.faults place.new) (P.asked place.new) result.history (K.held out.old)
         (K.held out.new)) }
@@ -108,10 +109,10 @@ fn run_script<K: Sink, P: Place>(
     ensures device { TellsDevice result.status (P.asked place.new ≡ Some asked.now.directory) (P.faults place.old)
         (P.faults place.new) }
     ensures devices { IsSoundOrSilent (contents (P.state place.old) (P.stored place.old))
-        → min (P.faults place.old + count_by is_device result.history) (2 ^ 64 - 1) ≤ P.faults place.new }
+        → min (P.faults place.old + count_by told_device result.history) (2 ^ 64 - 1) ≤ P.faults place.new }
     ensures sink_untouched { IsRefusedStore result.status → out.new ≡ out.old }
     ensures damaged { ReportsDamageOf (contents (P.state place.old) (P.stored place.old)) result.status }
-    ensures sound { (at : plain.State) → IsSound (contents (P.state place.old) (P.stored place.old)) at
+    ensures sound { (at : plain.State) → IsSoundPlace (contents (P.state place.old) (P.stored place.old)) at
         → IsRefusedStore result.status → Rose (P.faults place.old) (P.faults place.new) }
 {
     match run_commands(alloc, place, asked, script) {
@@ -131,7 +132,7 @@ fn write_output<K: Sink>(
     history: &[Told],
 ) -> Status
     requires { IsAnswered script.now history.now }
-    ensures written { IsWritten result (K.held out.old) (K.held out.new) (output_text script.now history.now) }
+    ensures written { IsOutputWritten result (K.held out.old) (K.held out.new) (output_text script.now history.now) }
     ensures sink { TellsFaults Status.Sink result (K.faults out.old) (K.faults out.new) }
 {
     match put_output(alloc, out, script, history) {

@@ -3,13 +3,13 @@ use Rattle.std.proofs.Common.{◌≡◌, ◌≤◌, ◌<◌, ℕ, zero, suc, tru
 use Rattle.std.specs.Prelude.{IsTrue}
 use Rattle.std.proofs.lemmas.Bool.{cond_both, cond-false, cond-true}
 use Rattle.std.proofs.lemmas.Option.{cond_some, same_Some}
-use Rattle.tsdb_script.specs.Types.{Column, Comparison, Condition, Operand, Place, Token}
+use Rattle.tsdb_script.specs.Types.{SyntaxColumn, Comparison, Condition, Operand, FormPlace, Token}
 use Rattle.tsdb_script.specs.declared.form.Keyword.TheVariants as key
-use Rattle.tsdb_script.specs.declared.form.Place.TheVariants as place
+use Rattle.tsdb_script.specs.declared.form.FormPlace.TheVariants as place
 use Rattle.tsdb_script.specs.declared.syntax.Comparison.TheVariants as compared
 use Rattle.tsdb_script.specs.declared.syntax.Operand.TheVariants as operand
 use Rattle.tsdb_script.specs.declared.token.Token.TheVariants.{Word, Text, Open, Close, Equal, Less, LessEqual, Greater, GreaterEqual}
-use Rattle.tsdb_script.specs.Forms.{is_at, comparison_token, Standing, IsName, IsValue, Called, IsColumn, Behind, IsCondition, AreRow, AreListed, AreConditions}
+use Rattle.tsdb_script.specs.Forms.{is_at, comparison_token, Standing, IsNameAt, IsValueAt, Called, IsColumnAt, Behind, IsCondition, AreRow, AreListed, AreConditions}
 use Rattle.tsdb_script.specs.Parse.{Tokens, ◌>>=◌, stands_at, fixed_at, word_at, operand_at, comparison_at, condition_at, called_at, column_at, items_at, list_at, conditions_at}
 use Rattle.tsdb_script.specs.Steps.{onto}
 
@@ -28,14 +28,14 @@ mapped f (Some x) y e = (x, refl, same_Some (f x) y e)
 
 -- the token that a place asks for
 
-pub fixed_found : (at : Place) (tokens rest : Tokens) → fixed_at at tokens ≡ Some rest → (fixed : Token) × (tokens ≡ fixed ∷ rest) × IsTrue (is_at at fixed)
+pub fixed_found : (at : FormPlace) (tokens rest : Tokens) → fixed_at at tokens ≡ Some rest → (fixed : Token) × (tokens ≡ fixed ∷ rest) × IsTrue (is_at at fixed)
 fixed_found at [] rest e = cc
 fixed_found at (t ∷ more) rest e = let is = cond_some (is_at at t) more rest e in (t, ap (λ l. t ∷ l) is.1, is.0)
 
-pub fixed_again : (at : Place) (fixed : Token) (tokens rest : Tokens) → tokens ≡ fixed ∷ rest → IsTrue (is_at at fixed) → fixed_at at tokens ≡ Some rest
+pub fixed_again : (at : FormPlace) (fixed : Token) (tokens rest : Tokens) → tokens ≡ fixed ∷ rest → IsTrue (is_at at fixed) → fixed_at at tokens ≡ Some rest
 fixed_again at fixed tokens rest e is = ap (fixed_at at) e ∙ cond-true (is_at at fixed) _ _ is
 
-pub stands_again : (at : Place) (fixed : Token) (tokens rest : Tokens) → tokens ≡ fixed ∷ rest → IsTrue (is_at at fixed) → stands_at at tokens ≡ true
+pub stands_again : (at : FormPlace) (fixed : Token) (tokens rest : Tokens) → tokens ≡ fixed ∷ rest → IsTrue (is_at at fixed) → stands_at at tokens ≡ true
 stands_again at fixed tokens rest e is = ap (stands_at at) e ∙ is
 
 parenthesis_is : (t : Token) → (IsTrue (is_at place.Open t) → t ≡ Open) × (IsTrue (is_at place.Close t) → t ≡ Close)
@@ -44,7 +44,7 @@ parenthesis_is Close = (λ is. absurd (true≢false (sym is)), λ is. refl)
 parenthesis_is _ = (λ is. absurd (true≢false (sym is)), λ is. absurd (true≢false (sym is)))
 
 -- what stands where another mark is asked for does not open a parenthesis
-closes : (at : Place) (t : Token) → IsTrue (is_at at t) → is_at at Open ≡ false → is_at place.Open t ≡ false
+closes : (at : FormPlace) (t : Token) → IsTrue (is_at at t) → is_at at Open ≡ false → is_at place.Open t ≡ false
 closes at Open is other = absurd (true≢false (sym is ∙ other))
 closes at _ is other = refl
 
@@ -58,26 +58,26 @@ pub word_found : (tokens : Tokens) (r : List ℕ × Tokens) → word_at tokens �
 word_found (Word w ∷ rest) r e = ap (λ (r : List ℕ × Tokens). Word r.0 ∷ r.1) (same_Some (w, rest) r e)
 word_found _ r e = cc
 
-pub finds_name : Finds IsName word_at
+pub finds_name : Finds IsNameAt word_at
 finds_name = record {
   found = word_found;
   again = λ x tokens rest e calm. ap word_at e;
   shrinks = λ x tokens rest e. (let long = ap length e in omega (arith, long));
 }
 
-pub finds_value : Finds IsValue operand_at
+pub finds_value : Finds IsValueAt operand_at
 finds_value = record { found = found; again = again; shrinks = shrinks }
   where
-    found : (tokens : Tokens) (r : Operand × Tokens) → operand_at tokens ≡ Some r → IsValue r.0 tokens r.1
-    found (Word w ∷ rest) r e = subst (λ (r : Operand × Tokens). IsValue r.0 (Word w ∷ rest) r.1) (same_Some (operand.Word w, rest) r e) refl
-    found (Text t ∷ rest) r e = subst (λ (r : Operand × Tokens). IsValue r.0 (Text t ∷ rest) r.1) (same_Some (operand.Text t, rest) r e) refl
+    found : (tokens : Tokens) (r : Operand × Tokens) → operand_at tokens ≡ Some r → IsValueAt r.0 tokens r.1
+    found (Word w ∷ rest) r e = subst (λ (r : Operand × Tokens). IsValueAt r.0 (Word w ∷ rest) r.1) (same_Some (operand.Word w, rest) r e) refl
+    found (Text t ∷ rest) r e = subst (λ (r : Operand × Tokens). IsValueAt r.0 (Text t ∷ rest) r.1) (same_Some (operand.Text t, rest) r e) refl
     found _ r e = cc
 
-    again : (x : Operand) (tokens rest : Tokens) → IsValue x tokens rest → stands_at place.Open rest ≡ false → operand_at tokens ≡ Some (x, rest)
+    again : (x : Operand) (tokens rest : Tokens) → IsValueAt x tokens rest → stands_at place.Open rest ≡ false → operand_at tokens ≡ Some (x, rest)
     again (operand.Word w) tokens rest e calm = ap operand_at e
     again (operand.Text t) tokens rest e calm = ap operand_at e
 
-    shrinks : (x : Operand) (tokens rest : Tokens) → IsValue x tokens rest → length rest < length tokens
+    shrinks : (x : Operand) (tokens rest : Tokens) → IsValueAt x tokens rest → length rest < length tokens
     shrinks (operand.Word w) tokens rest e = let long = ap length e in omega (arith, long)
     shrinks (operand.Text t) tokens rest e = let long = ap length e in omega (arith, long)
 
@@ -117,7 +117,7 @@ finds_condition = record {
   shrinks = λ x tokens rest h. (let outer = ap length h.2 in let inner = ap length h.4 in omega (arith, outer, inner));
 }
 
-called_found : (name : List ℕ) (tokens : Tokens) (r : Column × Tokens) (from : Tokens) → from ≡ Word name ∷ tokens → called_at name tokens ≡ Some r → IsColumn r.0 from r.1
+called_found : (name : List ℕ) (tokens : Tokens) (r : SyntaxColumn × Tokens) (from : Tokens) → from ≡ Word name ∷ tokens → called_at name tokens ≡ Some r → IsColumnAt r.0 from r.1
 unfolding called_at
 called_found name tokens r from begins e =
     let a = step _ _ _ e in
@@ -125,18 +125,18 @@ called_found name tokens r from begins e =
     let c = step _ _ _ b.2 in
     let o = fixed_found place.Open tokens a.0 a.1 in
     let d = fixed_found place.Close b.0.1 c.0 c.1 in
-    let is : ◌≡◌ {A = Column × Tokens} (record { aggregate = Some name; measurement = b.0.0 }, c.0) r = same_Some _ r c.2 in
-    subst (λ (r : Column × Tokens). IsColumn r.0 from r.1) is
+    let is : ◌≡◌ {A = SyntaxColumn × Tokens} (record { aggregate = Some name; measurement = b.0.0 }, c.0) r = same_Some _ r c.2 in
+    subst (λ (r : SyntaxColumn × Tokens). IsColumnAt r.0 from r.1) is
     (begins ∙ ap (λ (l : Tokens). Word name ∷ l) (o.1 ∙ ap (λ t. t ∷ a.0) ((parenthesis_is o.0).0 o.2) ∙ ap (λ (l : Tokens). Open ∷ l)
     (word_found a.0 b.0 b.1 ∙ ap (λ (l : Tokens). Word b.0.0 ∷ l) (d.1 ∙ ap (λ t. t ∷ c.0) ((parenthesis_is d.0).1 d.2)))))
 
-column_found : (tokens : Tokens) (r : Column × Tokens) → column_at tokens ≡ Some r → IsColumn r.0 tokens r.1
+column_found : (tokens : Tokens) (r : SyntaxColumn × Tokens) → column_at tokens ≡ Some r → IsColumnAt r.0 tokens r.1
 unfolding column_at
 column_found tokens r e =
     let a = step _ _ _ e in
-    cond_both (stands_at place.Open a.0.1) _ _ (λ o. o ≡ Some r → IsColumn r.0 tokens r.1)
+    cond_both (stands_at place.Open a.0.1) _ _ (λ o. o ≡ Some r → IsColumnAt r.0 tokens r.1)
     (λ opened. called_found a.0.0 a.0.1 r tokens (word_found tokens a.0 a.1))
-    (λ none e. subst (λ (r : Column × Tokens). IsColumn r.0 tokens r.1) (same_Some _ r e) (word_found tokens a.0 a.1)) a.2
+    (λ none e. subst (λ (r : SyntaxColumn × Tokens). IsColumnAt r.0 tokens r.1) (same_Some _ r e) (word_found tokens a.0 a.1)) a.2
 
 column_again : (aggregate : Option (List ℕ)) (measurement : List ℕ) (tokens rest : Tokens) → Called aggregate measurement tokens rest → stands_at place.Open rest ≡ false
     → column_at tokens ≡ Some (record { aggregate = aggregate; measurement = measurement }, rest)
@@ -149,7 +149,7 @@ column_shrinks : (aggregate : Option (List ℕ)) (measurement : List ℕ) (token
 column_shrinks None measurement tokens rest e = let long = ap length e in omega (arith, long)
 column_shrinks (Some name) measurement tokens rest e = let long = ap length e in omega (arith, long)
 
-pub finds_column : Finds IsColumn column_at
+pub finds_column : Finds IsColumnAt column_at
 finds_column = record {
   found = column_found;
   again = λ x tokens rest h calm. column_again x.aggregate x.measurement tokens rest h calm;
@@ -158,7 +158,7 @@ finds_column = record {
 
 -- lists
 
-module _ {X : Type 0} (between : Place) (Is : Standing X) (item : Tokens → Option (X × Tokens)) (finds : Finds Is item) where
+module _ {X : Type 0} (between : FormPlace) (Is : Standing X) (item : Tokens → Option (X × Tokens)) (finds : Finds Is item) where
   items_found : (turns : ℕ) (tokens : Tokens) (r : List X × Tokens) → items_at between item turns tokens ≡ Some r → AreRow (Behind between Is) r.0 tokens r.1
   items_found zero tokens r e = subst (λ (r : List X × Tokens). AreRow (Behind between Is) r.0 tokens r.1) (same_Some ([], tokens) r e) refl
   items_found (suc n) tokens r e =
@@ -207,7 +207,7 @@ module _ {X : Type 0} (between : Place) (Is : Standing X) (item : Tokens → Opt
         leads (item tokens) (x, h.0) _ _ (finds.again x tokens h.0 h.1 (row_calm xs h.0 h.2))
         (ap (option_map (onto x)) (items_again xs (length h.0) h.0 (row_length xs h.0 rest h.2) h.2))
 
-pub some_listed : {X : Type 0} (between : Place) (Is : Standing X) (xs : List X) (tokens rest : Tokens)
+pub some_listed : {X : Type 0} (between : FormPlace) (Is : Standing X) (xs : List X) (tokens rest : Tokens)
     → AreListed between Is xs tokens rest → 0 < length xs
 some_listed between Is [] tokens rest h = absurd h
 some_listed between Is (x ∷ xs) tokens rest h = omega arith

@@ -9,7 +9,7 @@ use Rattle.tsdb_script.specs.Types.{LineFault, Token}
 use Rattle.tsdb_script.specs.declared.token.Token.TheVariants.{Word, Text, Less, LessEqual, Greater, GreaterEqual}
 use Rattle.tsdb_script.specs.declared.fault.LineFault.TheVariants.{Bad}
 use Rattle.tsdb_script.specs.Steps.{FaultsWith, after_blanks, word_parts, onto, content_parts, short_text, or_equal, mark_at, token_at}
-use Rattle.tsdb_script.specs.Tokens.{is_blank, is_word_byte, is_quote, is_mark, starts, AreWordAnd, AreTextAnd, BeginsWithToken, AreBlanksAnd, AreTokensAnd, IsStray, IsBadText, HasNoTokens}
+use Rattle.tsdb_script.specs.Tokens.{is_blank, is_word_byte, is_quote, is_mark, starts, AreWordAnd, AreTextAnd, BeginsWithToken, AreBlanksAnd, AreTokensAnd, BeginsWithStray, IsBadText, HasNoTokens}
 use Rattle.tsdb_script.proofs.TextLemmas.{content_parts-other, content_parts-pair, content_parts-end}
 
 -- blanks
@@ -216,10 +216,10 @@ one_more_token (t ∷ tokens) token line rest more h found = (h.0, h.1, h.2, h.3
 
 -- where there is no token the reader is stuck
 pub no_token : (bytes : List ℕ) → starts is_blank bytes ≡ false → (0 < length bytes) → token_at bytes ≡ None
-    → MatchBool (starts is_quote bytes) (IsBadText bytes) (IsStray bytes)
+    → MatchBool (starts is_quote bytes) (IsBadText bytes) (BeginsWithStray bytes)
 no_token [] solid some none = absurd (omega (arith, some))
 no_token (b ∷ bytes) solid some none =
-    elim (is_quote b) as (λ t. is_quote b ≡ t → MatchBool t (IsBadText (b ∷ bytes)) (IsStray (b ∷ bytes))) [
+    elim (is_quote b) as (λ t. is_quote b ≡ t → MatchBool t (IsBadText (b ∷ bytes)) (BeginsWithStray (b ∷ bytes))) [
       | true ↦ λ is. record { begins = is; no_text = λ content rest h. (let found = token_again (Text content) (b ∷ bytes) rest h in cc) }
       | false ↦ λ no. ap not (or_from (is_blank b) (is_word_byte b || (is_quote b || is_mark b)) solid
           (or_from (is_word_byte b) (is_quote b || is_mark b) (no_word b bytes none) (or_from (is_quote b) (is_mark b) no (no_mark b bytes none))))
@@ -238,6 +238,6 @@ pub stuck_at : (line : List ℕ) (tokens : List Token) (rest : List ℕ) (fault 
 stuck_at line tokens rest fault so_far solid some none is =
     subst (FaultsWith (HasNoTokens line)) (sym is) (by_case (starts is_quote rest) (no_token rest solid some none))
   where
-    by_case : (t : Bool) → MatchBool t (IsBadText rest) (IsStray rest) → FaultsWith (HasNoTokens line) (cond t (Bad 6) (Bad 3))
+    by_case : (t : Bool) → MatchBool t (IsBadText rest) (BeginsWithStray rest) → FaultsWith (HasNoTokens line) (cond t (Bad 6) (Bad 3))
     by_case true h = record { tokens = tokens; rest = rest; front = so_far; stuck = inr (h, refl) }
     by_case false h = record { tokens = tokens; rest = rest; front = so_far; stuck = inl (h, refl) }

@@ -7,15 +7,15 @@ use Rattle.std.proofs.lemmas.Int.{ints}
 use Rattle.std.proofs.lemmas.List.{length-map}
 use Rattle.std.proofs.lemmas.List.Elements.{All-head, All-tail, All-cons, All-nil}
 use Rattle.std.proofs.lemmas.Slice.Zip.{AllZip-long}
-use Rattle.tsdb_script.specs.Types.{Aggregate, Cell, Column, Command, Condition, DataType, Encoding, Item, LineFault, Operand, Range, Syntax}
+use Rattle.tsdb_script.specs.Types.{Aggregate, Cell, SyntaxColumn, Command, Condition, DataType, Encoding, Item, LineFault, Operand, Range, Syntax}
 use Rattle.tsdb_model.specs.declared.command.Command.TheVariants as command
 use Rattle.tsdb_base.specs.Values.{is_suitable}
 use Rattle.tsdb_model.specs.declared.command.Row.{Row}
 use Rattle.tsdb_model.specs.declared.command.Schema.{Schema}
 use Rattle.tsdb_model.specs.Commands.{AreDifferent, AreItems, IsDevice, IsRow, IsSeries, IsSchema, IsWellFormed}
 use Rattle.tsdb_script.specs.declared.syntax.Syntax.TheVariants.{Create, Insert, Delete, Select, Flush, CompactInner, CompactCross, ShowFiles}
-use Rattle.tsdb_script.specs.Forms.{HasParts}
-use Rattle.tsdb_script.specs.Meaning.{HasBadWord, AreAlike, ArePaired, IsGood, IsItem, IsLiteral, IsNamed, IsRangeOf, Means, Objects, Role, DeviceOf, Says, column_role, condition_roles, roles}
+use Rattle.tsdb_script.specs.Forms.{HasNeededParts}
+use Rattle.tsdb_script.specs.Meaning.{HasBadWord, AreColumnsAlike, ArePaired, IsGood, IsItem, IsLiteral, NamesAggregate, IsRangeOf, Means, Objects, Role, DeviceOf, Says, column_role, condition_roles, roles}
 use Rattle.tsdb_script.proofs.Ranges.{not_before, not_behind, within}
 use Rattle.tsdb_script.proofs.WordLists.{AllByRecursion-split, earlier, later, order, same_place}
 use Rattle.tsdb_script.proofs.SameWords.{one_encoding, one_integer, one_literal, one_named, same_name, types_differ}
@@ -52,7 +52,7 @@ same_cells (c ∷ cells) (d ∷ others) names values =
     let others_same = same_cells cells others more_names more_values in
     cc
 
-one_item : (column : Column) (item other : Item) → IsItem column item → IsItem column other → item ≡ other
+one_item : (column : SyntaxColumn) (item other : Item) → IsItem column item → IsItem column other → item ≡ other
 one_item column item other is again =
     made_same {C = Item} (λ name aggregate. record { measurement = name; aggregate = aggregate }) item.measurement other.measurement item.aggregate other.aggregate
     (is.0 ∙ sym again.0) (one_named column.aggregate item.aggregate other.aggregate is.1 again.1)
@@ -173,26 +173,26 @@ well_formed_row device names time values row some paired same =
     let long : length row.cells ≡ length names = sym (length-map row.cells (λ (cell : Cell). cell.measurement)) ∙ ap length same in
     record { some = omega arith; few = omega (arith, paired.few); different = subst AreDifferent (sym same) paired.different }
 
-named_none : (word : Option (List ℕ)) (aggregate : Option Aggregate) → IsNamed word aggregate → word ≡ None → aggregate ≡ None
+named_none : (word : Option (List ℕ)) (aggregate : Option Aggregate) → NamesAggregate word aggregate → word ≡ None → aggregate ≡ None
 named_none None None is none = refl
 named_none None (Some aggregate) is none = absurd is
 named_none (Some word) aggregate is none = absurd cc
 
-named_some : (word : Option (List ℕ)) (aggregate : Option Aggregate) → IsNamed word aggregate → IsSome word → IsSome aggregate
+named_some : (word : Option (List ℕ)) (aggregate : Option Aggregate) → NamesAggregate word aggregate → IsSome word → IsSome aggregate
 named_some None aggregate is some = absurd (true≢false (sym some))
 named_some (Some word) None is some = absurd is
 named_some (Some word) (Some aggregate) is some = refl
 
 -- what follows for an item's aggregate from the column's, for all items
-each_item : (P : Option (List ℕ) → Type 0) (Q : Option Aggregate → Type 0) → ((word : Option (List ℕ)) (aggregate : Option Aggregate) → IsNamed word aggregate → P word → Q aggregate)
-    → (columns : List Column) (items : List Item) → AllZip IsItem columns items → All (λ column. P column.aggregate) columns → All (λ item. Q item.aggregate) items
+each_item : (P : Option (List ℕ) → Type 0) (Q : Option Aggregate → Type 0) → ((word : Option (List ℕ)) (aggregate : Option Aggregate) → NamesAggregate word aggregate → P word → Q aggregate)
+    → (columns : List SyntaxColumn) (items : List Item) → AllZip IsItem columns items → All (λ column. P column.aggregate) columns → All (λ item. Q item.aggregate) items
 each_item P Q step columns [] each all = All-nil (λ item. Q item.aggregate)
 each_item P Q step [] (i ∷ items) each all = absurd each
 each_item P Q step (c ∷ columns) (i ∷ items) each all =
     All-cons (λ item. Q item.aggregate) i items (step c.aggregate i.aggregate each.0.1 (All-head (λ column. P column.aggregate) c columns all))
     (each_item P Q step columns items each.1 (All-tail (λ column. P column.aggregate) c columns all))
 
-well_formed_items : (columns : List Column) (items : List Item) → 0 < length columns → AreAlike columns → AllZip IsItem columns items → AreItems items
+well_formed_items : (columns : List SyntaxColumn) (items : List Item) → 0 < length columns → AreColumnsAlike columns → AllZip IsItem columns items → AreItems items
 well_formed_items columns items some alike each =
     let long : length items ≡ length columns = AllZip-long IsItem columns items each in
     record {
@@ -205,7 +205,7 @@ well_formed_items columns items some alike each =
     }
 
 -- what a statement with its parts means is well-formed
-pub well_formed : (syntax : Syntax) (command : Command) → HasParts syntax → Means syntax command → IsWellFormed command
+pub well_formed : (syntax : Syntax) (command : Command) → HasNeededParts syntax → Means syntax command → IsWellFormed command
 well_formed (Create path data_type encoding) (command.Create schema) parts means = well_formed_create path data_type encoding schema means
 well_formed (Insert device names time values) (command.Insert path row) parts means =
     (subst IsDevice (sym means.says.0) means.words.0.1, well_formed_row device names time values row parts.0 means.balanced means.says.2)
@@ -222,6 +222,6 @@ well_formed ShowFiles command.ShowFiles parts means = tt
 well_formed syntax command parts means = absurd means.says
 
 -- what is returned is
-pub well_formed_result : (syntax : Syntax) (result : Result Command LineFault) → HasParts syntax → IfOk result (Means syntax) → IfOk result IsWellFormed
+pub well_formed_result : (syntax : Syntax) (result : Result Command LineFault) → HasNeededParts syntax → IfOk result (Means syntax) → IfOk result IsWellFormed
 well_formed_result syntax (Ok command) parts means = well_formed syntax command parts means
 well_formed_result syntax (Err fault) parts means = tt

@@ -2,7 +2,7 @@
 use Rattle.std.proofs.Common.{◌≡◌, ℕ, ℤ, List, [], ◌∷◌, length, map, inr, refl, sym, subst, ◌∙◌}
 use Rattle.std.specs.List.{AllByRecursion, AllZip, flat_map}
 use Rattle.std.proofs.lemmas.Slice.Zip.{AllZip-long}
-use Rattle.tsdb_script.specs.Types.{Cell, Column, Condition, Literal, Operand}
+use Rattle.tsdb_script.specs.Types.{Cell, SyntaxColumn, Condition, Literal, Operand}
 use Rattle.tsdb_model.specs.declared.command.Command.TheVariants as command
 use Rattle.tsdb_script.specs.declared.syntax.Syntax.TheVariants.{Insert, Select}
 use Rattle.tsdb_script.specs.Meaning.{ArePaired, IsGood, IsInteger, IsLiteral, Means, Objects, column_role, condition_roles, roles}
@@ -41,7 +41,7 @@ module _ (device : List ℕ) (names : List (List ℕ)) (time : List ℕ) (values
     says = (same, integer, measured, subst (AllZip IsLiteral values) (sym valued) said);
   }
 
-module _ (columns : List Column) (device : List ℕ) (conditions : List Condition) where
+module _ (columns : List SyntaxColumn) (device : List ℕ) (conditions : List Condition) where
   -- all words are good
   pub select_words : AllByRecursion IsGood (flat_map column_role columns) → IsGood (DeviceOf (map (λ column. column.measurement) columns) device) → AllByRecursion IsGood (condition_roles conditions)
       → AllByRecursion IsGood (roles (Select columns device conditions))

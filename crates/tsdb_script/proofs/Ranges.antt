@@ -5,7 +5,7 @@ use Rattle.std.specs.Int.{w64}
 use Rattle.std.proofs.lemmas.Int.{ints}
 use Rattle.tsdb_script.specs.Types.{Condition, Range}
 use Rattle.tsdb_model.specs.World.{is_in}
-use Rattle.tsdb_script.specs.Meaning.{Compares, IsInteger, IsRangeOf, Meets}
+use Rattle.tsdb_script.specs.Meaning.{Compares, IsInteger, IsRangeOf, MeetsCondition}
 use Rattle.tsdb_script.specs.Steps.{HasRangeForm}
 use Rattle.tsdb_script.proofs.WordLists.{AllByRecursion-append, AllByRecursion-split, next}
 
@@ -27,9 +27,9 @@ pub range_next : (conditions : List Condition) (i : ℕ) (x : Condition) (n : �
 range_next conditions i x n old bounds new lt e before integer narrows meets form = record {
   times = λ time fits. rw (next conditions i x lt e) (
     (λ is. let both = (meets time fits).0 is in
-        AllByRecursion-append (Meets time) (take i conditions) (x ∷ []) ((before.times time fits).0 both.0)
+        AllByRecursion-append (MeetsCondition time) (take i conditions) (x ∷ []) ((before.times time fits).0 both.0)
         (subst (λ m. Compares x.comparison time m) integer.value ((narrows time fits).0 both.1), tt)),
-    (λ all. let parts = AllByRecursion-split (Meets time) (take i conditions) (x ∷ []) all in
+    (λ all. let parts = AllByRecursion-split (MeetsCondition time) (take i conditions) (x ∷ []) all in
         (meets time fits).1 ((before.times time fits).1 parts.0, (narrows time fits).1 (subst (λ m. Compares x.comparison time m) (sym integer.value) parts.1.0))),
   );
   from = form.from;

@@ -7,7 +7,7 @@ use Rattle.std.proofs.lemmas.List.Elements.{All-nil, All-push}
 use Rattle.std.proofs.lemmas.List.Folds.{concat-append}
 use Rattle.tsdb_model.specs.Commands.{IsWellFormed}
 use Rattle.tsdb_script.specs.Types.{Numbered}
-use Rattle.tsdb_script.specs.Reading.{Line, line_behind, lines_of, sessions_of, session_count, Give, no_line, skipped_line, command_line, IsBad, IsCommand, IsFirstBad, IsScript, IsSkipped, IsWithinLimits}
+use Rattle.tsdb_script.specs.Reading.{ScriptLine, line_behind, lines_of, sessions_of, session_count, Give, no_line, skipped_line, command_line, IsBadLine, IsCommand, IsFirstBadLine, IsScript, IsSkipped, IsScriptWithinLimits}
 use Rattle.tsdb_script.proofs.LineLemmas.{one_line_command, one_line_fault, command_not_bad, skipped_not_bad, past_limit}
 use Rattle.tsdb_script.proofs.LinesLemmas.{concat-lines_of, goes_on, GoesOn}
 use Rattle.tsdb_script.proofs.MeaningLaws.{well_formed as well_formed_meaning}
@@ -21,13 +21,13 @@ no_last : (front : List (List ℕ)) (line : List ℕ) → ◌≡◌ {A = List (L
 no_last front line e = omega (arith, ap length e, length-append front (line ∷ []))
 
 -- what holds of a line holds of the same line behind the same lines
-moved : (P : Line → Type 0) (front other : List (List ℕ)) (script said : List Numbered) (line last : List ℕ)
+moved : (P : ScriptLine → Type 0) (front other : List (List ℕ)) (script said : List Numbered) (line last : List ℕ)
     → front ≡ other → script ≡ said → line ≡ last → P (line_behind front script line) → P (line_behind other said last)
 moved P front other script said line last fronts scripts lines holds =
     subst (λ l. P (line_behind other said l)) lines
     (subst (λ s. P (line_behind other s line)) scripts (subst (λ f. P (line_behind f script line)) fronts holds))
 
-skips : (line : Line) (numbered : Numbered) → IsSkipped line → IsCommand line numbered → ⊥
+skips : (line : ScriptLine) (numbered : Numbered) → IsSkipped line → IsCommand line numbered → ⊥
 skips line numbered skipped is = true≢false (sym skipped.says_nothing ∙ is.says_something)
 
 same_commands : (lines others : List (List ℕ)) (script other : List Numbered) → Give lines script → Give others other → lines ≡ others → script ≡ other
@@ -53,10 +53,10 @@ same_commands lines others script other (command_line f s l one gives is) (comma
 -- ---- a bad line
 
 -- lines among which a bad one stands give no commands
-module _ (before : List (List ℕ)) (line : List ℕ) (script : List Numbered) (kind : ℕ) (good : Give before script) (bad : IsBad (line_behind before script line) kind) where
+module _ (before : List (List ℕ)) (line : List ℕ) (script : List Numbered) (kind : ℕ) (good : Give before script) (bad : IsBadLine (line_behind before script line) kind) where
   -- the last of some lines is none that is good, and stands behind the bad one
   stands : (front rest : List (List ℕ)) (last : List ℕ) (said : List Numbered) → front ++ last ∷ [] ≡ before ++ line ∷ rest → Give front said
-      → ((kind : ℕ) → ¬ IsBad (line_behind front said last) kind) → (more : List (List ℕ)) × (front ≡ before ++ line ∷ more)
+      → ((kind : ℕ) → ¬ IsBadLine (line_behind front said last) kind) → (more : List (List ℕ)) × (front ≡ before ++ line ∷ more)
   stands front rest last said e gives fine = elim (order front last [] before line rest e) [
     | earlier more is ↦ absurd (omega (
       arith,
@@ -67,7 +67,7 @@ module _ (before : List (List ℕ)) (line : List ℕ) (script : List Numbered) (
       length-append front (last ∷ more),
     ))
     | later more is ↦ (more, is)
-    | same_place fronts is ↦ absurd (fine kind (moved (λ line. IsBad line kind) before front script said line last (sym fronts)
+    | same_place fronts is ↦ absurd (fine kind (moved (λ line. IsBadLine line kind) before front script said line last (sym fronts)
         (same_commands before front script said good gives (sym fronts)) (sym is) bad))
   ]
 
@@ -83,10 +83,10 @@ module _ (before : List (List ℕ)) (line : List ℕ) (script : List Numbered) (
 pub same_script : (bytes : List ℕ) (one other : List Numbered) → IsScript bytes one → IsScript bytes other → one ≡ other
 same_script bytes one other is again = same_commands (lines_of bytes) (lines_of bytes) one other is again refl
 
-pub not_both : (bytes : List ℕ) (script : List Numbered) (line kind : ℕ) → IsScript bytes script → ¬ IsFirstBad bytes line kind
+pub not_both : (bytes : List ℕ) (script : List Numbered) (line kind : ℕ) → IsScript bytes script → ¬ IsFirstBadLine bytes line kind
 not_both bytes script line kind is bad = clash bad.before bad.line bad.script kind bad.good bad.bad (lines_of bytes) bad.behind script is bad.lines
 
-pub same_first_bad : (bytes : List ℕ) (line kind other_line other_kind : ℕ) → IsFirstBad bytes line kind → IsFirstBad bytes other_line other_kind
+pub same_first_bad : (bytes : List ℕ) (line kind other_line other_kind : ℕ) → IsFirstBadLine bytes line kind → IsFirstBadLine bytes other_line other_kind
     → (line ≡ other_line) × (kind ≡ other_kind)
 same_first_bad bytes line kind other_line other_kind a b =
     elim (order a.before a.line a.behind b.before b.line b.behind (sym a.lines ∙ b.lines)) [
@@ -95,7 +95,7 @@ same_first_bad bytes line kind other_line other_kind a b =
       | same_place before here ↦ (
         a.count_is ∙ ap (λ (l : List (List ℕ)). length l + 1) before ∙ sym b.count_is,
         one_line_fault (line_behind b.before b.script b.line) kind other_kind
-            (moved (λ line. IsBad line kind) a.before b.before a.script b.script a.line b.line before (same_commands a.before b.before a.script b.script a.good b.good before) here a.bad) b.bad,
+            (moved (λ line. IsBadLine line kind) a.before b.before a.script b.script a.line b.line before (same_commands a.before b.before a.script b.script a.good b.good before) here a.bad) b.bad,
       )
     ]
 
@@ -128,7 +128,7 @@ well_formed_lines lines script (command_line front before line numbered gives is
     All-push (λ (numbered : Numbered). IsWellFormed numbered.command) before numbered (well_formed_lines front before gives)
     (well_formed_meaning is.syntax numbered.command (has_parts is.statement is.syntax is.fits) is.means)
 
-pub within_limits : (bytes : List ℕ) (script : List Numbered) → IsScript bytes script → IsWithinLimits bytes script
+pub within_limits : (bytes : List ℕ) (script : List Numbered) → IsScript bytes script → IsScriptWithinLimits bytes script
 within_limits bytes script is = record {
   short = omega (arith, lines_short (lines_of bytes) script is, ap length (concat-lines_of bytes));
   commands = omega (arith, (lines_sessions (lines_of bytes) script is).0, as_many script);
@@ -153,7 +153,7 @@ module _ (bytes other : List ℕ) (front : List (List ℕ)) (last last' : List �
   not_behind before more script gives e =
       omega (arith, long, lines_short before script gives, ap length (ap concat e ∙ concat-append front (last ∷ more)), length-append (concat front) (last ++ concat more), length-append last (concat more))
 
-  stays_bad : (line kind : ℕ) → IsFirstBad bytes line kind → IsFirstBad other line kind
+  stays_bad : (line kind : ℕ) → IsFirstBadLine bytes line kind → IsFirstBadLine other line kind
   stays_bad line kind bad =
       elim (order front last others bad.before bad.line bad.behind (sym lines ∙ bad.lines)) [
         | earlier more is ↦ absurd (not_behind bad.before more bad.script bad.good is)
@@ -175,17 +175,17 @@ module _ (bytes other : List ℕ) (front : List (List ℕ)) (last last' : List �
           count_is = bad.count_is ∙ ap (λ (l : List (List ℕ)). length l + 1) (sym before);
           script = bad.script;
           good = subst (λ l. Give l bad.script) (sym before) bad.good;
-          bad = subst (IsBad (line_behind front bad.script last')) (sym (nine bad.script before here bad.bad)) (past_limit (line_behind front bad.script last') long');
+          bad = subst (IsBadLine (line_behind front bad.script last')) (sym (nine bad.script before here bad.bad)) (past_limit (line_behind front bad.script last') long');
         }
       ]
     where
-      nine : (script : List Numbered) → front ≡ bad.before → last ≡ bad.line → IsBad (line_behind bad.before script bad.line) kind → kind ≡ 9
+      nine : (script : List Numbered) → front ≡ bad.before → last ≡ bad.line → IsBadLine (line_behind bad.before script bad.line) kind → kind ≡ 9
       nine script before here is =
-          one_line_fault (line_behind front script last) kind 9 (moved (λ line. IsBad line kind) bad.before front script script bad.line last (sym before) refl (sym here) is)
+          one_line_fault (line_behind front script last) kind 9 (moved (λ line. IsBadLine line kind) bad.before front script script bad.line last (sym before) refl (sym here) is)
           (past_limit (line_behind front script last) long)
 
 -- the first bad line of a script that is too long stands in what is read of it
-pub cut_bad : (front rest : List ℕ) (line kind : ℕ) → 67108864 < length front → IsFirstBad front line kind ↔ IsFirstBad (front ++ rest) line kind
+pub cut_bad : (front rest : List ℕ) (line kind : ℕ) → 67108864 < length front → IsFirstBadLine front line kind ↔ IsFirstBadLine (front ++ rest) line kind
 cut_bad [] rest line kind long = absurd (omega arith)
 cut_bad (b ∷ bytes) rest line kind long = (
   stays_bad front (front ++ rest) g.front g.last (g.last ++ g.more) [] g.others g.short g.long passed further line kind,

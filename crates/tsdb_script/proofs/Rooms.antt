@@ -6,7 +6,7 @@ use Rattle.std.proofs.lemmas.List.Elements.{All-head, All-tail, All-cons, All-ni
 use Rattle.tsdb_path.specs.Nodes.{dot, IsName, IsPath, child_of, node_count}
 use Rattle.tsdb_path.proofs.Bytes.{IsNode-dotless}
 use Rattle.tsdb_path.proofs.Parts.{IsPath-child, node_count-child, parts_from_path}
-use Rattle.tsdb_script.specs.Types.{Column}
+use Rattle.tsdb_script.specs.Types.{SyntaxColumn}
 use Rattle.tsdb_script.specs.Meaning.{IsGood, Node, aggregate_role, column_role}
 use Rattle.tsdb_script.proofs.WordLists.{AllByRecursion-split}
 
@@ -27,11 +27,11 @@ has_no_room device full = λ name named. (
   (λ short. absurd (omega (arith, named.node.some))),
 )
 
-abbrev pub IsShort : ℕ → Column → Type 0
+abbrev pub IsShort : ℕ → SyntaxColumn → Type 0
 IsShort room column = length column.measurement ≤ room
 
 -- the measurements of all columns are short exactly where the device takes them
-pub all_fit : (device : List ℕ) (room : ℕ) (columns : List Column) → HasRoom device room → AllByRecursion IsGood (flat_map column_role columns)
+pub all_fit : (device : List ℕ) (room : ℕ) (columns : List SyntaxColumn) → HasRoom device room → AllByRecursion IsGood (flat_map column_role columns)
     → All (IsShort room) columns ↔ AllByRecursion (λ name. IsPath (child_of device name)) (map (λ column. column.measurement) columns)
 all_fit device room [] fits good = ((λ short. tt), (λ all. All-nil (IsShort room)))
 all_fit device room (column ∷ columns) fits good =

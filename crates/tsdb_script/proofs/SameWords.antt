@@ -14,14 +14,14 @@ use Rattle.tsdb_base.specs.declared.value.DataType.TheVariants as type
 use Rattle.tsdb_base.specs.declared.value.Encoding.TheVariants as encoding
 use Rattle.tsdb_model.specs.declared.command.Literal.TheVariants as literal
 use Rattle.tsdb_script.specs.declared.syntax.Operand.TheVariants as operand
-use Rattle.tsdb_script.specs.Meaning.{IsInteger, IsLiteral, IsNamed, Names, encoding_name, type_name}
+use Rattle.tsdb_script.specs.Meaning.{IsInteger, IsLiteral, NamesAggregate, SpellsName, encoding_name, type_name}
 use Rattle.tsdb_script.specs.Tokens.{is_keyword}
 
-lower_names : (word name : List ℕ) → Names word name → str_to_ascii_lowercase word ≡ str_to_ascii_lowercase name
+lower_names : (word name : List ℕ) → SpellsName word name → str_to_ascii_lowercase word ≡ str_to_ascii_lowercase name
 lower_names word name names = (bytes_eq-Decides (str_to_ascii_lowercase word) (str_to_ascii_lowercase name)).0 names
 
 -- two names of one word are one name in any case
-pub same_name : (word one other : List ℕ) → Names word one → Names word other → is_keyword one other ≡ true
+pub same_name : (word one other : List ℕ) → SpellsName word one → SpellsName word other → is_keyword one other ≡ true
 same_name word one other names again =
     (bytes_eq-Decides (str_to_ascii_lowercase one) (str_to_ascii_lowercase other)).1 (sym (lower_names word one names) ∙ lower_names word other again)
 
@@ -52,11 +52,11 @@ aggregates_differ aggregate.MinTime aggregate.MinTime same = refl
 aggregates_differ aggregate.MaxTime aggregate.MaxTime same = refl
 aggregates_differ one other same = absurd (true≢false (sym same))
 
-pub one_encoding : (word : List ℕ) (one other : Encoding) → Names word (encoding_name one) → Names word (encoding_name other) → one ≡ other
+pub one_encoding : (word : List ℕ) (one other : Encoding) → SpellsName word (encoding_name one) → SpellsName word (encoding_name other) → one ≡ other
 one_encoding word one other names again = encodings_differ one other (same_name word (encoding_name one) (encoding_name other) names again)
 
 -- an aggregate or none
-pub one_named : (word : Option (List ℕ)) (one other : Option Aggregate) → IsNamed word one → IsNamed word other → one ≡ other
+pub one_named : (word : Option (List ℕ)) (one other : Option Aggregate) → NamesAggregate word one → NamesAggregate word other → one ≡ other
 one_named None None None is again = refl
 one_named (Some word) (Some one) (Some other) is again = ap Some (aggregates_differ one other (same_name word _ _ is again))
 one_named None None (Some other) is again = absurd again
@@ -72,7 +72,7 @@ letter b c e low = grind (arith, nat_tests)
 
 -- a word that names what begins with a letter is no integer
 no_integer : (name : List ℕ) (c : ℕ) (others word : List ℕ) (number : ℤ)
-    → str_to_ascii_lowercase name ≡ c ∷ others → 97 ≤ c → Names word name → ¬ IsInteger word number
+    → str_to_ascii_lowercase name ≡ c ∷ others → 97 ≤ c → SpellsName word name → ¬ IsInteger word number
 no_integer name c others [] number lower low names is = omega (arith, is.digits.0)
 no_integer name c others (b ∷ word) number lower low names is =
     let same = lower_names (b ∷ word) name names in

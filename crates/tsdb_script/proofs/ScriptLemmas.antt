@@ -5,8 +5,8 @@ use Rattle.std.proofs.lemmas.Bool.{eqb-true}
 use Rattle.std.proofs.lemmas.List.Folds.{concat-append}
 use Rattle.tsdb_script.specs.Types.{LineFault, Numbered}
 use Rattle.tsdb_script.specs.declared.fault.LineFault.TheVariants.{Bad, Memory}
-use Rattle.tsdb_script.specs.LineSteps.{fault_at, line_at, AreDifferentOf}
-use Rattle.tsdb_script.specs.Reading.{Line, lines_of, line_behind, sessions_of, Give, no_line, skipped_line, command_line, IsBad, IsCommand, IsFirstBad, IsScript, IsSkipped, RefusesScript}
+use Rattle.tsdb_script.specs.LineSteps.{fault_at, script_line_at, AreDifferentOf}
+use Rattle.tsdb_script.specs.Reading.{ScriptLine, lines_of, line_behind, sessions_of, Give, no_line, skipped_line, command_line, IsBadLine, IsCommand, IsFirstBadLine, IsScript, IsSkipped, RefusesScript}
 use Rattle.tsdb_script.specs.Steps.{FaultsWith}
 
 -- the lines in front give these commands, and the rest is not read
@@ -48,8 +48,8 @@ module _ (bytes : List ℕ) (script : List Numbered) (different rest : List ℕ)
   ends = omega (arith, ap length all_bytes, length-append (concat (so_far.front ++ line ∷ [])) others, ap length pushed, length-append (concat so_far.front) line)
 
   -- the line stands where it is read
-  here : (P : Line → Type 0) → P (line_at line script (length bytes - length others)) → P (line_behind so_far.front script line)
-  here P p = subst (λ n. P (line_at line script n)) (sym ends) p
+  here : (P : ScriptLine → Type 0) → P (script_line_at line script (length bytes - length others)) → P (line_behind so_far.front script line)
+  here P p = subst (λ n. P (script_line_at line script n)) (sym ends) p
 
   module _ (script' : List Numbered) (different' : List ℕ) (fits : length bytes - length others ≤ 67108864)
       (gives : Give (so_far.front ++ line ∷ []) script') (sessions : AreDifferentOf different' (sessions_of script')) where
@@ -66,17 +66,17 @@ module _ (bytes : List ℕ) (script : List Numbered) (different rest : List ℕ)
     }
 
   -- one more line, which is skipped
-  pub more_skipped : IsSkipped (line_at line script (length bytes - length others)) → IsReadSoFar bytes script different others (number + 1)
+  pub more_skipped : IsSkipped (script_line_at line script (length bytes - length others)) → IsReadSoFar bytes script different others (number + 1)
   more_skipped skipped = more script different skipped.script_bytes (skipped_line so_far.front script line so_far.gives (here IsSkipped skipped)) so_far.sessions
 
   -- one more command
-  pub more_command : (numbered : Numbered) (different' : List ℕ) → IsCommand (line_at line script (length bytes - length others)) numbered
+  pub more_command : (numbered : Numbered) (different' : List ℕ) → IsCommand (script_line_at line script (length bytes - length others)) numbered
       → AreDifferentOf different' (sessions_of (script ++ numbered ∷ [])) → IsReadSoFar bytes (script ++ numbered ∷ []) different' others (number + 1)
   more_command numbered different' is sessions =
       more (script ++ numbered ∷ []) different' is.script_bytes (command_line so_far.front script line numbered so_far.gives (here (λ line. IsCommand line numbered) is)) sessions
 
   -- a line that is bad is the first one
-  first_bad : (kind : ℕ) → IsBad (line_at line script (length bytes - length others)) kind → IsFirstBad bytes (number + 1) kind
+  first_bad : (kind : ℕ) → IsBadLine (script_line_at line script (length bytes - length others)) kind → IsFirstBadLine bytes (number + 1) kind
   first_bad kind bad = record {
     before = so_far.front;
     line = line;
@@ -85,10 +85,10 @@ module _ (bytes : List ℕ) (script : List Numbered) (different rest : List ℕ)
     count_is = ap (λ n. n + 1) so_far.count_is;
     script = script;
     good = so_far.gives;
-    bad = here (λ line. IsBad line kind) bad;
+    bad = here (λ line. IsBadLine line kind) bad;
   }
 
-  pub refuses : (fault : LineFault) → FaultsWith (IsBad (line_at line script (length bytes - length others))) fault → RefusesScript bytes (fault_at (number + 1) fault)
+  pub refuses : (fault : LineFault) → FaultsWith (IsBadLine (script_line_at line script (length bytes - length others))) fault → RefusesScript bytes (fault_at (number + 1) fault)
   refuses (Bad kind) bad = first_bad kind bad
   refuses Memory bad = tt
 

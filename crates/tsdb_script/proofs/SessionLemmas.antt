@@ -19,7 +19,7 @@ use Rattle.std.proofs.lemmas.Map.Made.{length-from_keys}
 use Rattle.std.proofs.lemmas.Str.{IsUtf8-from_ascii}
 use Rattle.std.proofs.lemmas.Str.Parse.{digits_value_short, numerals_by_value, tells_digits}
 use Rattle.tsdb_script.specs.Types.{Numbered}
-use Rattle.tsdb_script.specs.LineSteps.{AreDifferentOf, HasRoom}
+use Rattle.tsdb_script.specs.LineSteps.{AreDifferentOf, HasSessionRoom}
 use Rattle.tsdb_script.specs.Reading.{IsSession, session_count, sessions_of}
 use Rattle.tsdb_script.specs.Tokens.{starts}
 
@@ -116,7 +116,7 @@ different-known different sessions session d known = record { distinct = d.disti
 
 -- and with one that is new
 pub different-new : (different sessions : List ℕ) (session : ℕ) → AreDifferentOf different sessions → is_member eq different session ≡ false
-    → HasRoom sessions session → AreDifferentOf (different ++ session ∷ []) (sessions ++ session ∷ [])
+    → HasSessionRoom sessions session → AreDifferentOf (different ++ session ∷ []) (sessions ++ session ∷ [])
 different-new different sessions session d new room = record {
   distinct = IsDistinct-push nat_eq_equiv different session d.distinct new;
   same = λ q. same-new different sessions session q d.same;
@@ -125,7 +125,7 @@ different-new different sessions session d new room = record {
 
 -- a session has room where there are fewer than 8, or it is among them
 pub room : (different sessions : List ℕ) (session : ℕ) → AreDifferentOf different sessions → length sessions < 1000000
-    → (length different < 8) ⊎ (is_member eq different session ≡ true) → HasRoom sessions session
+    → (length different < 8) ⊎ (is_member eq different session ≡ true) → HasSessionRoom sessions session
 room different sessions session d few which = elim (cases_Bool (is_member eq different session)) [
   | inl known ↦ (few, omega (arith, d.few, count-known different sessions session d known))
   | inr new ↦ elim which [
@@ -136,7 +136,7 @@ room different sessions session d few which = elim (cases_Bool (is_member eq dif
 
 -- and where there are 8 it is among them
 pub room_known : (different sessions : List ℕ) (session : ℕ) → AreDifferentOf different sessions → 8 ≤ length different
-    → HasRoom sessions session → is_member eq different session ≡ true
+    → HasSessionRoom sessions session → is_member eq different session ≡ true
 room_known different sessions session d many has = elim (cases_Bool (is_member eq different session)) [
   | inl known ↦ known
   | inr new ↦ absurd (omega (arith, has.1, count-new different sessions session d new))
@@ -151,7 +151,7 @@ sessions-push script numbered = map-append (λ (numbered : Numbered). numbered.s
 
 -- one more command, and the different sessions with its own
 pub pushed-new : (different grown : List ℕ) (script pushed : List Numbered) (numbered : Numbered) (contains : Bool)
-    → AreDifferentOf different (sessions_of script) → HasRoom (sessions_of script) numbered.session → contains ≡ list_any (λ y. eqb y numbered.session) different → contains ≡ false
+    → AreDifferentOf different (sessions_of script) → HasSessionRoom (sessions_of script) numbered.session → contains ≡ list_any (λ y. eqb y numbered.session) different → contains ≡ false
     → grown ≡ different ++ numbered.session ∷ [] → pushed ≡ script ++ numbered ∷ [] → AreDifferentOf grown (sessions_of pushed)
 pushed-new different grown script pushed numbered contains d has is new grows pushes =
     subst (λ l. AreDifferentOf l (sessions_of pushed)) (sym grows)

@@ -5,7 +5,7 @@ use Rattle.std.proofs.lemmas.Bool.{both_ways, cond-false, false≢true, false_fr
 use Rattle.std.proofs.lemmas.Option.{same_Some}
 use Rattle.tsdb_script.specs.Types.{Token}
 use Rattle.tsdb_script.specs.Steps.{after_blanks, content_parts, token_at, text_at}
-use Rattle.tsdb_script.specs.Tokens.{is_blank, is_word_byte, is_quote, is_mark, starts, AreTokensAnd, AreTokens, AreTextAnd, IsStray, IsBadText, HasNoTokens}
+use Rattle.tsdb_script.specs.Tokens.{is_blank, is_word_byte, is_quote, is_mark, starts, AreTokensAnd, AreTokens, AreTextAnd, BeginsWithStray, IsBadText, HasNoTokens}
 use Rattle.tsdb_script.proofs.LexLemmas.{blanks_unique, content_found, either, here, quote_cases, text_found, token_again}
 
 -- a blank begins no token
@@ -23,7 +23,7 @@ record IsFinal (bytes : List ℕ) : Type 0 where
 final_end : IsFinal []
 final_end = record { solid = refl; none = refl }
 
-final_stray : (bytes : List ℕ) → IsStray bytes → IsFinal bytes
+final_stray : (bytes : List ℕ) → BeginsWithStray bytes → IsFinal bytes
 final_stray [] h = absurd (false≢true h)
 final_stray (b ∷ bytes) h =
     let solid = or_parts (is_blank b) (is_word_byte b || (is_quote b || is_mark b)) (not-true _ h) in
@@ -45,7 +45,7 @@ no_text_found (b ∷ bytes) quote no_text =
     by_found None e = refl
     by_found (Some r) e = let t = text_found b bytes (content_parts b bytes) r quote (content_found b bytes) e in absurd (no_text t.0 r.1 t.2)
 
-final_stuck : (rest : List ℕ) (kind : ℕ) → (IsStray rest × (kind ≡ 3)) ⊎ (IsBadText rest × (kind ≡ 6)) → IsFinal rest
+final_stuck : (rest : List ℕ) (kind : ℕ) → (BeginsWithStray rest × (kind ≡ 3)) ⊎ (IsBadText rest × (kind ≡ 6)) → IsFinal rest
 final_stuck rest kind (inl h) = final_stray rest h.0
 final_stuck rest kind (inr h) = record { solid = quote_solid rest h.0.begins; none = no_text_found rest h.0.begins h.0.no_text }
 
@@ -73,19 +73,19 @@ only_one (t ∷ ts) (u ∷ us) line rest rest' f f' h k =
 pub same_tokens : (line : List ℕ) (one other : List Token) → AreTokens line one → AreTokens line other → one ≡ other
 same_tokens line one other h k = (only_one one other line [] [] final_end final_end h k).0
 
-stray_quote : (bytes : List ℕ) → IsStray bytes → IsBadText bytes → ⊥
+stray_quote : (bytes : List ℕ) → BeginsWithStray bytes → IsBadText bytes → ⊥
 stray_quote [] h k = false≢true h
 stray_quote (b ∷ bytes) h k =
     both_ways _ (not-true _ h) (or_right (is_blank b) _ (or_right (is_word_byte b) _ (or_left (is_quote b) (is_mark b) k.begins)))
 
 pub same_kind : (line : List ℕ) (one other : ℕ) → HasNoTokens line one → HasNoTokens line other → one ≡ other
 same_kind line one other h k =
-    by_cases h.stuck (subst (λ r. (IsStray r × (other ≡ 3)) ⊎ (IsBadText r × (other ≡ 6))) (sym same) k.stuck)
+    by_cases h.stuck (subst (λ r. (BeginsWithStray r × (other ≡ 3)) ⊎ (IsBadText r × (other ≡ 6))) (sym same) k.stuck)
   where
     same : h.rest ≡ k.rest
     same = (only_one h.tokens k.tokens line h.rest k.rest (final_stuck h.rest one h.stuck) (final_stuck k.rest other k.stuck) h.front k.front).1
 
-    by_cases : (IsStray h.rest × (one ≡ 3)) ⊎ (IsBadText h.rest × (one ≡ 6)) → (IsStray h.rest × (other ≡ 3)) ⊎ (IsBadText h.rest × (other ≡ 6)) → one ≡ other
+    by_cases : (BeginsWithStray h.rest × (one ≡ 3)) ⊎ (IsBadText h.rest × (one ≡ 6)) → (BeginsWithStray h.rest × (other ≡ 3)) ⊎ (IsBadText h.rest × (other ≡ 6)) → one ≡ other
     by_cases (inl a) (inl b) = a.1 ∙ sym b.1
     by_cases (inl a) (inr b) = absurd (stray_quote h.rest a.0 b.0)
     by_cases (inr a) (inl b) = absurd (stray_quote h.rest b.0 a.0)
@@ -94,8 +94,8 @@ same_kind line one other h k =
 pub not_both : (line : List ℕ) (tokens : List Token) (kind : ℕ) → AreTokens line tokens → ¬ HasNoTokens line kind
 not_both line tokens kind h k =
     let same : [] ≡ k.rest = (only_one tokens k.tokens line [] k.rest final_end (final_stuck k.rest kind k.stuck) h k.front).1 in
-    by_cases (subst (λ r. (IsStray r × (kind ≡ 3)) ⊎ (IsBadText r × (kind ≡ 6))) (sym same) k.stuck)
+    by_cases (subst (λ r. (BeginsWithStray r × (kind ≡ 3)) ⊎ (IsBadText r × (kind ≡ 6))) (sym same) k.stuck)
   where
-    by_cases : (IsStray [] × (kind ≡ 3)) ⊎ (IsBadText [] × (kind ≡ 6)) → ⊥
+    by_cases : (BeginsWithStray [] × (kind ≡ 3)) ⊎ (IsBadText [] × (kind ≡ 6)) → ⊥
     by_cases (inl a) = false≢true a.0
     by_cases (inr b) = false≢true b.0.begins

@@ -7,7 +7,7 @@ use Rattle.std.proofs.lemmas.List.{map-append, take-append-drop}
 use Rattle.std.proofs.lemmas.Grind.{flat_map-append}
 use Rattle.tsdb_script.specs.Types.{LineFault}
 use Rattle.tsdb_script.specs.declared.fault.LineFault.TheVariants.{Bad, Memory}
-use Rattle.tsdb_script.specs.Meaning.{HasBadWord, IsBad, IsGood, Role}
+use Rattle.tsdb_script.specs.Meaning.{HasBadWord, IsBadWord, IsGood, Role}
 use Rattle.tsdb_script.specs.Steps.{FaultsWith}
 
 pub AllByRecursion-append : {A : Type 0} (P : A → Type 0) (xs ys : List A) → AllByRecursion P xs → AllByRecursion P ys → AllByRecursion P (xs ++ ys)
@@ -34,7 +34,7 @@ order (c ∷ a) x xs (d ∷ b) y ys e =
     ]
 
 -- the word behind good ones is bad
-pub bad_behind : (before : List Role) (word : Role) (behind : List Role) (kind : ℕ) → AllByRecursion IsGood before → IsBad word kind → HasBadWord (before ++ word ∷ behind) kind
+pub bad_behind : (before : List Role) (word : Role) (behind : List Role) (kind : ℕ) → AllByRecursion IsGood before → IsBadWord word kind → HasBadWord (before ++ word ∷ behind) kind
 bad_behind before word behind kind good bad =
     record { before = before; word = word; behind = behind; stands = refl; good = good; bad = bad.0; decides = bad.1 }
 
@@ -76,7 +76,7 @@ split_at xs i x lt e = sym (take-append-drop i xs) ∙ ap (λ (t : List _). take
 
 -- the word of one item is bad, and those before it are good
 pub bad_at : {X : Type 0} (f : X → Role) (xs : List X) (i : ℕ) (x : X) (kind : ℕ) → i < length xs → x ≡ get_or xs i x
-    → AllByRecursion IsGood (map f (take i xs)) → IsBad (f x) kind → HasBadWord (map f xs) kind
+    → AllByRecursion IsGood (map f (take i xs)) → IsBadWord (f x) kind → HasBadWord (map f xs) kind
 bad_at f xs i x kind lt e good bad =
     subst (λ (ws : List _). HasBadWord (map f ws) kind) (sym (split_at xs i x lt e))
     (subst (λ ws. HasBadWord ws kind) (sym (map-append f (take i xs) (x ∷ drop (suc i) xs))) (bad_behind (map f (take i xs)) (f x) (map f (drop (suc i) xs)) kind good bad))

@@ -7,11 +7,11 @@ use Rattle.tsdb_script.specs.declared.fault.LineFault.TheVariants.{Bad, Memory}
 use Rattle.tsdb_script.specs.declared.fault.ScriptFault.TheVariants as script
 use Rattle.tsdb_script.specs.declared.token.Token.TheVariants.{Word}
 use Rattle.tsdb_base.specs.Limits.{max_commands, max_sessions}
-use Rattle.tsdb_script.specs.Reading.{sessions_of, session_count, IsSession, Line}
+use Rattle.tsdb_script.specs.Reading.{sessions_of, session_count, IsSession, ScriptLine}
 
 -- a line of these bytes behind these commands, which ends at this place of the script
-abbrev pub line_at : List ℕ → List Numbered → ℕ → Line
-line_at bytes script end = record { bytes = bytes; sessions = sessions_of script; end = end }
+abbrev pub script_line_at : List ℕ → List Numbered → ℕ → ScriptLine
+script_line_at bytes script end = record { bytes = bytes; sessions = sessions_of script; end = end }
 
 -- the different ones of these sessions, each once
 pub record AreDifferentOf (different sessions : List ℕ) : Type 0 where
@@ -20,8 +20,9 @@ pub record AreDifferentOf (different sessions : List ℕ) : Type 0 where
   pub few : length different ≤ max_sessions
 
 -- a command of this session may follow commands of these sessions
-abbrev pub HasRoom : List ℕ → ℕ → Type 0
-HasRoom sessions session = (length sessions < max_commands) × (session_count (sessions ++ session ∷ []) ≤ max_sessions)
+abbrev pub HasSessionRoom : List ℕ → ℕ → Type 0
+HasSessionRoom sessions session =
+    (length sessions < max_commands) × (session_count (sessions ++ session ∷ []) ≤ max_sessions)
 
 -- the tokens are a session and the rest
 pub record HasSession (tokens rest : List Token) (session : ℕ) : Type 0 where

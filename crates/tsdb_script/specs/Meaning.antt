@@ -5,7 +5,8 @@ use Rattle.std.specs.Int.{w64}
 use Rattle.std.specs.List.{AllByRecursion, AllZip, flat_map}
 use Rattle.std.specs.Option.{IsSome}
 use Rattle.std.specs.Str.Parse.{IsNumeral, without_leading_sign, signed_digits_value}
-use Rattle.tsdb_script.specs.Types.{Aggregate, Column, Command, Comparison, Condition, DataType, Encoding, Item, Literal, Operand, Range, Syntax}
+use Rattle.tsdb_script.specs.Types.{Aggregate, SyntaxColumn, Command, Comparison, Condition, DataType, Encoding, Item}
+use Rattle.tsdb_script.specs.Types.{Literal, Operand, Range, Syntax}
 use Rattle.tsdb_base.specs.Notation.{aggregate_name}
 use Rattle.tsdb_base.specs.declared.value.DataType.TheVariants as type
 use Rattle.tsdb_base.specs.declared.value.Encoding.TheVariants as encoding
@@ -31,8 +32,8 @@ pub record IsInteger (word : List ℕ) (number : ℤ) : Type 0 where
   pub fits : FitsSigned w64 number
 
 -- a word is this name, in any ASCII case
-abbrev pub Names : List ℕ → List ℕ → Type 0
-Names word name = is_keyword word name ≡ true
+abbrev pub SpellsName : List ℕ → List ℕ → Type 0
+SpellsName word name = is_keyword word name ≡ true
 
 -- the name of a type
 abbrev pub type_name : DataType → List ℕ
@@ -51,8 +52,8 @@ encoding_name encoding.Ts2diff = codes "ts_2diff"
 -- a value: a text, `true` or `false` in any ASCII case, or an integer
 abbrev pub IsLiteral : Operand → Literal → Type 0
 IsLiteral (operand.Text content) (literal.Text text) = text ≡ content
-IsLiteral (operand.Word word) (literal.Bool true) = Names word (codes "true")
-IsLiteral (operand.Word word) (literal.Bool false) = Names word (codes "false")
+IsLiteral (operand.Word word) (literal.Bool true) = SpellsName word (codes "true")
+IsLiteral (operand.Word word) (literal.Bool false) = SpellsName word (codes "false")
 IsLiteral (operand.Word word) (literal.Int number) = IsInteger word number
 IsLiteral operand literal = ⊥
 
@@ -90,10 +91,10 @@ IsGood (Node word) = IsName word
 IsGood (DeviceOf names word) = IsPath word × IsDevice word × AllByRecursion (λ name. IsPath (child_of word name)) names
 IsGood (Number word) = (number : ℤ) × IsInteger word number
 IsGood (Scalar operand) = (literal : Literal) × IsLiteral operand literal
-IsGood (TypeName word) = (data_type : DataType) × Names word (type_name data_type)
-IsGood (EncodingName type word) = (encoding : Encoding) × Names word (encoding_name encoding)
-    × ((data_type : DataType) → Names type (type_name data_type) → is_suitable data_type encoding ≡ true)
-IsGood (AggregateName word) = (aggregate : Aggregate) × Names word (aggregate_name aggregate)
+IsGood (TypeName word) = (data_type : DataType) × SpellsName word (type_name data_type)
+IsGood (EncodingName type word) = (encoding : Encoding) × SpellsName word (encoding_name encoding)
+    × ((data_type : DataType) → SpellsName type (type_name data_type) → is_suitable data_type encoding ≡ true)
+IsGood (AggregateName word) = (aggregate : Aggregate) × SpellsName word (aggregate_name aggregate)
 
 -- the kind of the fault where it isn't
 abbrev pub kind_of : Role → ℕ
@@ -105,8 +106,8 @@ kind_of (AggregateName word) = 8
 kind_of path_or_name = 4
 
 -- the word is not what its place asks for, which is a fault of this kind
-abbrev pub IsBad : Role → ℕ → Type 0
-IsBad role kind = (¬ IsGood role) × (kind ≡ kind_of role)
+abbrev pub IsBadWord : Role → ℕ → Type 0
+IsBadWord role kind = (¬ IsGood role) × (kind ≡ kind_of role)
 
 abbrev pub condition_roles : List Condition → List Role
 condition_roles conditions = map (λ condition. Number condition.number) conditions
@@ -115,7 +116,7 @@ abbrev pub aggregate_role : Option (List ℕ) → List Role
 aggregate_role None = []
 aggregate_role (Some word) = AggregateName word ∷ []
 
-abbrev pub column_role : Column → List Role
+abbrev pub column_role : SyntaxColumn → List Role
 column_role column = aggregate_role column.aggregate ++ Node column.measurement ∷ []
 
 -- the words of a statement, from the left
@@ -147,13 +148,13 @@ pub record ArePaired {A : Type 0} (names : List (List ℕ)) (values : List A) : 
   pub different : AreDifferent names
 
 -- at most 1,000 items, all with or all without an aggregate
-pub record AreAlike (columns : List Column) : Type 0 where
+pub record AreColumnsAlike (columns : List SyntaxColumn) : Type 0 where
   pub few : length columns ≤ max_names
   pub alike : All (λ column. column.aggregate ≡ None) columns ⊎ All (λ column. IsSome column.aggregate) columns
 
 abbrev pub IsBalanced : Syntax → Type 0
 IsBalanced (Insert device names time values) = ArePaired names values
-IsBalanced (Select columns device conditions) = AreAlike columns
+IsBalanced (Select columns device conditions) = AreColumnsAlike columns
 IsBalanced syntax = Unit {0}
 
 -- ---- what a statement says
@@ -167,36 +168,38 @@ Compares GreaterEqual time number = number ≤ℤ time
 Compares Equal time number = time ≡ number
 
 -- a time meets a condition: it compares so to the number that the condition writes
-abbrev pub Meets : ℤ → Condition → Type 0
-Meets time condition = Compares condition.comparison time (signed_digits_value 10 condition.number)
+abbrev pub MeetsCondition : ℤ → Condition → Type 0
+MeetsCondition time condition = Compares condition.comparison time (signed_digits_value 10 condition.number)
 
 -- the least and the greatest time
-abbrev pub least_time : ℤ
-least_time = negsuc 9223372036854775807
+abbrev pub first_time : ℤ
+first_time = negsuc 9223372036854775807
 
-abbrev pub greatest_time : ℤ
-greatest_time = pos 9223372036854775807
+abbrev pub last_time : ℤ
+last_time = pos 9223372036854775807
 
 -- The range has exactly the times of 64 bits that meet all conditions. No time is the range from the greatest to the least.
 pub record IsRangeOf (conditions : List Condition) (range : Range) : Type 0 where
-  pub times : (time : ℤ) → FitsSigned w64 time → (is_in range time ≡ true) ↔ AllByRecursion (Meets time) conditions
+  pub times : (time : ℤ) → FitsSigned w64 time
+      → (is_in range time ≡ true) ↔ AllByRecursion (MeetsCondition time) conditions
   pub from : FitsSigned w64 range.from
   pub to : FitsSigned w64 range.to
-  pub form : (range.from ≤ℤ range.to) ⊎ ((range.from ≡ greatest_time) × (range.to ≡ least_time))
+  pub form : (range.from ≤ℤ range.to) ⊎ ((range.from ≡ last_time) × (range.to ≡ first_time))
 
 -- the word names the aggregate, where there is one
-abbrev pub IsNamed : Option (List ℕ) → Option Aggregate → Type 0
-IsNamed None None = Unit {0}
-IsNamed (Some word) (Some aggregate) = Names word (aggregate_name aggregate)
-IsNamed word aggregate = ⊥
+abbrev pub NamesAggregate : Option (List ℕ) → Option Aggregate → Type 0
+NamesAggregate None None = Unit {0}
+NamesAggregate (Some word) (Some aggregate) = SpellsName word (aggregate_name aggregate)
+NamesAggregate word aggregate = ⊥
 
-abbrev pub IsItem : Column → Item → Type 0
-IsItem column item = (item.measurement ≡ column.measurement) × IsNamed column.aggregate item.aggregate
+abbrev pub IsItem : SyntaxColumn → Item → Type 0
+IsItem column item = (item.measurement ≡ column.measurement) × NamesAggregate column.aggregate item.aggregate
 
 -- a statement says a command
 abbrev pub Says : Syntax → Command → Type 0
 Says (Create path data_type encoding) (command.Create schema) =
-    (schema.path ≡ path) × Names data_type (type_name schema.data_type) × Names encoding (encoding_name schema.encoding)
+    (schema.path ≡ path) × SpellsName data_type (type_name schema.data_type)
+    × SpellsName encoding (encoding_name schema.encoding)
 Says (Insert device names time values) (command.Insert its_device row) =
     (its_device ≡ device) × IsInteger time row.time
     × (map (λ cell. cell.measurement) row.cells ≡ names) × AllZip IsLiteral values (map (λ cell. cell.value) row.cells)

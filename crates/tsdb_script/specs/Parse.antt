@@ -1,12 +1,13 @@
 -- What the parser finds, step by step, as functions on lists of tokens. No public clause cites them.
 use Rattle.std.specs.Prelude.{◌≡◌, ℕ, zero, suc, length, ◌&&◌, Bool, true, false, List, [], ◌∷◌, Option, None, Some}
 use Rattle.std.specs.Prelude.{Result, Ok, Err, option_map, if◌then◌else◌}
-use Rattle.tsdb_script.specs.Types.{Column, Comparison, Condition, Form, LineFault, Operand, Part, Place, Syntax, Token}
+use Rattle.tsdb_script.specs.Types.{SyntaxColumn, Comparison, Condition, Form, LineFault, Operand, SyntaxPart}
+use Rattle.tsdb_script.specs.Types.{FormPlace, Syntax, Token}
 use Rattle.tsdb_script.specs.declared.form.Keyword.TheVariants as key
-use Rattle.tsdb_script.specs.declared.form.Place.TheVariants as place
+use Rattle.tsdb_script.specs.declared.form.FormPlace.TheVariants as place
 use Rattle.tsdb_script.specs.declared.syntax.Comparison.TheVariants as compared
 use Rattle.tsdb_script.specs.declared.syntax.Operand.TheVariants as operand
-use Rattle.tsdb_script.specs.declared.syntax.Part.TheVariants as part
+use Rattle.tsdb_script.specs.declared.syntax.SyntaxPart.TheVariants as part
 use Rattle.tsdb_script.specs.declared.fault.LineFault.TheVariants.{Bad, Memory}
 use Rattle.tsdb_script.specs.declared.form.TheConstants.{FORMS}
 use Rattle.tsdb_script.specs.declared.token.Token.TheVariants.{Word, Text, Semicolon, Equal, Less}
@@ -21,10 +22,10 @@ None >>= f = None
 (Some x) >>= f = f x
 
 -- what a step of the parser returned, seen by a view, is what it finds; where it finds nothing the fault is of kind 3
-abbrev pub Gives : {X Y : Type 0} → (X → Y) → Result X LineFault → Option Y → Type 0
-Gives view (Ok x) found = found ≡ Some (view x)
-Gives view (Err (Bad kind)) found = (found ≡ None) × (kind ≡ 3)
-Gives view (Err Memory) found = Unit {0}
+abbrev pub ParsesTo : {X Y : Type 0} → (X → Y) → Result X LineFault → Option Y → Type 0
+ParsesTo view (Ok x) found = found ≡ Some (view x)
+ParsesTo view (Err (Bad kind)) found = (found ≡ None) × (kind ≡ 3)
+ParsesTo view (Err Memory) found = Unit {0}
 
 abbrev pub Tokens : Type 0
 Tokens = List Token
@@ -33,11 +34,11 @@ abbrev pub says : List ℕ → Token → Bool
 says name (Word word) = is_keyword word name
 says name token = false
 
-abbrev pub stands_at : Place → Tokens → Bool
+abbrev pub stands_at : FormPlace → Tokens → Bool
 stands_at place [] = false
 stands_at place (token ∷ rest) = is_at place token
 
-abbrev pub fixed_at : Place → Tokens → Option Tokens
+abbrev pub fixed_at : FormPlace → Tokens → Option Tokens
 fixed_at place [] = None
 fixed_at place (token ∷ rest) = if is_at place token then Some rest else None
 
@@ -70,21 +71,21 @@ condition_at tokens = do
   number ← word_at comparison.1
   Some (record { comparison = comparison.0; number = number.0 }, number.1)
 
-unfoldable pub called_at : List ℕ → Tokens → Option (Column × Tokens)
+unfoldable pub called_at : List ℕ → Tokens → Option (SyntaxColumn × Tokens)
 called_at aggregate tokens = do
   rest ← fixed_at place.Open tokens
   measurement ← word_at rest
   rest ← fixed_at place.Close measurement.1
   Some (record { aggregate = Some aggregate; measurement = measurement.0 }, rest)
 
-unfoldable pub column_at : Tokens → Option (Column × Tokens)
+unfoldable pub column_at : Tokens → Option (SyntaxColumn × Tokens)
 column_at tokens = do
   first ← word_at tokens
   if stands_at place.Open first.1 then called_at first.0 first.1
       else Some (record { aggregate = None; measurement = first.0 }, first.1)
 
 -- the items as long as there are more, but at most so many
-abbrev pub items_at : {X : Type 0} → Place → (Tokens → Option (X × Tokens)) → ℕ → Tokens → Option (List X × Tokens)
+abbrev pub items_at : {X : Type 0} → FormPlace → (Tokens → Option (X × Tokens)) → ℕ → Tokens → Option (List X × Tokens)
 items_at between item zero tokens = Some ([], tokens)
 items_at between item (suc n) tokens =
     if stands_at between tokens
@@ -92,7 +93,7 @@ items_at between item (suc n) tokens =
     else Some ([], tokens)
 
 -- one item, and more behind it
-abbrev pub list_at : {X : Type 0} → Place → (Tokens → Option (X × Tokens)) → Tokens → Option (List X × Tokens)
+abbrev pub list_at : {X : Type 0} → FormPlace → (Tokens → Option (X × Tokens)) → Tokens → Option (List X × Tokens)
 list_at between item tokens = item tokens >>= (λ x. option_map (onto x.0) (items_at between item (length x.1) x.1))
 
 unfoldable pub conditions_at : Tokens → Option (List Condition × Tokens)
@@ -102,42 +103,43 @@ conditions_at tokens =
     else Some ([], tokens)
 
 -- what stands at a place: its part, where it has one
-unfoldable pub place_at : Place → Tokens → Option (Option Part × Tokens)
-place_at place.Word tokens = do
+unfoldable pub part_at : FormPlace → Tokens → Option (Option SyntaxPart × Tokens)
+part_at place.Word tokens = do
   word ← word_at tokens
   Some (Some (part.Word word.0), word.1)
-place_at place.Names tokens = do
+part_at place.Names tokens = do
   names ← list_at place.Comma word_at tokens
   Some (Some (part.Names names.0), names.1)
-place_at place.Values tokens = do
+part_at place.Values tokens = do
   values ← list_at place.Comma operand_at tokens
   Some (Some (part.Values values.0), values.1)
-place_at place.Columns tokens = do
+part_at place.Columns tokens = do
   columns ← list_at place.Comma column_at tokens
   Some (Some (part.Columns columns.0), columns.1)
-place_at place.Where tokens = do
+part_at place.Where tokens = do
   conditions ← conditions_at tokens
   Some (Some (part.Conditions conditions.0), conditions.1)
-place_at place tokens = do
+part_at place tokens = do
   rest ← fixed_at place tokens
   Some (None, rest)
 
 -- a part, where there is one, put before others
-abbrev pub before : Option Part → List Part → List Part
-before None parts = parts
-before (Some part) parts = part ∷ parts
+abbrev pub before_parts : Option SyntaxPart → List SyntaxPart → List SyntaxPart
+before_parts None parts = parts
+before_parts (Some part) parts = part ∷ parts
 
 -- the parts that stand at the places
-abbrev pub read_at : List Place → Tokens → Option (List Part)
-read_at [] tokens = end_at tokens >>= (λ nothing. Some [])
-read_at (place ∷ places) tokens = place_at place tokens >>= (λ found. option_map (before found.0) (read_at places found.1))
+abbrev pub parts_at : List FormPlace → Tokens → Option (List SyntaxPart)
+parts_at [] tokens = end_at tokens >>= (λ nothing. Some [])
+parts_at (place ∷ places) tokens =
+    part_at place tokens >>= (λ found. option_map (before_parts found.0) (parts_at places found.1))
 
-abbrev pub is_keyword_place : Place → Bool
+abbrev pub is_keyword_place : FormPlace → Bool
 is_keyword_place (place.Keyword keyword) = true
 is_keyword_place place = false
 
 -- the tokens begin with the keywords that the places begin with
-abbrev pub begins_at : List Place → Tokens → Bool
+abbrev pub begins_at : List FormPlace → Tokens → Bool
 begins_at [] tokens = true
 begins_at (place ∷ places) [] = if is_keyword_place place then false else true
 begins_at (place ∷ places) (token ∷ tokens) = if is_keyword_place place then is_at place token && begins_at places tokens else true
@@ -150,5 +152,5 @@ form_at (form ∷ forms) tokens = if begins_at (places form) tokens then Some fo
 unfoldable pub statement_at : Tokens → Option Syntax
 statement_at tokens = do
   form ← form_at FORMS.now tokens
-  parts ← read_at (places form) tokens
+  parts ← parts_at (places form) tokens
   Some (statement_of form parts)

@@ -36,7 +36,7 @@ is_skipped line = starts (λ b. b == 35) line || list_all is_blank (content_of l
 
 -- a line where it stands in a script: its bytes with its end, the session of each command before it, and the number of
 -- bytes of the script up to its end
-pub record Line : Type 0 where
+pub record ScriptLine : Type 0 where
   pub bytes : List ℕ
   pub sessions : List ℕ
   pub end : ℕ
@@ -51,7 +51,7 @@ pub record IsSession (word : List ℕ) (session : ℕ) : Type 0 where
   pub value : session ≡ digits_value 10 word
 
 -- the line is a session and a statement
-pub record IsOfSession (line : Line) (session : ℕ) (statement : List Token) : Type 0 where
+pub record IsOfSession (line : ScriptLine) (session : ℕ) (statement : List Token) : Type 0 where
   pub word : List ℕ
   pub tokens : AreTokens (content_of line.bytes) (Word word ∷ statement)
   pub number : IsSession word session
@@ -67,24 +67,24 @@ BeginsStatement (token ∷ rest) = IsTrue (list_any (λ form. starts (λ place. 
 
 -- ---- the passes over a line, of which the first that objects decides the kind
 
-pub data Pass : Type 0 where
-  Limits : Pass
-  Tokens : Pass
-  Session : Pass
-  Room : Pass
-  FirstWord : Pass
-  Form : Pass
-  Meaning : Pass
+pub data ReadingPass : Type 0 where
+  Limits : ReadingPass
+  Tokens : ReadingPass
+  Session : ReadingPass
+  Room : ReadingPass
+  FirstWord : ReadingPass
+  Form : ReadingPass
+  Meaning : ReadingPass
 
-abbrev pub passes : List Pass
+abbrev pub passes : List ReadingPass
 passes = Limits ∷ Tokens ∷ Session ∷ Room ∷ FirstWord ∷ Form ∷ Meaning ∷ []
 
 -- the line is a session and a statement of which this holds
-abbrev pub OfStatement : Line → (ℕ → List Token → Type 0) → Type 0
+abbrev pub OfStatement : ScriptLine → (ℕ → List Token → Type 0) → Type 0
 OfStatement line P = (session : ℕ) × (statement : List Token) × IsOfSession line session statement × P session statement
 
 -- what each pass objects to, and the kind of the fault
-abbrev pub ObjectsIn : Pass → Line → ℕ → Type 0
+abbrev pub ObjectsIn : ReadingPass → ScriptLine → ℕ → Type 0
 -- A: the line is too long, or the script's limit is passed in it
 ObjectsIn Limits line kind = ((max_line_bytes < length line.bytes) ⊎ (max_script_bytes < line.end)) × (kind ≡ 9)
 -- B: a byte begins no token, or a text is bad
@@ -105,18 +105,18 @@ ObjectsIn Meaning line kind = OfStatement line
     (λ session statement. (syntax : Syntax) × Fits statement syntax × Objects syntax kind)
 
 -- the first of these passes that objects to the line does so with this kind
-abbrev pub FirstObjects : List Pass → Line → ℕ → Type 0
+abbrev pub FirstObjects : List ReadingPass → ScriptLine → ℕ → Type 0
 FirstObjects [] line kind = ⊥
 FirstObjects (pass ∷ later) line kind = ObjectsIn pass line kind
     ⊎ (((any : ℕ) → ¬ ObjectsIn pass line any) × FirstObjects later line kind)
 
 -- ---- what a line is: skipped, a command, or bad
 
-pub record IsSkipped (line : Line) : Type 0 where
+pub record IsSkipped (line : ScriptLine) : Type 0 where
   pub says_nothing : is_skipped line.bytes ≡ true
   pub script_bytes : line.end ≤ max_script_bytes
 
-pub record IsCommand (line : Line) (numbered : Numbered) : Type 0 where
+pub record IsCommand (line : ScriptLine) (numbered : Numbered) : Type 0 where
   pub says_something : is_skipped line.bytes ≡ false
   pub line_bytes : length line.bytes ≤ max_line_bytes
   pub script_bytes : line.end ≤ max_script_bytes
@@ -129,8 +129,8 @@ pub record IsCommand (line : Line) (numbered : Numbered) : Type 0 where
   pub means : Means syntax numbered.command
 
 -- only the script's limit is asked of a line that says nothing
-abbrev pub IsBad : Line → ℕ → Type 0
-IsBad line kind = ((is_skipped line.bytes ≡ true) × (max_script_bytes < line.end) × (kind ≡ 9))
+abbrev pub IsBadLine : ScriptLine → ℕ → Type 0
+IsBadLine line kind = ((is_skipped line.bytes ≡ true) × (max_script_bytes < line.end) × (kind ≡ 9))
     ⊎ ((is_skipped line.bytes ≡ false) × FirstObjects passes line kind)
 
 -- ---- what a script is
@@ -140,7 +140,7 @@ abbrev pub sessions_of : List Numbered → List ℕ
 sessions_of script = map (λ numbered. numbered.session) script
 
 -- the line of these bytes behind lines that give these commands
-abbrev pub line_behind : List (List ℕ) → List Numbered → List ℕ → Line
+abbrev pub line_behind : List (List ℕ) → List Numbered → List ℕ → ScriptLine
 line_behind lines script bytes =
     record { bytes = bytes; sessions = sessions_of script; end = length (concat lines) + length bytes }
 
@@ -158,7 +158,7 @@ abbrev pub IsScript : List ℕ → List Numbered → Type 0
 IsScript bytes script = Give (lines_of bytes) script
 
 -- the first bad line, counted from 1, and the kind of its fault
-pub record IsFirstBad (bytes : List ℕ) (number kind : ℕ) : Type 0 where
+pub record IsFirstBadLine (bytes : List ℕ) (number kind : ℕ) : Type 0 where
   pub before : List (List ℕ)
   pub line : List ℕ
   pub behind : List (List ℕ)
@@ -166,10 +166,10 @@ pub record IsFirstBad (bytes : List ℕ) (number kind : ℕ) : Type 0 where
   pub count_is : number ≡ length before + 1
   pub script : List Numbered
   pub good : Give before script
-  pub bad : IsBad (line_behind before script line) kind
+  pub bad : IsBadLine (line_behind before script line) kind
 
 -- what every script keeps to
-pub record IsWithinLimits (bytes : List ℕ) (script : List Numbered) : Type 0 where
+pub record IsScriptWithinLimits (bytes : List ℕ) (script : List Numbered) : Type 0 where
   pub short : length bytes ≤ max_script_bytes
   pub commands : length script ≤ max_commands
   pub sessions : session_count (sessions_of script) ≤ max_sessions
@@ -177,5 +177,5 @@ pub record IsWithinLimits (bytes : List ℕ) (script : List Numbered) : Type 0 w
 
 -- why bytes are refused as a script; memory may run out at any place
 abbrev pub RefusesScript : List ℕ → ScriptFault → Type 0
-RefusesScript bytes (fault.Bad line kind) = IsFirstBad bytes line kind
+RefusesScript bytes (fault.Bad line kind) = IsFirstBadLine bytes line kind
 RefusesScript bytes fault.Memory = Unit {0}

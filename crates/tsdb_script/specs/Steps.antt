@@ -2,7 +2,7 @@
 use Rattle.std.specs.Prelude.{◌≡◌, ◌⊎◌, ℕ, ◌≤ℤ◌, ◌==◌, FitsSigned, List, [], ◌∷◌, Option, None, Some, option_map, option_and_then, nat_le, length}
 use Rattle.std.specs.Prelude.{if◌then◌else◌}
 use Rattle.std.specs.Int.{w64}
-use Rattle.tsdb_script.specs.Meaning.{greatest_time, least_time}
+use Rattle.tsdb_script.specs.Meaning.{last_time, first_time}
 use Rattle.tsdb_script.specs.Types.{LineFault, Range, Token}
 use Rattle.tsdb_script.specs.declared.fault.LineFault.TheVariants.{Bad, Memory}
 use Rattle.tsdb_script.specs.declared.token.Token.TheVariants.{Word, Text, Open, Close, Comma, Semicolon, Equal, Less}
@@ -85,4 +85,4 @@ FaultsWith reasons Memory = Unit {0}
 pub record HasRangeForm (range : Range) : Type 0 where
   pub from : FitsSigned w64 range.from
   pub to : FitsSigned w64 range.to
-  pub form : (range.from ≤ℤ range.to) ⊎ ((range.from ≡ greatest_time) × (range.to ≡ least_time))
+  pub form : (range.from ≤ℤ range.to) ⊎ ((range.from ≡ last_time) × (range.to ≡ first_time))

@@ -80,8 +80,8 @@ abbrev pub AreTokens : List ℕ → List Token → Type 0
 AreTokens line tokens = AreTokensAnd tokens line []
 
 -- the bytes begin with one that is no blank and begins no token
-abbrev pub IsStray : List ℕ → Type 0
-IsStray bytes = starts (λ b. not (is_blank b || (is_word_byte b || (is_quote b || is_mark b)))) bytes ≡ true
+abbrev pub BeginsWithStray : List ℕ → Type 0
+BeginsWithStray bytes = starts (λ b. not (is_blank b || (is_word_byte b || (is_quote b || is_mark b)))) bytes ≡ true
 
 -- the bytes begin with a quote, but with no text: it is not closed, or too long
 pub record IsBadText (bytes : List ℕ) : Type 0 where
@@ -93,4 +93,4 @@ pub record HasNoTokens (line : List ℕ) (kind : ℕ) : Type 0 where
   pub tokens : List Token
   pub rest : List ℕ
   pub front : AreTokensAnd tokens line rest
-  pub stuck : (IsStray rest × (kind ≡ 3)) ⊎ (IsBadText rest × (kind ≡ 6))
+  pub stuck : (BeginsWithStray rest × (kind ≡ 3)) ⊎ (IsBadText rest × (kind ≡ 6))

@@ -10,12 +10,12 @@ pub use Rattle.tsdb_model.specs.declared.command.Literal.{Literal}
 pub use Rattle.tsdb_script.specs.declared.fault.LineFault.{LineFault}
 pub use Rattle.tsdb_script.specs.declared.fault.ScriptFault.{ScriptFault}
 pub use Rattle.tsdb_script.specs.declared.form.Form.{Form}
-pub use Rattle.tsdb_script.specs.declared.form.Place.{Place}
+pub use Rattle.tsdb_script.specs.declared.form.FormPlace.{FormPlace}
 pub use Rattle.tsdb_script.specs.declared.numbered.Numbered.{Numbered}
-pub use Rattle.tsdb_script.specs.declared.syntax.Column.{Column}
+pub use Rattle.tsdb_script.specs.declared.syntax.SyntaxColumn.{SyntaxColumn}
 pub use Rattle.tsdb_script.specs.declared.syntax.Comparison.{Comparison}
 pub use Rattle.tsdb_script.specs.declared.syntax.Condition.{Condition}
 pub use Rattle.tsdb_script.specs.declared.syntax.Operand.{Operand}
-pub use Rattle.tsdb_script.specs.declared.syntax.Part.{Part}
+pub use Rattle.tsdb_script.specs.declared.syntax.SyntaxPart.{SyntaxPart}
 pub use Rattle.tsdb_script.specs.declared.syntax.Syntax.{Syntax}
 pub use Rattle.tsdb_script.specs.declared.token.Token.{Token}

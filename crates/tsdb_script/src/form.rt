@@ -64,7 +64,7 @@ impl Keyword {
 
 /// What stands at a place of a form.
 #[derive(Clone, Copy)]
-pub enum Place {
+pub enum FormPlace {
     /// A keyword, in any ASCII case.
     Keyword(Keyword),
     /// `timestamp` or `time`, in any ASCII case.
@@ -85,12 +85,12 @@ pub enum Place {
     Where,
 }
 
-impl Place {
+impl FormPlace {
     /// Whether it is a place for a keyword.
     pub fn is_keyword(self) -> bool
         ensures { result ≡ is_keyword_place self }
     {
-        matches!(self, Place::Keyword(_))
+        matches!(self, FormPlace::Keyword(_))
     }
 }
 
@@ -122,82 +122,82 @@ pub const FORMS: &[Form] = &[
 ];
 
 /// `create timeseries P with datatype = W , encoding = W`
-pub const CREATE: &[Place] = &[
-    Place::Keyword(Keyword::Create),
-    Place::Keyword(Keyword::TimeSeries),
-    Place::Word,
-    Place::Keyword(Keyword::With),
-    Place::Keyword(Keyword::DataType),
-    Place::Equal,
-    Place::Word,
-    Place::Comma,
-    Place::Keyword(Keyword::Encoding),
-    Place::Equal,
-    Place::Word,
+pub const CREATE: &[FormPlace] = &[
+    FormPlace::Keyword(Keyword::Create),
+    FormPlace::Keyword(Keyword::TimeSeries),
+    FormPlace::Word,
+    FormPlace::Keyword(Keyword::With),
+    FormPlace::Keyword(Keyword::DataType),
+    FormPlace::Equal,
+    FormPlace::Word,
+    FormPlace::Comma,
+    FormPlace::Keyword(Keyword::Encoding),
+    FormPlace::Equal,
+    FormPlace::Word,
 ];
 
 /// `insert into D ( timestamp , M , M .. ) values ( N , V , V .. )`
-pub const INSERT: &[Place] = &[
-    Place::Keyword(Keyword::Insert),
-    Place::Keyword(Keyword::Into),
-    Place::Word,
-    Place::Open,
-    Place::Timestamp,
-    Place::Comma,
-    Place::Names,
-    Place::Close,
-    Place::Keyword(Keyword::Values),
-    Place::Open,
-    Place::Word,
-    Place::Comma,
-    Place::Values,
-    Place::Close,
+pub const INSERT: &[FormPlace] = &[
+    FormPlace::Keyword(Keyword::Insert),
+    FormPlace::Keyword(Keyword::Into),
+    FormPlace::Word,
+    FormPlace::Open,
+    FormPlace::Timestamp,
+    FormPlace::Comma,
+    FormPlace::Names,
+    FormPlace::Close,
+    FormPlace::Keyword(Keyword::Values),
+    FormPlace::Open,
+    FormPlace::Word,
+    FormPlace::Comma,
+    FormPlace::Values,
+    FormPlace::Close,
 ];
 
 /// `delete from P`, and conditions or none
-pub const DELETE: &[Place] = &[
-    Place::Keyword(Keyword::Delete),
-    Place::Keyword(Keyword::From),
-    Place::Word,
-    Place::Where,
+pub const DELETE: &[FormPlace] = &[
+    FormPlace::Keyword(Keyword::Delete),
+    FormPlace::Keyword(Keyword::From),
+    FormPlace::Word,
+    FormPlace::Where,
 ];
 
 /// `select I , I .. from D`, and conditions or none
-pub const SELECT: &[Place] = &[
-    Place::Keyword(Keyword::Select),
-    Place::Columns,
-    Place::Keyword(Keyword::From),
-    Place::Word,
-    Place::Where,
+pub const SELECT: &[FormPlace] = &[
+    FormPlace::Keyword(Keyword::Select),
+    FormPlace::Columns,
+    FormPlace::Keyword(Keyword::From),
+    FormPlace::Word,
+    FormPlace::Where,
 ];
 
-pub const FLUSH: &[Place] = &[Place::Keyword(Keyword::Flush)];
+pub const FLUSH: &[FormPlace] = &[FormPlace::Keyword(Keyword::Flush)];
 
-pub const COMPACT_SEQUENCE: &[Place] = &[
-    Place::Keyword(Keyword::Compact),
-    Place::Keyword(Keyword::Inner),
-    Place::Keyword(Keyword::Sequence),
+pub const COMPACT_SEQUENCE: &[FormPlace] = &[
+    FormPlace::Keyword(Keyword::Compact),
+    FormPlace::Keyword(Keyword::Inner),
+    FormPlace::Keyword(Keyword::Sequence),
 ];
 
-pub const COMPACT_UNSEQUENCE: &[Place] = &[
-    Place::Keyword(Keyword::Compact),
-    Place::Keyword(Keyword::Inner),
-    Place::Keyword(Keyword::Unsequence),
+pub const COMPACT_UNSEQUENCE: &[FormPlace] = &[
+    FormPlace::Keyword(Keyword::Compact),
+    FormPlace::Keyword(Keyword::Inner),
+    FormPlace::Keyword(Keyword::Unsequence),
 ];
 
-pub const COMPACT_CROSS: &[Place] = &[
-    Place::Keyword(Keyword::Compact),
-    Place::Keyword(Keyword::Cross),
+pub const COMPACT_CROSS: &[FormPlace] = &[
+    FormPlace::Keyword(Keyword::Compact),
+    FormPlace::Keyword(Keyword::Cross),
 ];
 
-pub const SHOW_FILES: &[Place] = &[
-    Place::Keyword(Keyword::Show),
-    Place::Keyword(Keyword::Files),
+pub const SHOW_FILES: &[FormPlace] = &[
+    FormPlace::Keyword(Keyword::Show),
+    FormPlace::Keyword(Keyword::Files),
 ];
 
 impl Form {
     /// The places of the form, from the left.
-    pub fn places(self) -> &'static [Place]
+    pub fn places(self) -> &'static [FormPlace]
         ensures { result.now ≡ places self }
     {
         match self {

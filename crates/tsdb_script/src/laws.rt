@@ -6,7 +6,7 @@ ghost use Rattle.tsdb_script.specs.declared.syntax.Syntax.{Syntax};
 ghost use Rattle.tsdb_script.specs.declared.token.Token.{Token};
 ghost use Rattle.tsdb_script.specs.Forms.{Fits};
 ghost use Rattle.tsdb_base.specs.Limits.{max_script_bytes};
-ghost use Rattle.tsdb_script.specs.Reading.{IsFirstBad, IsScript, IsWithinLimits};
+ghost use Rattle.tsdb_script.specs.Reading.{IsFirstBadLine, IsScript, IsScriptWithinLimits};
 ghost use Rattle.tsdb_script.specs.Tokens.{AreTokens, HasNoTokens};
 
 /// A line has one list of tokens, or a fault of one kind.
@@ -27,15 +27,16 @@ pub fn one_statement()
 pub fn one_script()
     ensures commands { (bytes : List ℕ) (one other : List Numbered) → IsScript bytes one → IsScript bytes other
         → one ≡ other }
-    ensures bad { (bytes : List ℕ) (line kind other_line other_kind : ℕ) → IsFirstBad bytes line kind
-        → IsFirstBad bytes other_line other_kind → (line ≡ other_line) × (kind ≡ other_kind) }
+    ensures bad { (bytes : List ℕ) (line kind other_line other_kind : ℕ) → IsFirstBadLine bytes line kind
+        → IsFirstBadLine bytes other_line other_kind → (line ≡ other_line) × (kind ≡ other_kind) }
     ensures either { (bytes : List ℕ) (script : List Numbered) (line kind : ℕ) → IsScript bytes script
-        → ¬ IsFirstBad bytes line kind }
+        → ¬ IsFirstBadLine bytes line kind }
 {}
 
 /// A script keeps to the limits, and its commands are well formed.
 pub fn good_script()
-    ensures limits { (bytes : List ℕ) (script : List Numbered) → IsScript bytes script → IsWithinLimits bytes script }
+    ensures limits { (bytes : List ℕ) (script : List Numbered) → IsScript bytes script
+        → IsScriptWithinLimits bytes script }
     ensures well_formed { (bytes : List ℕ) (script : List Numbered) → IsScript bytes script
         → All (λ numbered. IsWellFormed numbered.command) script }
 {}
@@ -43,7 +44,7 @@ pub fn good_script()
 /// Whoever reads one byte more than a script may have needs no byte behind it.
 pub fn cut_script()
     ensures bad { (front rest : List ℕ) (line kind : ℕ) → max_script_bytes < length front
-        → IsFirstBad front line kind ↔ IsFirstBad (front ++ rest) line kind }
+        → IsFirstBadLine front line kind ↔ IsFirstBadLine (front ++ rest) line kind }
     ensures long { (front rest : List ℕ) (script : List Numbered) → max_script_bytes < length front
         → ¬ IsScript (front ++ rest) script }
 {}

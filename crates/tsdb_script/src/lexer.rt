@@ -6,7 +6,7 @@ ghost use Rattle.tsdb_script.specs.Steps.{unescape, word_parts, FaultsWith};
 ghost use Rattle.tsdb_script.specs.Tokens.{is_blank, is_mark, is_quote, is_word_byte, starts, AreTokens, HasNoTokens};
 
 use crate::fault::LineFault;
-use crate::token::{Quoted, Token, Word};
+use crate::token::{Quoted, Token, WordToken};
 use std::alloc::Global;
 use std::collections::VecDeque;
 use tsdb_base::limits::MAX_TEXT_BYTES;
@@ -141,16 +141,16 @@ fn greater<'a>(rest: &'a [u8]) -> (Token<'a>, &'a [u8])
 }
 
 /// The longest word that the bytes begin with, and what stands behind it.
-fn word<'a>(bytes: &'a [u8]) -> (Word<'a>, &'a [u8])
+fn word<'a>(bytes: &'a [u8]) -> (WordToken<'a>, &'a [u8])
     ensures { (result.0, result.1.now) ≡ word_parts bytes.now }
 {
     for (at, byte) in bytes.iter().enumerate() {
         if !is_word_byte(*byte) {
             let (word, rest) = bytes.split_at(at);
-            return (Word::of(word), rest);
+            return (WordToken::of(word), rest);
         }
     }
-    (Word::of(bytes), &[])
+    (WordToken::of(bytes), &[])
 }
 
 /// The text behind its first quote, and what stands behind it.

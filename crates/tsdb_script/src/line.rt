@@ -3,9 +3,9 @@
 ghost use Rattle.std.specs.Prelude.{◌≡◌, ◌↔◌, ◌≤◌, ℕ, length, false, IsTrue, IfOk, IfErr, IfSome, IfNone};
 ghost use Rattle.tsdb_model.specs.Commands.{IsWellFormed};
 ghost use Rattle.tsdb_base.specs.Limits.{max_commands, max_line_bytes, max_script_bytes};
-ghost use Rattle.tsdb_script.specs.Reading.{content_of, is_skipped, sessions_of, BeginsStatement, IsBad, IsCommand};
+ghost use Rattle.tsdb_script.specs.Reading.{content_of, is_skipped, sessions_of, BeginsStatement, IsBadLine, IsCommand};
 ghost use Rattle.tsdb_script.specs.Reading.{IsSession, IsSkipped};
-ghost use Rattle.tsdb_script.specs.LineSteps.{line_at, AreDifferentOf, HasNoSession, HasRoom, HasSession};
+ghost use Rattle.tsdb_script.specs.LineSteps.{script_line_at, AreDifferentOf, HasNoSession, HasSessionRoom, HasSession};
 ghost use Rattle.tsdb_script.specs.Steps.{FaultsWith};
 
 use crate::fault::LineFault;
@@ -14,7 +14,7 @@ use crate::lines::{begins_with, content, is_skipped};
 use crate::meaning::command_of;
 use crate::numbered::Numbered;
 use crate::parser::{Tokens, begins_form, statement};
-use crate::token::{Token, Word};
+use crate::token::{Token, WordToken};
 use std::alloc::Global;
 use std::str;
 use tsdb_base::limits::{MAX_COMMANDS, MAX_LINE_BYTES, MAX_SCRIPT_BYTES, MAX_SESSIONS};
@@ -38,9 +38,9 @@ pub fn read_line(
     sessions: &[u16],
 ) -> Result<Option<Numbered>, LineFault>
     requires { AreDifferentOf sessions.now (sessions_of script.now) }
-    ensures command { IfOk result (λ said. IfSome said (IsCommand (line_at line.now script.now end))) }
-    ensures skipped { IfOk result (λ said. IfNone said (IsSkipped (line_at line.now script.now end))) }
-    ensures bad { IfErr result (FaultsWith (IsBad (line_at line.now script.now end))) }
+    ensures command { IfOk result (λ said. IfSome said (IsCommand (script_line_at line.now script.now end))) }
+    ensures skipped { IfOk result (λ said. IfNone said (IsSkipped (script_line_at line.now script.now end))) }
+    ensures bad { IfErr result (FaultsWith (IsBadLine (script_line_at line.now script.now end))) }
 {
     if end > MAX_SCRIPT_BYTES {
         return Err(PAST_LIMIT);
@@ -67,8 +67,8 @@ fn read_command(
     requires line_bytes { length line.now ≤ max_line_bytes }
     requires script_bytes { end ≤ max_script_bytes }
     requires sessions { AreDifferentOf sessions.now (sessions_of script.now) }
-    ensures command { IfOk result (IsCommand (line_at line.now script.now end)) }
-    ensures bad { IfErr result (FaultsWith (IsBad (line_at line.now script.now end))) }
+    ensures command { IfOk result (IsCommand (script_line_at line.now script.now end)) }
+    ensures bad { IfErr result (FaultsWith (IsBadLine (script_line_at line.now script.now end))) }
 {
     let mut tokens = tokens(alloc, content(line))?;
     let session = session(&mut tokens)?;
@@ -95,7 +95,7 @@ fn session(tokens: &mut Tokens) -> Result<u16, LineFault>
 }
 
 /// The session that a word names.
-fn session_of(word: &Word) -> Option<u16>
+fn session_of(word: &WordToken) -> Option<u16>
     ensures found { IfSome result (IsSession word.now) }
     ensures none { IfNone result ((session : ℕ) → ¬ IsSession word.now session) }
 {
@@ -109,7 +109,7 @@ fn session_of(word: &Word) -> Option<u16>
 /// Whether a script of these commands may go on with one of this session.
 fn has_room(script: &[Numbered], sessions: &[u16], session: u16) -> bool
     requires { AreDifferentOf sessions.now (sessions_of script.now) }
-    ensures { IsTrue result ↔ HasRoom (sessions_of script.now) session }
+    ensures { IsTrue result ↔ HasSessionRoom (sessions_of script.now) session }
 {
     script.len() < MAX_COMMANDS && (sessions.len() < MAX_SESSIONS || sessions.contains(&session))
 }

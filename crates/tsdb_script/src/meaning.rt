@@ -5,18 +5,19 @@ ghost use Rattle.std.specs.List.{AllByRecursion, AllZip, flat_map};
 ghost use Rattle.std.specs.Option.{IsSome};
 ghost use Rattle.tsdb_model.specs.Commands.{AreDifferent, IsWellFormed};
 ghost use Rattle.tsdb_path.specs.Nodes.{IsPath, child_of};
-ghost use Rattle.tsdb_script.specs.Forms.{HasParts};
-ghost use Rattle.tsdb_script.specs.Meaning.{HasBadWord, AreAlike, IsBad, ArePaired, IsGood, IsItem, IsLiteral, IsNamed};
+ghost use Rattle.tsdb_script.specs.Forms.{HasNeededParts};
+ghost use Rattle.tsdb_script.specs.Meaning.{HasBadWord, AreColumnsAlike, IsBadWord, ArePaired, IsGood, IsItem};
+ghost use Rattle.tsdb_script.specs.Meaning.{IsLiteral, NamesAggregate};
 ghost use Rattle.tsdb_script.specs.Meaning.{Means, Objects, aggregate_role, column_role};
 ghost use Rattle.tsdb_script.specs.Meaning.{DeviceOf, Measurement, Scalar};
 ghost use Rattle.tsdb_script.specs.Steps.{FaultsWith};
 
 use crate::conditions::range_of;
 use crate::fault::LineFault;
-use crate::syntax::{Column, Condition, Operand, Syntax};
-use crate::token::Word;
+use crate::syntax::{Condition, Operand, Syntax, SyntaxColumn};
+use crate::token::WordToken;
 use crate::words::{
-    NO_PATH, aggregate, data_type, device_path, encoding, literal, node, number, room_of,
+    NO_PATH, data_type, device_path, encoding, literal, node, number, read_aggregate, room_of,
     series_path,
 };
 use std::alloc::Global;
@@ -30,7 +31,7 @@ use tsdb_path::{Name, Path};
 const UNBALANCED: LineFault = LineFault::Bad { kind: 7 };
 
 /// The names of the measurements of a device.
-fn measurements(alloc: Global, device: &Path, words: &[Word]) -> Result<Vec<Name>, LineFault>
+fn measurements(alloc: Global, device: &Path, words: &[WordToken]) -> Result<Vec<Name>, LineFault>
     ensures found { IfOk result (λ names.
         (names.items ≡ words.now) × AllByRecursion IsGood (map (Measurement device.now) words.now)) }
     ensures bad { IfErr result (FaultsWith (HasBadWord (map (Measurement device.now) words.now))) }
@@ -60,19 +61,19 @@ fn literals(alloc: Global, operands: &[Operand]) -> Result<Vec<Literal>, LineFau
 }
 
 /// The aggregate that a column asks for, if it does.
-fn aggregate_of(word: &Option<Word>) -> Result<Option<Aggregate>, LineFault>
-    ensures found { IfOk result (IsNamed word.now) }
+fn aggregate_of(word: &Option<WordToken>) -> Result<Option<Aggregate>, LineFault>
+    ensures found { IfOk result (NamesAggregate word.now) }
     ensures good { IfOk result (λ _. AllByRecursion IsGood (aggregate_role word.now)) }
     ensures bad { IfErr result (FaultsWith (HasBadWord (aggregate_role word.now))) }
 {
     match word {
-        Some(word) => Ok(Some(aggregate(word)?)),
+        Some(word) => Ok(Some(read_aggregate(word)?)),
         None => Ok(None),
     }
 }
 
 /// The item that a column asks for.
-fn item(alloc: Global, column: &Column) -> Result<Item, LineFault>
+fn item(alloc: Global, column: &SyntaxColumn) -> Result<Item, LineFault>
     ensures found { IfOk result (IsItem column.now) }
     ensures good { IfOk result (λ _. AllByRecursion IsGood (column_role column.now)) }
     ensures bad { IfErr result (FaultsWith (HasBadWord (column_role column.now))) }
@@ -86,7 +87,7 @@ fn item(alloc: Global, column: &Column) -> Result<Item, LineFault>
 }
 
 /// The items of a select.
-fn items(alloc: Global, columns: &[Column]) -> Result<Vec<Item>, LineFault>
+fn items(alloc: Global, columns: &[SyntaxColumn]) -> Result<Vec<Item>, LineFault>
     ensures found { IfOk result (λ items. AllZip IsItem columns.now items.items) }
     ensures good { IfOk result (λ _. AllByRecursion IsGood (flat_map column_role columns.now)) }
     ensures bad { IfErr result (FaultsWith (HasBadWord (flat_map column_role columns.now))) }
@@ -146,7 +147,7 @@ fn cells(
 }
 
 /// Whether no measurement has more bytes.
-fn are_short(columns: &[Column], room: usize) -> bool
+fn are_short(columns: &[SyntaxColumn], room: usize) -> bool
     ensures { IsTrue result ↔ All (λ column. length column.measurement ≤ room) columns.now }
 {
     columns
@@ -155,12 +156,12 @@ fn are_short(columns: &[Column], room: usize) -> bool
 }
 
 /// The path of the device of the columns.
-fn device_of(alloc: Global, columns: &[Column], word: &Word) -> Result<Path, LineFault>
+fn device_of(alloc: Global, columns: &[SyntaxColumn], word: &WordToken) -> Result<Path, LineFault>
     requires { AllByRecursion IsGood (flat_map column_role columns.now) }
     ensures found { IfOk result (λ path. (path ≡ word.now)
         × IsGood (DeviceOf (map (λ column. column.measurement) columns.now) word.now)) }
     ensures bad { IfErr result
-        (FaultsWith (IsBad (DeviceOf (map (λ column. column.measurement) columns.now) word.now))) }
+        (FaultsWith (IsBadWord (DeviceOf (map (λ column. column.measurement) columns.now) word.now))) }
 {
     let device = device_path(alloc, word)?;
     if are_short(columns, room_of(&device)) {
@@ -171,22 +172,22 @@ fn device_of(alloc: Global, columns: &[Column], word: &Word) -> Result<Path, Lin
 }
 
 /// Whether no column asks for an aggregate.
-fn have_no_aggregate(columns: &[Column]) -> bool
+fn have_no_aggregate(columns: &[SyntaxColumn]) -> bool
     ensures { IsTrue result ↔ All (λ column. column.aggregate ≡ None) columns.now }
 {
     columns.iter().all(|column| column.aggregate.is_none())
 }
 
 /// Whether each column asks for an aggregate.
-fn have_aggregates(columns: &[Column]) -> bool
+fn have_aggregates(columns: &[SyntaxColumn]) -> bool
     ensures { IsTrue result ↔ All (λ column. IsSome column.aggregate) columns.now }
 {
     columns.iter().all(|column| column.aggregate.is_some())
 }
 
 /// Whether a select has at most 1,000 items, all with or all without an aggregate.
-fn are_alike(columns: &[Column]) -> bool
-    ensures { IsTrue result ↔ AreAlike columns.now }
+fn are_alike(columns: &[SyntaxColumn]) -> bool
+    ensures { IsTrue result ↔ AreColumnsAlike columns.now }
 {
     columns.len() <= MAX_NAMES && (have_no_aggregate(columns) || have_aggregates(columns))
 }
@@ -194,9 +195,9 @@ fn are_alike(columns: &[Column]) -> bool
 /// The command of a create.
 fn create(
     alloc: Global,
-    path: &Word,
-    type_word: &Word,
-    encoding_word: &Word,
+    path: &WordToken,
+    type_word: &WordToken,
+    encoding_word: &WordToken,
 ) -> Result<Command, LineFault>
     ensures found { IfOk result (Means (Syntax.Create path.now type_word.now encoding_word.now)) }
     ensures bad { IfErr result (FaultsWith (Objects (Syntax.Create path.now type_word.now encoding_word.now))) }
@@ -214,9 +215,9 @@ fn create(
 /// The command of an insert.
 fn insert(
     alloc: Global,
-    device: &Word,
-    names: &List<Word>,
-    time: &Word,
+    device: &WordToken,
+    names: &List<WordToken>,
+    time: &WordToken,
     values: &List<Operand>,
 ) -> Result<Command, LineFault>
     ensures found { IfOk result (Means (Syntax.Insert device.now names.now time.now values.now)) }
@@ -237,7 +238,11 @@ fn insert(
 }
 
 /// The command of a delete.
-fn delete(alloc: Global, path: &Word, conditions: &List<Condition>) -> Result<Command, LineFault>
+fn delete(
+    alloc: Global,
+    path: &WordToken,
+    conditions: &List<Condition>,
+) -> Result<Command, LineFault>
     ensures found { IfOk result (Means (Syntax.Delete path.now conditions.now)) }
     ensures bad { IfErr result (FaultsWith (Objects (Syntax.Delete path.now conditions.now))) }
 {
@@ -249,8 +254,8 @@ fn delete(alloc: Global, path: &Word, conditions: &List<Condition>) -> Result<Co
 /// The command of a select.
 fn select(
     alloc: Global,
-    columns: &List<Column>,
-    device: &Word,
+    columns: &List<SyntaxColumn>,
+    device: &WordToken,
     conditions: &List<Condition>,
 ) -> Result<Command, LineFault>
     ensures found { IfOk result (Means (Syntax.Select columns.now device.now conditions.now)) }
@@ -272,7 +277,7 @@ fn select(
 
 /// The command that a statement says.
 pub fn command_of(alloc: Global, syntax: &Syntax) -> Result<Command, LineFault>
-    requires { HasParts syntax.now }
+    requires { HasNeededParts syntax.now }
     ensures found { IfOk result (Means syntax.now) }
     ensures good { IfOk result IsWellFormed }
     ensures bad { IfErr result (FaultsWith (Objects syntax.now)) }

@@ -4,18 +4,18 @@ ghost use Rattle.std.specs.Prelude.{◌≡◌, IfOk, IfErr, List, Option, drop, 
 ghost use Rattle.std.specs.List.{list_any};
 ghost use Rattle.tsdb_script.specs.declared.form.TheConstants.{FORMS};
 ghost use Rattle.tsdb_script.specs.declared.token.Token.{Token};
-ghost use Rattle.tsdb_script.specs.Forms.{is_at, places, statement_of, Fits, HasNoForm, HasParts};
+ghost use Rattle.tsdb_script.specs.Forms.{is_at, places, statement_of, Fits, HasNoForm, HasNeededParts};
 ghost use Rattle.tsdb_script.specs.Forms.{first_columns, first_conditions, first_names, first_values, first_word};
 ghost use Rattle.tsdb_script.specs.Steps.{onto, FaultsWith};
 ghost use Rattle.tsdb_script.specs.Tokens.{starts};
 ghost use Rattle.tsdb_script.specs.Parse.{begins_at, called_at, column_at, comparison_at, condition_at, conditions_at};
-ghost use Rattle.tsdb_script.specs.Parse.{end_at, fixed_at, form_at, items_at, list_at, operand_at, place_at};
-ghost use Rattle.tsdb_script.specs.Parse.{read_at, says, stands_at, statement_at, word_at, Gives};
+ghost use Rattle.tsdb_script.specs.Parse.{end_at, fixed_at, form_at, items_at, list_at, operand_at, part_at};
+ghost use Rattle.tsdb_script.specs.Parse.{parts_at, says, stands_at, statement_at, word_at, ParsesTo};
 
 use crate::fault::LineFault;
-use crate::form::{FORMS, Form, Keyword, Place};
-use crate::syntax::{Column, Comparison, Condition, Operand, Part, Syntax};
-use crate::token::{Token, Word};
+use crate::form::{FORMS, Form, FormPlace, Keyword};
+use crate::syntax::{Comparison, Condition, Operand, Syntax, SyntaxColumn, SyntaxPart};
+use crate::token::{Token, WordToken};
 use std::alloc::Global;
 use std::collections::VecDeque;
 use tsdb_base::{List, Space};
@@ -24,24 +24,24 @@ use tsdb_base::{List, Space};
 pub type Tokens<'a> = VecDeque<Token<'a>>;
 
 /// The parts that are left.
-type Parts<'a> = VecDeque<Part<'a>>;
+type Parts<'a> = VecDeque<SyntaxPart<'a>>;
 
 /// The tokens fit no form.
 const NO_FORM: LineFault = LineFault::Bad { kind: 3 };
 
 /// `where`, before conditions.
-const WHERE: Place = Place::Keyword(Keyword::Where);
+const WHERE: FormPlace = FormPlace::Keyword(Keyword::Where);
 
 /// `and`, between conditions.
-const AND: Place = Place::Keyword(Keyword::And);
+const AND: FormPlace = FormPlace::Keyword(Keyword::And);
 
 /// `time`, in a condition.
-const TIME: Place = Place::Keyword(Keyword::Time);
+const TIME: FormPlace = FormPlace::Keyword(Keyword::Time);
 
 /// The statement whose form the tokens fit. Where they fit none it is a fault of kind 3. The tokens are used up.
 pub fn statement<'a>(alloc: Global, tokens: &mut Tokens<'a>) -> Result<Syntax<'a>, LineFault>
     ensures found { IfOk result (Fits tokens.old.items) }
-    ensures parts { IfOk result HasParts }
+    ensures parts { IfOk result HasNeededParts }
     ensures bad { IfErr result (FaultsWith (HasNoForm tokens.old.items)) }
 {
     matched(alloc, tokens)
@@ -50,7 +50,7 @@ pub fn statement<'a>(alloc: Global, tokens: &mut Tokens<'a>) -> Result<Syntax<'a
 /// Reads the tokens by the one form that begins with their first words.
 #[tactic(auto, unfolding(crate::specs::Parse::statement_at))]
 fn matched<'a>(alloc: Global, tokens: &mut Tokens<'a>) -> Result<Syntax<'a>, LineFault>
-    ensures { Gives (λ syntax. syntax) result (statement_at tokens.old.items) }
+    ensures { ParsesTo (λ syntax. syntax) result (statement_at tokens.old.items) }
 {
     let form = form_of(tokens).ok_or(NO_FORM)?;
     let mut parts = parts_of(alloc, form.places(), tokens)?;
@@ -86,7 +86,7 @@ pub fn begins_form(token: &Token) -> bool
 }
 
 /// Whether the first place asks for this token.
-fn asks_first(token: &Token, places: &[Place]) -> bool
+fn asks_first(token: &Token, places: &[FormPlace]) -> bool
     ensures { result ≡ starts (λ place. is_at place token.now) places.now }
 {
     match places.first() {
@@ -96,7 +96,7 @@ fn asks_first(token: &Token, places: &[Place]) -> bool
 }
 
 /// Whether the tokens begin with the keywords that a form begins with.
-fn begins(places: &[Place], tokens: &Tokens) -> bool
+fn begins(places: &[FormPlace], tokens: &Tokens) -> bool
     ensures { result ≡ begins_at places.now tokens.now.items }
 {
     let mut row = places;
@@ -117,10 +117,10 @@ fn begins(places: &[Place], tokens: &Tokens) -> bool
 /// The parts that stand at the places. It takes all tokens.
 fn parts_of<'a>(
     alloc: Global,
-    places: &[Place],
+    places: &[FormPlace],
     tokens: &mut Tokens<'a>,
 ) -> Result<Parts<'a>, LineFault>
-    ensures { Gives (λ parts. parts.items) result (read_at places.now tokens.old.items) }
+    ensures { ParsesTo (λ parts. parts.items) result (parts_at places.now tokens.old.items) }
 {
     let mut parts = VecDeque::with_capacity(alloc, 4)?;
     let mut row = places;
@@ -135,20 +135,20 @@ fn parts_of<'a>(
 }
 
 /// Takes what stands at a place, and gives its part, where it has one.
-#[tactic(auto, unfolding(crate::specs::Parse::place_at))]
+#[tactic(auto, unfolding(crate::specs::Parse::part_at))]
 fn part<'a>(
     alloc: Global,
-    place: Place,
+    place: FormPlace,
     tokens: &mut Tokens<'a>,
-) -> Result<Option<Part<'a>>, LineFault>
-    ensures { Gives (λ part. (part, tokens.new.items)) result (place_at place tokens.old.items) }
+) -> Result<Option<SyntaxPart<'a>>, LineFault>
+    ensures { ParsesTo (λ part. (part, tokens.new.items)) result (part_at place tokens.old.items) }
 {
     match place {
-        Place::Word => Ok(Some(Part::Word(word(tokens)?))),
-        Place::Names => Ok(Some(Part::Names(list(alloc, Place::Comma, tokens)?))),
-        Place::Values => Ok(Some(Part::Values(list(alloc, Place::Comma, tokens)?))),
-        Place::Columns => Ok(Some(Part::Columns(list(alloc, Place::Comma, tokens)?))),
-        Place::Where => Ok(Some(Part::Conditions(conditions(alloc, tokens)?))),
+        FormPlace::Word => Ok(Some(SyntaxPart::Word(word(tokens)?))),
+        FormPlace::Names => Ok(Some(SyntaxPart::Names(list(alloc, FormPlace::Comma, tokens)?))),
+        FormPlace::Values => Ok(Some(SyntaxPart::Values(list(alloc, FormPlace::Comma, tokens)?))),
+        FormPlace::Columns => Ok(Some(SyntaxPart::Columns(list(alloc, FormPlace::Comma, tokens)?))),
+        FormPlace::Where => Ok(Some(SyntaxPart::Conditions(conditions(alloc, tokens)?))),
         _ => {
             fixed(place, tokens)?;
             Ok(None)
@@ -157,16 +157,16 @@ fn part<'a>(
 }
 
 /// Whether a token is the keyword or mark that a place asks for.
-fn is_at(place: Place, token: &Token) -> bool
+fn is_at(place: FormPlace, token: &Token) -> bool
     ensures { result ≡ is_at place token.now }
 {
     match place {
-        Place::Keyword(keyword) => is_word(token, keyword.text()),
-        Place::Timestamp => is_word(token, b"timestamp") || is_word(token, b"time"),
-        Place::Open => matches!(token, Token::Open),
-        Place::Close => matches!(token, Token::Close),
-        Place::Comma => matches!(token, Token::Comma),
-        Place::Equal => matches!(token, Token::Equal),
+        FormPlace::Keyword(keyword) => is_word(token, keyword.text()),
+        FormPlace::Timestamp => is_word(token, b"timestamp") || is_word(token, b"time"),
+        FormPlace::Open => matches!(token, Token::Open),
+        FormPlace::Close => matches!(token, Token::Close),
+        FormPlace::Comma => matches!(token, Token::Comma),
+        FormPlace::Equal => matches!(token, Token::Equal),
         _ => false,
     }
 }
@@ -182,7 +182,7 @@ fn is_word(token: &Token, name: &[u8]) -> bool
 }
 
 /// Whether the token at this number is what a place asks for.
-fn stands(tokens: &Tokens, at: usize, place: Place) -> bool
+fn stands(tokens: &Tokens, at: usize, place: FormPlace) -> bool
     ensures { result ≡ stands_at place (drop at tokens.now.items) }
 {
     match tokens.get(at) {
@@ -192,8 +192,8 @@ fn stands(tokens: &Tokens, at: usize, place: Place) -> bool
 }
 
 /// Takes the token that a place asks for.
-fn fixed(place: Place, tokens: &mut Tokens) -> Result<(), LineFault>
-    ensures { Gives (λ _. tokens.new.items) result (fixed_at place tokens.old.items) }
+fn fixed(place: FormPlace, tokens: &mut Tokens) -> Result<(), LineFault>
+    ensures { ParsesTo (λ _. tokens.new.items) result (fixed_at place tokens.old.items) }
 {
     match tokens.pop_front() {
         Some(token) if is_at(place, &token) => Ok(()),
@@ -203,7 +203,7 @@ fn fixed(place: Place, tokens: &mut Tokens) -> Result<(), LineFault>
 
 /// Takes one `;`, where it is there, and then there is nothing.
 fn end(tokens: &mut Tokens) -> Result<(), LineFault>
-    ensures { Gives (λ r. r) result (end_at tokens.old.items) }
+    ensures { ParsesTo (λ r. r) result (end_at tokens.old.items) }
 {
     match tokens.pop_front() {
         None => Ok(()),
@@ -212,8 +212,8 @@ fn end(tokens: &mut Tokens) -> Result<(), LineFault>
     }
 }
 
-fn word<'a>(tokens: &mut Tokens<'a>) -> Result<Word<'a>, LineFault>
-    ensures { Gives (λ word. (word, tokens.new.items)) result (word_at tokens.old.items) }
+fn word<'a>(tokens: &mut Tokens<'a>) -> Result<WordToken<'a>, LineFault>
+    ensures { ParsesTo (λ word. (word, tokens.new.items)) result (word_at tokens.old.items) }
 {
     match tokens.pop_front() {
         Some(Token::Word(word)) => Ok(word),
@@ -222,7 +222,7 @@ fn word<'a>(tokens: &mut Tokens<'a>) -> Result<Word<'a>, LineFault>
 }
 
 fn comparison(tokens: &mut Tokens) -> Result<Comparison, LineFault>
-    ensures { Gives (λ comparison. (comparison, tokens.new.items)) result (comparison_at tokens.old.items) }
+    ensures { ParsesTo (λ comparison. (comparison, tokens.new.items)) result (comparison_at tokens.old.items) }
 {
     match tokens.pop_front() {
         Some(Token::Less) => Ok(Comparison::Less),
@@ -236,13 +236,16 @@ fn comparison(tokens: &mut Tokens) -> Result<Comparison, LineFault>
 
 /// The measurement in parentheses behind an aggregate.
 #[tactic(auto, unfolding(crate::specs::Parse::called_at))]
-fn called<'a>(aggregate: Word<'a>, tokens: &mut Tokens<'a>) -> Result<Column<'a>, LineFault>
-    ensures { Gives (λ column. (column, tokens.new.items)) result (called_at aggregate.entry tokens.old.items) }
+fn called<'a>(
+    aggregate: WordToken<'a>,
+    tokens: &mut Tokens<'a>,
+) -> Result<SyntaxColumn<'a>, LineFault>
+    ensures { ParsesTo (λ column. (column, tokens.new.items)) result (called_at aggregate.entry tokens.old.items) }
 {
-    fixed(Place::Open, tokens)?;
+    fixed(FormPlace::Open, tokens)?;
     let measurement = word(tokens)?;
-    fixed(Place::Close, tokens)?;
-    Ok(Column {
+    fixed(FormPlace::Close, tokens)?;
+    Ok(SyntaxColumn {
         aggregate: Some(aggregate),
         measurement,
     })
@@ -254,13 +257,13 @@ trait Listed<'a>: Drop + Sized {
     ghost at: { List Token → Option (Self × List Token) };
 
     fn take(tokens: &mut Tokens<'a>) -> Result<Self, LineFault>
-        ensures { Gives (λ item. (item, tokens.new.items)) result (at tokens.old.items) };
+        ensures { ParsesTo (λ item. (item, tokens.new.items)) result (at tokens.old.items) };
 }
 
-impl<'a> Listed<'a> for Word<'a> {
+impl<'a> Listed<'a> for WordToken<'a> {
     ghost at = { word_at };
 
-    fn take(tokens: &mut Tokens<'a>) -> Result<Word<'a>, LineFault> {
+    fn take(tokens: &mut Tokens<'a>) -> Result<WordToken<'a>, LineFault> {
         word(tokens)
     }
 }
@@ -277,17 +280,17 @@ impl<'a> Listed<'a> for Operand<'a> {
     }
 }
 
-impl<'a> Listed<'a> for Column<'a> {
+impl<'a> Listed<'a> for SyntaxColumn<'a> {
     ghost at = { column_at };
 
     /// `M` or `W ( M )`
     #[tactic(auto, unfolding(crate::specs::Parse::column_at))]
-    fn take(tokens: &mut Tokens<'a>) -> Result<Column<'a>, LineFault> {
+    fn take(tokens: &mut Tokens<'a>) -> Result<SyntaxColumn<'a>, LineFault> {
         let first = word(tokens)?;
-        if stands(tokens, 0, Place::Open) {
+        if stands(tokens, 0, FormPlace::Open) {
             return called(first, tokens);
         }
-        Ok(Column {
+        Ok(SyntaxColumn {
             aggregate: None,
             measurement: first,
         })
@@ -310,10 +313,10 @@ impl<'a> Listed<'a> for Condition<'a> {
 /// One item at least, with this between them.
 fn list<'a, P: Listed<'a>>(
     alloc: Global,
-    between: Place,
+    between: FormPlace,
     tokens: &mut Tokens<'a>,
 ) -> Result<List<P>, LineFault>
-    ensures { Gives (λ items. (items, tokens.new.items)) result (list_at between P.at tokens.old.items) }
+    ensures { ParsesTo (λ items. (items, tokens.new.items)) result (list_at between P.at tokens.old.items) }
 {
     let first = P::take(tokens)?;
     further(alloc, between, first, tokens)
@@ -322,11 +325,11 @@ fn list<'a, P: Listed<'a>>(
 /// The first item, and all that follow it.
 fn further<'a, P: Listed<'a>>(
     alloc: Global,
-    between: Place,
+    between: FormPlace,
     first: P,
     tokens: &mut Tokens<'a>,
 ) -> Result<List<P>, LineFault>
-    ensures { Gives (λ items. (items, tokens.new.items)) result
+    ensures { ParsesTo (λ items. (items, tokens.new.items)) result
         (option_map (onto first) (items_at between P.at (length tokens.old.items) tokens.old.items)) }
 {
     let mut items = Vec::new(alloc);
@@ -344,7 +347,7 @@ fn further<'a, P: Listed<'a>>(
 /// The conditions of a `where`, or none.
 #[tactic(auto, unfolding(crate::specs::Parse::conditions_at))]
 fn conditions<'a>(alloc: Global, tokens: &mut Tokens<'a>) -> Result<List<Condition<'a>>, LineFault>
-    ensures { Gives (λ conditions. (conditions, tokens.new.items)) result (conditions_at tokens.old.items) }
+    ensures { ParsesTo (λ conditions. (conditions, tokens.new.items)) result (conditions_at tokens.old.items) }
 {
     if !stands(tokens, 0, WHERE) {
         return Ok(List::of(Vec::new(alloc)));
@@ -391,23 +394,23 @@ fn made<'a>(alloc: Global, form: Form, parts: &mut Parts<'a>) -> Syntax<'a>
 }
 
 /// Takes the first part, which is a word.
-fn word_part<'a>(parts: &mut Parts<'a>) -> Word<'a>
+fn word_part<'a>(parts: &mut Parts<'a>) -> WordToken<'a>
     ensures word { result ≡ first_word parts.old.items }
     ensures rest { parts.new.items ≡ drop 1 parts.old.items }
 {
     match parts.pop_front() {
-        Some(Part::Word(word)) => word,
-        Some(_other) => Word::of(&[]),
-        None => Word::of(&[]),
+        Some(SyntaxPart::Word(word)) => word,
+        Some(_other) => WordToken::of(&[]),
+        None => WordToken::of(&[]),
     }
 }
 
-fn names_part<'a>(alloc: Global, parts: &mut Parts<'a>) -> List<Word<'a>>
+fn names_part<'a>(alloc: Global, parts: &mut Parts<'a>) -> List<WordToken<'a>>
     ensures names { result ≡ first_names parts.old.items }
     ensures rest { parts.new.items ≡ drop 1 parts.old.items }
 {
     match parts.pop_front() {
-        Some(Part::Names(names)) => names,
+        Some(SyntaxPart::Names(names)) => names,
         Some(_other) => List::of(Vec::new(alloc)),
         None => List::of(Vec::new(alloc)),
     }
@@ -418,18 +421,18 @@ fn values_part<'a>(alloc: Global, parts: &mut Parts<'a>) -> List<Operand<'a>>
     ensures rest { parts.new.items ≡ drop 1 parts.old.items }
 {
     match parts.pop_front() {
-        Some(Part::Values(values)) => values,
+        Some(SyntaxPart::Values(values)) => values,
         Some(_other) => List::of(Vec::new(alloc)),
         None => List::of(Vec::new(alloc)),
     }
 }
 
-fn columns_part<'a>(alloc: Global, parts: &mut Parts<'a>) -> List<Column<'a>>
+fn columns_part<'a>(alloc: Global, parts: &mut Parts<'a>) -> List<SyntaxColumn<'a>>
     ensures columns { result ≡ first_columns parts.old.items }
     ensures rest { parts.new.items ≡ drop 1 parts.old.items }
 {
     match parts.pop_front() {
-        Some(Part::Columns(columns)) => columns,
+        Some(SyntaxPart::Columns(columns)) => columns,
         Some(_other) => List::of(Vec::new(alloc)),
         None => List::of(Vec::new(alloc)),
     }
@@ -440,7 +443,7 @@ fn conditions_part<'a>(alloc: Global, parts: &mut Parts<'a>) -> List<Condition<'
     ensures rest { parts.new.items ≡ drop 1 parts.old.items }
 {
     match parts.pop_front() {
-        Some(Part::Conditions(conditions)) => conditions,
+        Some(SyntaxPart::Conditions(conditions)) => conditions,
         Some(_other) => List::of(Vec::new(alloc)),
         None => List::of(Vec::new(alloc)),
     }

@@ -1,7 +1,7 @@
 //! Reads a script, line by line, as the commands of its sessions. Depends on `lines`, `line`, `numbered` and `fault`.
 ghost use Rattle.std.specs.Prelude.{◌≡◌, ◌++◌, ◌∷◌, [], All, IfOk, IfErr};
 ghost use Rattle.tsdb_model.specs.Commands.{IsWellFormed};
-ghost use Rattle.tsdb_script.specs.LineSteps.{fault_at, AreDifferentOf, HasRoom};
+ghost use Rattle.tsdb_script.specs.LineSteps.{fault_at, AreDifferentOf, HasSessionRoom};
 ghost use Rattle.tsdb_script.specs.Reading.{sessions_of, IsScript, RefusesScript};
 
 use crate::fault::{LineFault, ScriptFault};
@@ -52,7 +52,7 @@ fn push(
     numbered: Numbered,
 ) -> Result<(), ScriptFault>
     requires sessions { AreDifferentOf sessions.old.items (sessions_of script.old.items) }
-    requires room { HasRoom (sessions_of script.old.items) numbered.session }
+    requires room { HasSessionRoom (sessions_of script.old.items) numbered.session }
     ensures script { IfOk result (λ _. script.new.items ≡ script.old.items ++ numbered ∷ []) }
     ensures sessions { IfOk result (λ _. AreDifferentOf sessions.new.items (sessions_of script.new.items)) }
     ensures memory { IfErr result (λ fault. fault ≡ ScriptFault.Memory) }

@@ -1,11 +1,11 @@
 //! What a statement says, as words that are not looked at yet.
-use crate::token::{Quoted, Word};
+use crate::token::{Quoted, WordToken};
 use tsdb_base::{List, Space};
 
 /// A value as a statement writes it.
 #[derive(Drop)]
 pub enum Operand<'a> {
-    Word(Word<'a>),
+    Word(WordToken<'a>),
     Text(Quoted<'a>),
 }
 
@@ -23,23 +23,23 @@ pub enum Comparison {
 #[derive(Drop)]
 pub struct Condition<'a> {
     pub comparison: Comparison,
-    pub number: Word<'a>,
+    pub number: WordToken<'a>,
 }
 
 /// An item of a select: a measurement, or an aggregate of one.
 #[derive(Drop)]
-pub struct Column<'a> {
-    pub aggregate: Option<Word<'a>>,
-    pub measurement: Word<'a>,
+pub struct SyntaxColumn<'a> {
+    pub aggregate: Option<WordToken<'a>>,
+    pub measurement: WordToken<'a>,
 }
 
 /// What stands at a place of a form that gives a part.
 #[derive(Drop)]
-pub enum Part<'a> {
-    Word(Word<'a>),
-    Names(List<Word<'a>>),
+pub enum SyntaxPart<'a> {
+    Word(WordToken<'a>),
+    Names(List<WordToken<'a>>),
     Values(List<Operand<'a>>),
-    Columns(List<Column<'a>>),
+    Columns(List<SyntaxColumn<'a>>),
     Conditions(List<Condition<'a>>),
 }
 
@@ -47,23 +47,23 @@ pub enum Part<'a> {
 #[derive(Drop)]
 pub enum Syntax<'a> {
     Create {
-        path: Word<'a>,
-        data_type: Word<'a>,
-        encoding: Word<'a>,
+        path: WordToken<'a>,
+        data_type: WordToken<'a>,
+        encoding: WordToken<'a>,
     },
     Insert {
-        device: Word<'a>,
-        names: List<Word<'a>>,
-        time: Word<'a>,
+        device: WordToken<'a>,
+        names: List<WordToken<'a>>,
+        time: WordToken<'a>,
         values: List<Operand<'a>>,
     },
     Delete {
-        path: Word<'a>,
+        path: WordToken<'a>,
         conditions: List<Condition<'a>>,
     },
     Select {
-        columns: List<Column<'a>>,
-        device: Word<'a>,
+        columns: List<SyntaxColumn<'a>>,
+        device: WordToken<'a>,
         conditions: List<Condition<'a>>,
     },
     Flush,

@@ -10,11 +10,11 @@ use tsdb_base::{Memory, Text, TextFault};
 
 /// A word. A contract sees its bytes.
 #[derive(Drop)]
-pub struct Word<'a> {
+pub struct WordToken<'a> {
     bytes: &'a [u8],
 }
 
-impl<'a> Model for Word<'a> {
+impl<'a> Model for WordToken<'a> {
     ghost use Rattle.std.specs.Prelude.{ℕ, List};
 
     ghost Value = { List ℕ };
@@ -22,12 +22,12 @@ impl<'a> Model for Word<'a> {
     ghost view = { λ word. word.bytes.now };
 }
 
-impl<'a> Word<'a> {
+impl<'a> WordToken<'a> {
     /// The word of these bytes.
-    pub fn of(bytes: &'a [u8]) -> Word<'a>
+    pub fn of(bytes: &'a [u8]) -> WordToken<'a>
         ensures { result ≡ bytes.now }
     {
-        Word { bytes }
+        WordToken { bytes }
     }
 
     /// The bytes.
@@ -111,7 +111,7 @@ fn skip_one(bytes: &[u8]) -> &[u8]
 /// A token of a line.
 #[derive(Drop)]
 pub enum Token<'a> {
-    Word(Word<'a>),
+    Word(WordToken<'a>),
     Text(Quoted<'a>),
     Open,
     Close,

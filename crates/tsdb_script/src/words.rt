@@ -2,14 +2,15 @@
 ghost use Rattle.std.specs.Prelude.{◌≡◌, ◌≤◌, ◌↔◌, ℤ, ℕ, List, IfOk, IfErr, IfSome, IfNone, length};
 ghost use Rattle.tsdb_path.specs.Nodes.{IsName, IsPath, child_of, node_count};
 ghost use Rattle.tsdb_base.specs.Notation.{aggregate_name};
-ghost use Rattle.tsdb_script.specs.Meaning.{IsBad, IsGood, IsInteger, IsLiteral, Names, encoding_name, type_name};
+ghost use Rattle.tsdb_script.specs.Meaning.{IsBadWord, IsGood, IsInteger, IsLiteral, SpellsName, encoding_name};
+ghost use Rattle.tsdb_script.specs.Meaning.{type_name};
 ghost use Rattle.tsdb_script.specs.Meaning.{SeriesPath, DevicePath, Node, Number, Scalar, TypeName, EncodingName};
 ghost use Rattle.tsdb_script.specs.Meaning.{AggregateName};
 ghost use Rattle.tsdb_script.specs.Steps.{FaultsWith};
 
 use crate::fault::LineFault;
 use crate::syntax::Operand;
-use crate::token::Word;
+use crate::token::WordToken;
 use std::alloc::Global;
 use tsdb_base::limits::MAX_PATH_BYTES;
 use tsdb_base::{Aggregate, DataType, Encoding, limits, suits};
@@ -37,7 +38,7 @@ fn integer_of(bytes: &[u8]) -> Option<i64>
 }
 
 /// The path that a word is, of so many nodes at least.
-fn path_of(alloc: Global, word: &Word, least: u64) -> Result<Path, LineFault>
+fn path_of(alloc: Global, word: &WordToken, least: u64) -> Result<Path, LineFault>
     ensures found { IfOk result (λ path. (path ≡ word.now) × IsPath word.now × (least ≤ node_count word.now)) }
     ensures bad { IfErr result (FaultsWith (λ kind.
         (¬ (IsPath word.now × (least ≤ node_count word.now))) × (kind ≡ 4))) }
@@ -50,25 +51,25 @@ fn path_of(alloc: Global, word: &Word, least: u64) -> Result<Path, LineFault>
 }
 
 /// The path of a series.
-pub fn series_path(alloc: Global, word: &Word) -> Result<Path, LineFault>
+pub fn series_path(alloc: Global, word: &WordToken) -> Result<Path, LineFault>
     ensures found { IfOk result (λ path. (path ≡ word.now) × IsGood (SeriesPath word.now)) }
-    ensures bad { IfErr result (FaultsWith (IsBad (SeriesPath word.now))) }
+    ensures bad { IfErr result (FaultsWith (IsBadWord (SeriesPath word.now))) }
 {
     path_of(alloc, word, 3)
 }
 
 /// The path of a device.
-pub fn device_path(alloc: Global, word: &Word) -> Result<Path, LineFault>
+pub fn device_path(alloc: Global, word: &WordToken) -> Result<Path, LineFault>
     ensures found { IfOk result (λ path. (path ≡ word.now) × IsGood (DevicePath word.now)) }
-    ensures bad { IfErr result (FaultsWith (IsBad (DevicePath word.now))) }
+    ensures bad { IfErr result (FaultsWith (IsBadWord (DevicePath word.now))) }
 {
     path_of(alloc, word, 2)
 }
 
 /// The node that a word is.
-pub fn node(alloc: Global, word: &Word) -> Result<Name, LineFault>
+pub fn node(alloc: Global, word: &WordToken) -> Result<Name, LineFault>
     ensures found { IfOk result (λ name. (name ≡ word.now) × IsGood (Node word.now)) }
-    ensures bad { IfErr result (FaultsWith (IsBad (Node word.now))) }
+    ensures bad { IfErr result (FaultsWith (IsBadWord (Node word.now))) }
 {
     match Name::read(alloc, word.bytes()) {
         Ok(name) => Ok(name),
@@ -89,9 +90,9 @@ pub fn room_of(device: &Path) -> usize
 }
 
 /// The integer that a word is.
-pub fn number(word: &Word) -> Result<i64, LineFault>
+pub fn number(word: &WordToken) -> Result<i64, LineFault>
     ensures found { IfOk result (IsInteger word.now) }
-    ensures bad { IfErr result (FaultsWith (IsBad (Number word.now))) }
+    ensures bad { IfErr result (FaultsWith (IsBadWord (Number word.now))) }
 {
     integer_of(word.bytes()).ok_or(NO_NUMBER)
 }
@@ -99,7 +100,7 @@ pub fn number(word: &Word) -> Result<i64, LineFault>
 /// The value that an operand writes.
 pub fn literal(alloc: Global, operand: &Operand) -> Result<Literal, LineFault>
     ensures found { IfOk result (IsLiteral operand.now) }
-    ensures bad { IfErr result (FaultsWith (IsBad (Scalar operand.now))) }
+    ensures bad { IfErr result (FaultsWith (IsBadWord (Scalar operand.now))) }
 {
     match operand {
         Operand::Text(text) => Ok(Literal::Text(text.content(alloc)?)),
@@ -110,9 +111,9 @@ pub fn literal(alloc: Global, operand: &Operand) -> Result<Literal, LineFault>
 }
 
 /// The type that a word names.
-pub fn data_type(word: &Word) -> Result<DataType, LineFault>
-    ensures found { IfOk result (λ found. Names word.now (type_name found)) }
-    ensures bad { IfErr result (FaultsWith (IsBad (TypeName word.now))) }
+pub fn data_type(word: &WordToken) -> Result<DataType, LineFault>
+    ensures found { IfOk result (λ found. SpellsName word.now (type_name found)) }
+    ensures bad { IfErr result (FaultsWith (IsBadWord (TypeName word.now))) }
 {
     if word.is(b"boolean") {
         Ok(DataType::Boolean)
@@ -128,9 +129,9 @@ pub fn data_type(word: &Word) -> Result<DataType, LineFault>
 }
 
 /// The encoding that a word names.
-fn encoding_of(word: &Word) -> Option<Encoding>
-    ensures found { IfSome result (λ found. Names word.now (encoding_name found)) }
-    ensures none { IfNone result ((found : Encoding) → ¬ Names word.now (encoding_name found)) }
+fn encoding_of(word: &WordToken) -> Option<Encoding>
+    ensures found { IfSome result (λ found. SpellsName word.now (encoding_name found)) }
+    ensures none { IfNone result ((found : Encoding) → ¬ SpellsName word.now (encoding_name found)) }
 {
     if word.is(b"plain") {
         Some(Encoding::Plain)
@@ -146,11 +147,15 @@ fn encoding_of(word: &Word) -> Option<Encoding>
 }
 
 /// The encoding that a word names, for the type that another word names.
-pub fn encoding(word: &Word, type_word: &Word, data_type: DataType) -> Result<Encoding, LineFault>
-    requires { Names type_word.now (type_name data_type) }
+pub fn encoding(
+    word: &WordToken,
+    type_word: &WordToken,
+    data_type: DataType,
+) -> Result<Encoding, LineFault>
+    requires { SpellsName type_word.now (type_name data_type) }
     ensures found { IfOk result (λ found.
-        Names word.now (encoding_name found) × IsGood (EncodingName type_word.now word.now)) }
-    ensures bad { IfErr result (FaultsWith (IsBad (EncodingName type_word.now word.now))) }
+        SpellsName word.now (encoding_name found) × IsGood (EncodingName type_word.now word.now)) }
+    ensures bad { IfErr result (FaultsWith (IsBadWord (EncodingName type_word.now word.now))) }
 {
     match encoding_of(word) {
         Some(encoding) if suits(data_type, encoding) => Ok(encoding),
@@ -159,9 +164,9 @@ pub fn encoding(word: &Word, type_word: &Word, data_type: DataType) -> Result<En
 }
 
 /// The aggregate that a word names.
-pub fn aggregate(word: &Word) -> Result<Aggregate, LineFault>
-    ensures found { IfOk result (λ found. Names word.now (aggregate_name found)) }
-    ensures bad { IfErr result (FaultsWith (IsBad (AggregateName word.now))) }
+pub fn read_aggregate(word: &WordToken) -> Result<Aggregate, LineFault>
+    ensures found { IfOk result (λ found. SpellsName word.now (aggregate_name found)) }
+    ensures bad { IfErr result (FaultsWith (IsBadWord (AggregateName word.now))) }
 {
     if word.is(b"count") {
         Ok(Aggregate::Count)

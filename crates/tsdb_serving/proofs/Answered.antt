@@ -6,14 +6,14 @@ use Rattle.tsdb_base.specs.declared.answers.Answer.{Answer}
 use Rattle.tsdb_base.specs.declared.answers.Answer.TheVariants as answer
 use Rattle.tsdb_core.specs.Commands.{IsCoreCommand, IsSeenAfter}
 use Rattle.tsdb_core.specs.Core.{IsSeen, logged_of}
-use Rattle.tsdb_core.specs.Rows.{HasPlace, IsFrozenFor, IsPut, IsRowCommand}
+use Rattle.tsdb_core.specs.Rows.{HasRowPlace, IsFrozenFor, IsRowPut, IsRowCommand}
 use Rattle.tsdb_core.specs.Worlds.{IsWorldOf}
 use Rattle.tsdb_core.specs.declared.engine.Core.{Core}
 use Rattle.tsdb_frames.proofs.MomentLemmas.{weaker}
 use Rattle.tsdb_log.specs.declared.record.LogRecord.{LogRecord}
 use Rattle.tsdb_log.specs.declared.record.LogRecord.TheVariants as item
 use Rattle.tsdb_memory.specs.Answers.{IsCreateAnswer, IsDeleteAnswer}
-use Rattle.tsdb_memory.specs.Commands.{IsAny}
+use Rattle.tsdb_memory.specs.Commands.{NeedsNothing}
 use Rattle.tsdb_memory.specs.Logged.{Outside, log_of, memory_of, with_record}
 use Rattle.tsdb_model.specs.Apply.{accepted, reply_of}
 use Rattle.tsdb_model.specs.History.{IsAllowed, IsChange, raise, state_after}
@@ -24,7 +24,7 @@ use Rattle.tsdb_model.specs.declared.command.Command.TheVariants as command
 use Rattle.tsdb_model.specs.declared.command.Row.{Row}
 use Rattle.tsdb_model.specs.declared.reply.Reply.{Reply}
 use Rattle.tsdb_model.specs.declared.reply.Reply.TheVariants.{Plain}
-use Rattle.tsdb_memory.specs.Store.{Store}
+use Rattle.tsdb_memory.specs.Store.{MemoryState}
 use Rattle.tsdb_outside.specs.Disk.{Image, IsLawful}
 use Rattle.tsdb_outside.specs.Files.{StoredFile}
 use Rattle.tsdb_outside.specs.declared.disk.Disk as disk
@@ -34,8 +34,8 @@ use Rattle.tsdb_serving.proofs.Differing.{NoNumber, drawn_apart}
 use Rattle.tsdb_serving.proofs.Held.{either_wider, held_more, same_state}
 use Rattle.tsdb_serving.proofs.Parts.{froze, unchanged}
 use Rattle.tsdb_serving.proofs.Steps.{moved, moved_left, quiet, quiet_left, then, then_left, then_settled}
-use Rattle.tsdb_serving.specs.Faults.{answer_of}
-use Rattle.tsdb_serving.specs.Serving.{IsAnsweredBy, IsDrawn, IsServed, IsServedBy, IsServing, IsWritten, LeavesDoubt, LeavesEither, MayDoubt, disk_under}
+use Rattle.tsdb_serving.specs.Faults.{flush_answer}
+use Rattle.tsdb_serving.specs.Serving.{IsAnsweredBy, IsDrawn, IsServed, IsServedBy, IsServing, MayBeWritten, LeavesDoubt, LeavesEither, MayDoubt, disk_under}
 use Rattle.tsdb_serving.specs.Serving.{slot_under}
 use Rattle.tsdb_serving.specs.declared.fault.FlushFault.{FlushFault}
 use Rattle.tsdb_serving.specs.declared.fault.FlushFault.TheVariants as fault
@@ -59,7 +59,7 @@ HasStamp stamp answer.Device = Unit {0}
 HasStamp stamp answer.Memory = Unit {0}
 HasStamp stamp (answer.Full counter) = (stamp ≡ end_of_numbers) × (counter ≡ stamp)
 
-pub create_stamp : (store : Store) (path : List ℕ) (result : Answer) → IsCreateAnswer store path result
+pub create_stamp : (store : MemoryState) (path : List ℕ) (result : Answer) → IsCreateAnswer store path result
     → HasStamp store.stamp result
 create_stamp store path answer.Done is = is.1
 create_stamp store path answer.NoPath is = tt
@@ -69,7 +69,7 @@ create_stamp store path answer.Device is = tt
 create_stamp store path answer.Memory is = tt
 create_stamp store path (answer.Full counter) is = is.1
 
-pub delete_stamp : (store : Store) (path : List ℕ) (result : Answer) → IsDeleteAnswer store path result
+pub delete_stamp : (store : MemoryState) (path : List ℕ) (result : Answer) → IsDeleteAnswer store path result
     → HasStamp store.stamp result
 delete_stamp store path answer.Done is = is.1
 delete_stamp store path answer.NoPath is = tt
@@ -79,7 +79,7 @@ delete_stamp store path answer.Device is = tt
 delete_stamp store path answer.Memory is = tt
 delete_stamp store path (answer.Full counter) is = is.1
 
-pub insert_stamp : (store : Store) (device : List ℕ) (row : Row) (result : Answer)
+pub insert_stamp : (store : MemoryState) (device : List ℕ) (row : Row) (result : Answer)
     → IsInsertAnswer store device row.cells result → HasStamp store.stamp result
 insert_stamp store device row answer.Done is = is.1
 insert_stamp store device row answer.NoPath is = tt
@@ -128,18 +128,18 @@ module _ (at : plain.State) (asked : Command) (not_listing : asked ≢ command.S
 -- the fault of a flush before a row
 pub fault_allowed : (at : plain.State) (device : List ℕ) (row : Row) (why : FlushFault)
     → ((counter : ℕ) → why ≡ fault.Full counter → end_of_numbers < counter + 2)
-    → IsAllowed at (command.Insert device row) (Plain (answer_of why))
+    → IsAllowed at (command.Insert device row) (Plain (flush_answer why))
 fault_allowed at device row fault.Device full = λ is. absurd cc
 fault_allowed at device row fault.Memory full = tt
 fault_allowed at device row (fault.Full counter) full = inr (record { draws = tt; end = full counter refl })
 
 fault_state : (at : plain.State) (device : List ℕ) (row : Row) (why : FlushFault)
-    → state_after at (command.Insert device row) (Plain (answer_of why)) ≡ at
+    → state_after at (command.Insert device row) (Plain (flush_answer why)) ≡ at
 fault_state at device row fault.Device = refl
 fault_state at device row fault.Memory = refl
 fault_state at device row (fault.Full counter) = refl
 
-fault_not_done : (why : FlushFault) → Plain (answer_of why) ≡ Plain answer.Done → ⊥
+fault_not_done : (why : FlushFault) → Plain (flush_answer why) ≡ Plain answer.Done → ⊥
 fault_not_done fault.Device is = absurd cc
 fault_not_done fault.Memory is = absurd cc
 fault_not_done (fault.Full counter) is = absurd cc
@@ -275,7 +275,7 @@ module _ {J F S R P : Type 0} {means : disk.Ghosts J} {counts : counted.Ghosts J
         serving.seen)
 
     -- the record was tried
-    module _ (result : Answer) (step : IsCoreCommand old new record_is IsAny result)
+    module _ (result : Answer) (step : IsCoreCommand old new record_is NeedsNothing result)
         (leads_to : StandsFor serving.outside.told (after record_is serving.state.store) then_state.world) where
       leads : IsStateOf serving.outside.told (after record_is serving.state.store) then_state
       leads = record {
@@ -331,7 +331,7 @@ module _ {J F S R P : Type 0} {means : disk.Ghosts J} {counts : counted.Ghosts J
         held = held_more serving.outside.kept files [] serving.held;
       })
 
-    pub served : (result : Answer) → IsCoreCommand old new record_is IsAny result → Leads old record_is asked result
+    pub served : (result : Answer) → IsCoreCommand old new record_is NeedsNothing result → Leads old record_is asked result
         → IsServedBy Q old new files at next then_state (state_after at asked (Plain result))
     served answer.Done step led = done answer.Done step
         (led serving.outside serving.state serving.seen tt at.world serving.stands.world)
@@ -346,7 +346,7 @@ module _ {J F S R P : Type 0} {means : disk.Ghosts J} {counts : counted.Ghosts J
         kept (step.memory refl) (step.step serving.outside serving.state serving.seen tt)
     served (answer.Full counter) step led = still (step.refused tt)
 
-    pub settles : (result : Answer) (step : IsCoreCommand old new record_is IsAny result)
+    pub settles : (result : Answer) (step : IsCoreCommand old new record_is NeedsNothing result)
         (led : Leads old record_is asked result) → Plain result ≡ Plain answer.Done
         → (served result step led).doubt ≡ None
     unfolding served done written
@@ -359,7 +359,7 @@ module _ {J F S R P : Type 0} {means : disk.Ghosts J} {counts : counted.Ghosts J
     settles (answer.Full counter) step led is = absurd cc
 
     -- in doubt is nothing, what was, or the record, where the device failed
-    faulted_doubts : (step : IsCoreCommand old new record_is IsAny answer.Device)
+    faulted_doubts : (step : IsCoreCommand old new record_is NeedsNothing answer.Device)
         (leads_to : StandsFor serving.outside.told (after record_is serving.state.store) then_state.world)
         (seen : IsSeenAfter new serving.outside serving.state record_is answer.Device)
         → Doubts next then_state answer.Device (faulted answer.Device step leads_to seen).doubt
@@ -368,7 +368,7 @@ module _ {J F S R P : Type 0} {means : disk.Ghosts J} {counts : counted.Ghosts J
     faulted_doubts step leads_to (inr (inl seen)) = inr (inl refl)
     faulted_doubts step leads_to (inr (inr seen)) = inr (inr (refl, refl))
 
-    pub doubts : (result : Answer) (step : IsCoreCommand old new record_is IsAny result)
+    pub doubts : (result : Answer) (step : IsCoreCommand old new record_is NeedsNothing result)
         (led : Leads old record_is asked result) → Doubts next then_state result (served result step led).doubt
     unfolding served done written
     doubts answer.Done step led = inl refl
@@ -392,8 +392,8 @@ module _ {J F S R P : Type 0} {means : disk.Ghosts J} {counts : counted.Ghosts J
         (subst (λ (core : Core J F S R P means counts). IsSeen core serving.outside serving.state) (sym same)
         serving.seen)
 
-    pub unmoved : (result : Answer) → IsCoreCommand old new record_is IsAny result → IsMapAnswer at.world asked result
-        → ¬ IsWritten at asked (Plain result) → IsServedBy Q old new files at next at at
+    pub unmoved : (result : Answer) → IsCoreCommand old new record_is NeedsNothing result → IsMapAnswer at.world asked result
+        → ¬ MayBeWritten at asked (Plain result) → IsServedBy Q old new files at next at at
     unmoved answer.Done step map not = absurd (not (inl refl))
     unmoved answer.NoPath step map not = same_core (step.refused tt)
     unmoved answer.WrongType step map not = same_core (step.refused tt)
@@ -404,7 +404,7 @@ module _ {J F S R P : Type 0} {means : disk.Ghosts J} {counts : counted.Ghosts J
     unmoved (answer.Full counter) step map not = same_core (step.refused tt)
 
     -- a command that is one record
-    pub answered : (result : Answer) (step : IsCoreCommand old new record_is IsAny result)
+    pub answered : (result : Answer) (step : IsCoreCommand old new record_is NeedsNothing result)
         (leads : Leads old record_is asked result) → IsChange asked → IsMapAnswer at.world asked result
         → IsAllowed at asked (Plain result) → IsAnsweredBy Q old new files at next asked (Plain result)
     answered result step leads change map may = record {
@@ -428,10 +428,10 @@ module _ {J F S R P : Type 0} {means : disk.Ghosts J} {counts : counted.Ghosts J
     Ends result = (served : IsServedBy Q old new files at next (done_after at asked)
         (state_after at asked (Plain result))) × (Plain result ≡ Plain answer.Done → served.doubt ≡ None)
         × RowDoubts next at (done_after at asked) result served.doubt
-        × (¬ IsWritten at asked (Plain result) → IsServedBy Q old new files at next at at)
+        × (¬ MayBeWritten at asked (Plain result) → IsServedBy Q old new files at next at at)
 
     -- the core before the record, which no file was put for
-    placed : (between : Core J F S R P means counts) → HasPlace row old between
+    placed : (between : Core J F S R P means counts) → HasRowPlace row old between
         → (first : IsServedBy NoNumber old between files at next at at) × (slot_under between ≡ slot_under old)
     placed between (inl (fits, same)) = (
       unchanged laws NoNumber old between files at next at
@@ -445,14 +445,14 @@ module _ {J F S R P : Type 0} {means : disk.Ghosts J} {counts : counted.Ghosts J
       frozen.freeze.slot,
     )
 
-    put_leads : (result : Answer) (put : IsPut device row old new result)
+    put_leads : (result : Answer) (put : IsRowPut device row old new result)
         → Leads put.between (item.Insert row.time put.cells) asked result
     put_leads result put outside state seen tried world stands =
         inserted_stands outside.told device row put.cells state.store seen.sound.stored.order.store
         (put.can outside state seen).0 world stands
         (subst (λ schemas. AreCells schemas device row.cells put.cells) (sym seen.sound.memory.schemas) put.are)
 
-    put_ends : (result : Answer) → IsPut device row old new result → IsMapAnswer at.world asked result → Ends result
+    put_ends : (result : Answer) → IsRowPut device row old new result → IsMapAnswer at.world asked result → Ends result
     put_ends result put map =
         let first = placed put.between put.place in
         let step = put.put in (
@@ -598,19 +598,19 @@ module _ {J F S R P : Type 0} {means : disk.Ghosts J} {counts : counted.Ghosts J
       (at : plain.State) (next : Option plain.State) (why : FlushFault)
       → ((counter : ℕ) → why ≡ fault.Full counter → end_of_numbers < counter + 2)
       → IsServing old files at next → IsServed old new files at next at at
-      → IsAnsweredBy (IsDrawn old new) old new files at next (command.Insert device row) (Plain (answer_of why))
+      → IsAnsweredBy (IsDrawn old new) old new files at next (command.Insert device row) (Plain (flush_answer why))
   flush_failed old new device row files at next why full serving kept = record {
     allowed = fault_allowed at device row why full;
     served = moved laws (IsDrawn old new) old new files at next (done_after at (command.Insert device row)) at
-        (state_after at (command.Insert device row) (Plain (answer_of why))) (sym (fault_state at device row why))
+        (state_after at (command.Insert device row) (Plain (flush_answer why))) (sym (fault_state at device row why))
         (for_command (IsDrawn old new) old new device row files at next serving kept);
     settled = λ change is. absurd (fault_not_done why is);
-    doubtful = subst (LeavesDoubt next at (command.Insert device row) (Plain (answer_of why)))
+    doubtful = subst (LeavesDoubt next at (command.Insert device row) (Plain (flush_answer why)))
         (sym (moved_left laws (IsDrawn old new) old new files at next (done_after at (command.Insert device row)) at
-        (state_after at (command.Insert device row) (Plain (answer_of why))) (sym (fault_state at device row why))
+        (state_after at (command.Insert device row) (Plain (flush_answer why))) (sym (fault_state at device row why))
         (for_command (IsDrawn old new) old new device row files at next serving kept)
         ∙ command_doubt (IsDrawn old new) old new device row files at next serving kept))
-        (behind_doubts next at device row (Plain (answer_of why)) kept.doubt kept.doubt kept.may (inr (inl refl)));
+        (behind_doubts next at device row (Plain (flush_answer why)) kept.doubt kept.doubt kept.may (inr (inl refl)));
     unwritten = λ change not. kept;
   }
 

@@ -4,12 +4,12 @@ use Rattle.std.specs.Prelude.{IfErr}
 use Rattle.tsdb_core.specs.Flushes.{IsTakeAnswer}
 use Rattle.tsdb_core.specs.declared.commit.CoreFault.{CoreFault}
 use Rattle.tsdb_core.specs.declared.commit.CoreFault.TheVariants as job
-use Rattle.tsdb_memory.specs.Store.{Store}
+use Rattle.tsdb_memory.specs.Store.{MemoryState}
 use Rattle.tsdb_base.specs.Causes.{Rose}
 use Rattle.tsdb_outside.specs.declared.faults.StoreFault.{StoreFault}
 use Rattle.tsdb_outside.specs.declared.faults.StoreFault.TheVariants as file
 use Rattle.tsdb_base.specs.declared.answers.Answer.TheVariants as answer
-use Rattle.tsdb_serving.specs.Faults.{HasFlushCause, answer_of, of_core_fault, of_file_fault}
+use Rattle.tsdb_serving.specs.Faults.{HasFlushCause, flush_answer, of_core_fault, of_file_fault}
 use Rattle.tsdb_serving.specs.declared.fault.FlushFault.{FlushFault}
 use Rattle.tsdb_serving.specs.declared.fault.FlushFault.TheVariants.{Device, Memory, Full}
 use Rattle.tsdb_base.specs.Limits.{end_of_numbers}
@@ -100,7 +100,7 @@ freeze_cause journal journal_after port port_after next Memory rose full = tt
 freeze_cause journal journal_after port port_after next (Full counter) rose full = absurd (full counter refl)
 
 -- the answer where too few numbers are left
-pub full_is : (upto next : ℕ) (store : Store) (fault : CoreFault) → IsTakeAnswer upto next store (Err fault)
+pub full_is : (upto next : ℕ) (store : MemoryState) (fault : CoreFault) → IsTakeAnswer upto next store (Err fault)
     → (counter : ℕ) → fault ≡ job.Full counter → (end_of_numbers < next + 2) × (counter ≡ next)
 full_is upto next store job.Memory answer counter is = absurd cc
 full_is upto next store (job.Full number) answer counter is =
@@ -110,7 +110,7 @@ full_is upto next store (job.Full number) answer counter is =
     number_is a b same = cc
 
 pub device_cause : (journal journal_after port port_after next : ℕ) (fault : FlushFault)
-    → answer_of fault ≡ answer.Device → HasFlushCause journal journal_after port port_after next fault
+    → flush_answer fault ≡ answer.Device → HasFlushCause journal journal_after port port_after next fault
     → Rose journal journal_after ⊎ Rose port port_after
 device_cause journal journal_after port port_after next Device is cause = cause
 device_cause journal journal_after port port_after next Memory is cause = absurd cc

@@ -1,7 +1,7 @@
 -- Files that are put have different numbers: those of one job, and those of calls one behind another.
 use Rattle.std.proofs.Common.{◌≢◌, ℕ, List, [], ◌∷◌, ◌++◌, map, Option, None, Some, arith}
 use Rattle.std.specs.List.{AllByRecursion as Each, flat_map}
-use Rattle.tsdb_core.specs.Files.{NewFile, number_of, stored_of}
+use Rattle.tsdb_core.specs.Files.{NewFile, file_number, stored_of}
 use Rattle.tsdb_core.specs.declared.engine.Core.{Core}
 use Rattle.tsdb_base.proofs.Lists.{each_append, each_weaker}
 use Rattle.tsdb_base.specs.Lists.{EachPair, if_some}
@@ -20,15 +20,15 @@ abbrev pub NoNumber : ℕ → Type 0
 NoNumber number = ⊥
 
 -- files of different numbers are stored under these
-pub stored_differ : (files : List NewFile) → EachPair (λ a b. number_of a ≢ number_of b) files
+pub stored_differ : (files : List NewFile) → EachPair (λ a b. file_number a ≢ file_number b) files
     → Differ (flat_map stored_of files)
 stored_differ [] differ = tt
 stored_differ (file ∷ files) differ = by file.token.name.bytes
-    (stored_number (λ number. number_of file ≢ number) files differ.0) (stored_differ files differ.1)
+    (stored_number (λ number. file_number file ≢ number) files differ.0) (stored_differ files differ.1)
   where
-    by : (bytes : Option (List ℕ)) → Each (λ (other : StoredFile). number_of file ≢ other.number) (flat_map stored_of files)
+    by : (bytes : Option (List ℕ)) → Each (λ (other : StoredFile). file_number file ≢ other.number) (flat_map stored_of files)
         → Differ (flat_map stored_of files)
-        → Differ (map (λ b. record { number = number_of file; bytes = b }) (if_some bytes) ++ flat_map stored_of files)
+        → Differ (map (λ b. record { number = file_number file; bytes = b }) (if_some bytes) ++ flat_map stored_of files)
     by None apart rest = rest
     by (Some bytes) apart rest = (apart, rest)
 

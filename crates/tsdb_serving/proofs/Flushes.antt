@@ -7,11 +7,11 @@ use Rattle.std.specs.Option.{IsSomeAnd, option_map}
 use Rattle.std.specs.Prelude.{None, OnOk, Some, slice_get}
 use Rattle.tsdb_base.specs.declared.ids.Stamp.{Stamp}
 use Rattle.tsdb_base.specs.declared.answers.Answer.{Answer}
-use Rattle.tsdb_core.specs.Files.{AreOfJob, NewFile, NewFiles, TellBytes, all_of}
+use Rattle.tsdb_core.specs.Files.{AreFilesOfJob, NewFile, NewFiles, TellBytes, all_of}
 use Rattle.tsdb_core.specs.Commands.{IsCoreCommand}
 use Rattle.tsdb_core.specs.Core.{logged_of, next_of, working_of}
 use Rattle.tsdb_core.specs.Ending.{drawn_for}
-use Rattle.tsdb_core.specs.Flushes.{IsAbandoned, IsCommit, IsDue, IsNotTaken, IsOldest, IsTaken, TakesMemory}
+use Rattle.tsdb_core.specs.Flushes.{IsAbandoned, IsCommit, IsDue, IsNotTaken, IsOldestPair, IsFlushTaken, TakesMemory}
 use Rattle.tsdb_core.specs.Rows.{CanFreezeNow, NeedsFlush}
 use Rattle.tsdb_core.specs.declared.commit.Commit.{Commit}
 use Rattle.tsdb_core.specs.declared.commit.Commit.TheVariants.{Gone}
@@ -24,9 +24,9 @@ use Rattle.tsdb_core.specs.Places.{AreOfStore, AreUnread}
 use Rattle.tsdb_base.proofs.Lists.{each_weaker}
 use Rattle.tsdb_base.specs.Lists.{Among}
 use Rattle.tsdb_log.specs.declared.record.LogRecord.TheVariants.{Freeze}
-use Rattle.tsdb_memory.specs.Commands.{IsAny}
+use Rattle.tsdb_memory.specs.Commands.{NeedsNothing}
 use Rattle.tsdb_memory.specs.Logged.{log_of, memory_of}
-use Rattle.tsdb_memory.specs.declared.logged.Logged.{Logged}
+use Rattle.tsdb_memory.specs.declared.logged.LoggedMemory.{LoggedMemory}
 use Rattle.tsdb_model.specs.State as plain
 use Rattle.tsdb_outside.specs.Disk.{IsLawful}
 use Rattle.tsdb_outside.specs.Files.{Store, StoredFile}
@@ -38,9 +38,9 @@ use Rattle.tsdb_serving.proofs.Jobs.{put_numbers, ready_again, still_ready, with
 use Rattle.tsdb_serving.proofs.Parts as parts
 use Rattle.tsdb_serving.proofs.Steps.{then}
 use Rattle.tsdb_model.specs.declared.command.Row.{Row}
-use Rattle.tsdb_memory.specs.Store.{FrozenPair, Store as MemoryStore}
-use Rattle.tsdb_memory.specs.Fits.{HasNoPoint}
-use Rattle.tsdb_serving.specs.Flushing.{EndsJob, GoesOn, IsBusy, IsOfJob, IsReady, faults_under, frozen_in}
+use Rattle.tsdb_memory.specs.Store.{FrozenPair, MemoryState as MemoryStore}
+use Rattle.tsdb_memory.specs.Fits.{HasNoPairPoint}
+use Rattle.tsdb_serving.specs.Flushing.{EndsJob, GoesOn, IsBusy, IsOfJob, IsReady, faults_under, frozen_under}
 use Rattle.tsdb_serving.specs.declared.fault.FlushFault.{FlushFault}
 use Rattle.tsdb_serving.specs.Serving.{IsDrawn, IsServed, IsServedBy, LeavesEither, disk_under}
 
@@ -108,7 +108,7 @@ module _ {J F S R P : Type 0} {means : disk.Ghosts J} {counts : counted.Ghosts J
   }
 
   -- a freeze
-  pub froze : (old new : Core J F S R P means counts) (result : Answer) → IsCoreCommand old new Freeze IsAny result
+  pub froze : (old new : Core J F S R P means counts) (result : Answer) → IsCoreCommand old new Freeze NeedsNothing result
       → CanFreezeNow old → IsReady store old → GoesOn store old new
   froze old new result command can ready = record {
     ready = record {
@@ -126,7 +126,7 @@ module _ {J F S R P : Type 0} {means : disk.Ghosts J} {counts : counted.Ghosts J
 
   -- a job is taken, and ended
   module _ (old mid new : Core J F S R P means counts) (job : FlushJob) (takes : TakesMemory old mid)
-      (taken : IsTaken old mid job) (ends : EndsJob store mid new job) where
+      (taken : IsFlushTaken old mid job) (ends : EndsJob store mid new job) where
     as_drawn : (n : ℕ) → IsOfJob job n → IsDrawn old new n
     as_drawn n among =
         let is = within (next_of old) (length (drawn_for job)) n
@@ -164,7 +164,7 @@ module _ {J F S R P : Type 0} {means : disk.Ghosts J} {counts : counted.Ghosts J
   -- ---- the end of a job
 
   module _ (old new : Core J F S R P means counts) (job : FlushJob) (built : NewFiles) (given : Store)
-      (of_job : AreOfJob given job built) (all : Each (IsIn store) (all_of built))
+      (of_job : AreFilesOfJob given job built) (all : Each (IsIn store) (all_of built))
       (tells : store.tells ≡ true → TellBytes built) (busy : IsBusy store old job) where
     pub commit_ends : (commit : Commit) → IsCommit old new job built commit → EndsJob store old new job
     commit_ends commit commits = record {
@@ -184,7 +184,7 @@ module _ {J F S R P : Type 0} {means : disk.Ghosts J} {counts : counted.Ghosts J
       limit = gives_up.ends.limit;
       slot = ap (λ logged. slot_of (log_of logged)) gives_up.logged;
       next = gives_up.ends.next;
-      later = subst (λ (logged : Logged J means counts). faults_under old ≤ faults_of (log_of logged))
+      later = subst (λ (logged : LoggedMemory J means counts). faults_under old ≤ faults_of (log_of logged))
           (sym gives_up.logged) (omega arith);
       keeps = λ told files at next serving.
           parts.abandoned laws (IsOfJob job) old new job built given of_job (tells told)
@@ -194,8 +194,8 @@ module _ {J F S R P : Type 0} {means : disk.Ghosts J} {counts : counted.Ghosts J
 module _ {J F S R P : Type 0} {means : disk.Ghosts J} {counts : counted.Ghosts J} where
   -- taking memory leaves the pairs, and the journal's count
   pub oldest_still : (old new : Core J F S R P means counts) (job : FlushJob) → TakesMemory old new
-      → IsTaken old new job → IsOldest job (memory_of (logged_of new))
-  oldest_still old new job takes taken = subst (IsOldest job) (sym takes.memory)
+      → IsFlushTaken old new job → IsOldestPair job (memory_of (logged_of new))
+  oldest_still old new job takes taken = subst (IsOldestPair job) (sym takes.memory)
       (born_of (slice_get (memory_of (logged_of old)).frozen 0) taken.oldest)
     where
       born_of : (o : Option FrozenPair) → IsSomeAnd o (λ pair. (pair.born ≡ job.born.0) × (pair.pair ≡ arc_value job.pair))
@@ -204,7 +204,7 @@ module _ {J F S R P : Type 0} {means : disk.Ghosts J} {counts : counted.Ghosts J
       born_of (Some pair) is = is.0
 
   pub dropped : (old mid new : Core J F S R P means counts) (result : Result (Unit {0}) FlushFault) → TakesMemory old mid
-      → OnOk result (frozen_in new ≡ drop 1 (frozen_in mid)) → OnOk result (frozen_in new ≡ drop 1 (frozen_in old))
+      → OnOk result (frozen_under new ≡ drop 1 (frozen_under mid)) → OnOk result (frozen_under new ≡ drop 1 (frozen_under old))
   dropped old mid new (Ok value) takes is = is ∙ ap (λ (store : MemoryStore). drop 1 store.frozen) takes.memory
   dropped old mid new (Err fault) takes is = tt
 
@@ -239,21 +239,21 @@ both_dropped old mid new (Err fault) few first second = tt
 
 module _ {J F S R P : Type 0} {means : disk.Ghosts J} {counts : counted.Ghosts J} where
   pub flushed_all : (mid new : Core J F S R P means counts) (result : Result (Unit {0}) FlushFault)
-      → OnOk result (frozen_in new ≡ []) → working_of new ≡ working_of mid → HasNoPoint (working_of mid)
-      → OnOk result ((frozen_in new ≡ []) × HasNoPoint (working_of new))
-  flushed_all mid new (Ok value) none same empty = (none, subst HasNoPoint (sym same) empty)
+      → OnOk result (frozen_under new ≡ []) → working_of new ≡ working_of mid → HasNoPairPoint (working_of mid)
+      → OnOk result ((frozen_under new ≡ []) × HasNoPairPoint (working_of new))
+  flushed_all mid new (Ok value) none same empty = (none, subst HasNoPairPoint (sym same) empty)
   flushed_all mid new (Err fault) none same empty = tt
 
   pub place_left : (old new : Core J F S R P means counts) (result : Result (Unit {0}) FlushFault)
-      → length (frozen_in old) ≤ 2 → OnOk result (frozen_in new ≡ drop 1 (frozen_in old))
-      → OnOk result (HasNoPoint (working_of new) ⊎ (length (frozen_in new) < 2))
-  place_left old new (Ok value) few is = inr (one_left (frozen_in old) (frozen_in new) few is)
+      → length (frozen_under old) ≤ 2 → OnOk result (frozen_under new ≡ drop 1 (frozen_under old))
+      → OnOk result (HasNoPairPoint (working_of new) ⊎ (length (frozen_under new) < 2))
+  place_left old new (Ok value) few is = inr (one_left (frozen_under old) (frozen_under new) few is)
   place_left old new (Err fault) few is = tt
 
   pub no_flush_needed : (old new : Core J F S R P means counts) (row : Row) (result : Result (Unit {0}) FlushFault)
-      → length (frozen_in old) ≤ 2 → OnOk result (frozen_in new ≡ drop 1 (frozen_in old))
+      → length (frozen_under old) ≤ 2 → OnOk result (frozen_under new ≡ drop 1 (frozen_under old))
       → OnOk result (¬ NeedsFlush row new)
   no_flush_needed old new row (Ok value) few is =
-      let left = one_left (frozen_in old) (frozen_in new) few is in
+      let left = one_left (frozen_under old) (frozen_under new) few is in
       λ needs. let two = needs.1 in absurd (omega (arith, left, two))
   no_flush_needed old new row (Err fault) few is = tt

@@ -13,7 +13,7 @@ use Rattle.tsdb_model.specs.declared.reply.Reply.TheVariants.{Plain}
 use Rattle.tsdb_outside.specs.declared.disk.Disk as disk
 use Rattle.tsdb_outside.specs.declared.faults.Counted as counted
 use Rattle.tsdb_serving.proofs.Answered.{HasStamp}
-use Rattle.tsdb_serving.specs.Faults.{HasFlushCause, answer_of}
+use Rattle.tsdb_serving.specs.Faults.{HasFlushCause, flush_answer}
 use Rattle.tsdb_serving.specs.Serving.{HasFullCause}
 use Rattle.tsdb_serving.specs.declared.fault.FlushFault.{FlushFault}
 use Rattle.tsdb_serving.specs.declared.fault.FlushFault.TheVariants as fault
@@ -34,7 +34,7 @@ few_drawn job = omega (
 
 -- the counter of a flush that ended for want of numbers is the next number
 pub next_counter : (journal journal_after port port_after next : ℕ) (why : FlushFault)
-    → HasFlushCause journal journal_after port port_after next why → (result : Answer) → result ≡ answer_of why
+    → HasFlushCause journal journal_after port port_after next why → (result : Answer) → result ≡ flush_answer why
     → (counter : ℕ) → result ≡ answer.Full counter → counter ≡ next
 next_counter journal journal_after port port_after next fault.Device cause result why counter is = absurd cc
 next_counter journal journal_after port port_after next fault.Memory cause result why counter is = absurd cc
@@ -44,7 +44,7 @@ next_counter journal journal_after port port_after next (fault.Full number) caus
     omega (arith, same, next_is)
 
 -- an answer `full` is of such a fault
-pub full_fault : (why : FlushFault) (counter : ℕ) → answer_of why ≡ answer.Full counter → why ≡ fault.Full counter
+pub full_fault : (why : FlushFault) (counter : ℕ) → flush_answer why ≡ answer.Full counter → why ≡ fault.Full counter
 full_fault fault.Device counter is = absurd cc
 full_fault fault.Memory counter is = absurd cc
 full_fault (fault.Full number) counter is = let same : number ≡ counter = cc in ap (λ n. fault.Full n) same

@@ -1,7 +1,7 @@
 -- Files that are held wherever others are, and what a stop leaves with more of them.
 use Rattle.std.proofs.Common.{◌≡◌, ◌⊎◌, ℕ, List, ◌++◌, Option, None, Some, inl, inr, subst}
 use Rattle.std.specs.List.{flat_map}
-use Rattle.tsdb_core.specs.Files.{NewFiles, all_of, kept_with, numbers_of, stored_of}
+use Rattle.tsdb_core.specs.Files.{NewFiles, all_of, kept_with, built_numbers, stored_of}
 use Rattle.tsdb_state.proofs.ImageLemmas.Kept.{each_passed}
 use Rattle.tsdb_state.specs.Stored.{LeavesOneOf, without_numbers}
 use Rattle.tsdb_base.proofs.Lists.{each_append, each_left, each_right}
@@ -9,11 +9,11 @@ use Rattle.tsdb_model.specs.State as plain
 use Rattle.tsdb_outside.specs.Disk.{Image, in_slot}
 use Rattle.tsdb_outside.specs.Files.{StoredFile}
 use Rattle.tsdb_outside.specs.declared.disk.Slot.{Slot}
-use Rattle.tsdb_state.specs.Stores.{Files, StandsForOneOf}
+use Rattle.tsdb_state.specs.Stores.{BytesByNumber, StandsForOneOf}
 use Rattle.tsdb_serving.specs.Serving.{AreHeldWith, LeavesEither, MayDoubt}
 
 -- this is held of a file
-abbrev Held : Files → StoredFile → Type 0
+abbrev Held : BytesByNumber → StoredFile → Type 0
 Held files file = files file.number ≡ Some file.bytes
 
 pub held_more : (kept files put : List StoredFile) → AreHeldWith kept files → AreHeldWith kept (files ++ put)
@@ -21,7 +21,7 @@ held_more kept files put held there holds = held there (each_left (Held there) f
 
 pub held_with : (new : NewFiles) (kept files : List StoredFile) → AreHeldWith kept files
     → AreHeldWith (kept_with new kept) (files ++ flat_map stored_of (all_of new))
-held_with new kept files held there holds = each_append (Held there) (without_numbers (numbers_of new) kept)
+held_with new kept files held there holds = each_append (Held there) (without_numbers (built_numbers new) kept)
     (flat_map stored_of (all_of new))
     (each_passed (Held there) (Held there) _ kept (λ file has passes. has)
     (held there (each_left (Held there) files (flat_map stored_of (all_of new)) holds)))
@@ -47,12 +47,12 @@ either_wider kept files slot at next after image held (inr leaves) =
     inr (wider kept files slot at (Some after) image held leaves)
 
 -- what stands for the state, or for one in doubt
-state_of : (there : Files) (bytes : List ℕ) (at : plain.State) (next : Option plain.State)
+state_of : (there : BytesByNumber) (bytes : List ℕ) (at : plain.State) (next : Option plain.State)
     → StandsForOneOf there bytes at None → StandsForOneOf there bytes at next
 state_of there bytes at None stands = stands
 state_of there bytes at (Some next) stands = inl stands
 
-same_of : (there : Files) (bytes : List ℕ) (at : plain.State) (next : Option plain.State)
+same_of : (there : BytesByNumber) (bytes : List ℕ) (at : plain.State) (next : Option plain.State)
     → StandsForOneOf there bytes at (Some at) → StandsForOneOf there bytes at next
 same_of there bytes at next (inl stands) = state_of there bytes at next stands
 same_of there bytes at next (inr stands) = state_of there bytes at next stands

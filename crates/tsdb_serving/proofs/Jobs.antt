@@ -7,16 +7,16 @@ use Rattle.std.specs.Prelude.{IfSome, IsSome, is_some}
 use Rattle.tsdb_base.specs.declared.ids.FileNumber.{FileNumber}
 use Rattle.tsdb_base.specs.declared.ids.Space.TheVariants.{Sequence, Unsequence}
 use Rattle.tsdb_core.proofs.Coming.{of_each}
-use Rattle.tsdb_core.specs.Files.{AreOfJob, IsOfPart, NewFile, NewFiles, TellBytes, all_of, new_file, new_files}
-use Rattle.tsdb_core.specs.Files.{number_of, stored_of}
+use Rattle.tsdb_core.specs.Files.{AreFilesOfJob, IsOfPart, NewFile, NewFiles, TellBytes, all_of, file_built, new_files}
+use Rattle.tsdb_core.specs.Files.{file_number, stored_of}
 use Rattle.tsdb_core.specs.Commands.{KeepsFiles}
 use Rattle.tsdb_core.specs.Core.{files_of, next_of}
 use Rattle.tsdb_core.specs.Ending.{drawn_for, numbers_if}
-use Rattle.tsdb_core.specs.Flushes.{EndsFlush, IsNotTaken, IsOut, IsTaken, TakesMemory}
+use Rattle.tsdb_core.specs.Flushes.{HasEndedFlush, IsNotTaken, IsOut, IsFlushTaken, TakesMemory}
 use Rattle.tsdb_core.specs.Sweeps.{IsSwept}
 use Rattle.tsdb_core.specs.declared.commit.Commit.{Commit}
 use Rattle.tsdb_core.specs.declared.engine.Core.{Core}
-use Rattle.tsdb_core.specs.Built.{IsDone}
+use Rattle.tsdb_core.specs.Built.{IsPartDone}
 use Rattle.tsdb_core.specs.Jobs.{job_part}
 use Rattle.tsdb_core.specs.Parts.{Filled}
 use Rattle.tsdb_core.specs.BuiltType.{Built}
@@ -31,7 +31,7 @@ use Rattle.tsdb_outside.specs.Files.{NamedFile, Store, StoredFile, Tells}
 use Rattle.tsdb_outside.specs.declared.disk.Disk as disk
 use Rattle.tsdb_outside.specs.declared.faults.Counted as counted
 use Rattle.tsdb_outside.specs.declared.faults.Failed.{Failed}
-use Rattle.tsdb_serving.specs.Files.{AreDone, AreDoneSoFar}
+use Rattle.tsdb_serving.specs.Files.{AreDoneInStore, AreDoneSoFarInStore}
 use Rattle.tsdb_serving.specs.Flushing.{IsBusy, IsOfJob, IsReady}
 use Rattle.tsdb_serving.specs.Serving.{IsDrawn}
 use Rattle.tsdb_state.specs.State as state
@@ -55,16 +55,16 @@ told (Some bytes) is = refl
 module _ {F S R P : Type 0} (file : S → NamedFile) (rights : S → ℕ) (store : Store) where
   module _ (born : ℕ) (part : List Filled) where
     in_store : (number : Option FileNumber) (built : Option (Built F S R P))
-        → (built ≡ None) ⊎ IsDone file rights store born part number built
-        → IfSome (option_map (new_file file) built) (IsIn store)
+        → (built ≡ None) ⊎ IsPartDone file rights store born part number built
+        → IfSome (option_map (file_built file) built) (IsIn store)
     in_store number None done = tt
     in_store number (Some built) (inl none) = absurd cc
     in_store None (Some built) (inr done) = absurd done
     in_store (Some number) (Some built) (inr done) = done.in_store
 
     tells_part : store.tells ≡ true → ((sealed : S) → Tells (file sealed)) → (number : Option FileNumber)
-        (built : Option (Built F S R P)) → (built ≡ None) ⊎ IsDone file rights store born part number built
-        → IfSome (option_map (new_file file) built) (λ new. IsSome new.token.name.bytes)
+        (built : Option (Built F S R P)) → (built ≡ None) ⊎ IsPartDone file rights store born part number built
+        → IfSome (option_map (file_built file) built) (λ new. IsSome new.token.name.bytes)
     tells_part tells law number None done = tt
     tells_part tells law number (Some built) (inl none) = absurd cc
     tells_part tells law None (Some built) (inr done) = absurd done
@@ -73,24 +73,24 @@ module _ {F S R P : Type 0} (file : S → NamedFile) (rights : S → ℕ) (store
 
 module _ {F S R P : Type 0} (file : S → NamedFile) (rights : S → ℕ) (store : Store) where
   -- what is done whole is done so far
-  pub done_so_far : (job : FlushJob) (files : Flushed F S R P) → AreDone file rights store job files
-      → AreDoneSoFar file rights store job files
+  pub done_so_far : (job : FlushJob) (files : Flushed F S R P) → AreDoneInStore file rights store job files
+      → AreDoneSoFarInStore file rights store job files
   done_so_far job files done = (
     record { store = done.0.store; sequence = inr done.0.sequence; unsequence = inr done.0.unsequence },
     done.1,
   )
 
-  module _ (job : FlushJob) (files : Flushed F S R P) (done : AreDoneSoFar file rights store job files) where
+  module _ (job : FlushJob) (files : Flushed F S R P) (done : AreDoneSoFarInStore file rights store job files) where
     pub all_in_store : Each (IsIn store) (all_of (new_files file files))
     all_in_store = subst (λ s. Each (IsIn s) (all_of (new_files file files))) done.1
-        (each_of (IsIn done.0.store) (option_map (new_file file) files.sequence)
-        (option_map (new_file file) files.unsequence)
+        (each_of (IsIn done.0.store) (option_map (file_built file) files.sequence)
+        (option_map (file_built file) files.unsequence)
         (in_store file rights done.0.store job.born.0 (job_part Sequence job) job.sequence files.sequence done.0.sequence)
         (in_store file rights done.0.store job.born.0 (job_part Unsequence job) job.unsequence files.unsequence done.0.unsequence))
 
     pub tell_bytes : store.tells ≡ true → ((sealed : S) → Tells (file sealed)) → TellBytes (new_files file files)
-    tell_bytes tells law = each_of (λ new. IsSome new.token.name.bytes) (option_map (new_file file) files.sequence)
-        (option_map (new_file file) files.unsequence)
+    tell_bytes tells law = each_of (λ new. IsSome new.token.name.bytes) (option_map (file_built file) files.sequence)
+        (option_map (file_built file) files.unsequence)
         (tells_part file rights done.0.store job.born.0 (job_part Sequence job) as_told law job.sequence files.sequence
         done.0.sequence)
         (tells_part file rights done.0.store job.born.0 (job_part Unsequence job) as_told law job.unsequence files.unsequence
@@ -102,7 +102,7 @@ module _ {F S R P : Type 0} (file : S → NamedFile) (rights : S → ℕ) (store
 -- ---- their numbers
 
 number_there : (store : Store) (born : ℕ) (part : List Filled) (number : Option FileNumber) (new : Option NewFile)
-    → IsOfPart store born part number new → IfSome new (λ file. Among (number_of file) (numbers_if number))
+    → IsOfPart store born part number new → IfSome new (λ file. Among (file_number file) (numbers_if number))
 number_there store born part number None of_part = tt
 number_there store born part None (Some new) of_part = absurd of_part
 number_there store born part (Some number) (Some new) of_part = inl (sym of_part.kept.number_is)
@@ -114,7 +114,7 @@ unread_there store born part number None of_part = tt
 unread_there store born part None (Some new) of_part = absurd of_part
 unread_there store born part (Some number) (Some new) of_part = of_part.unread
 
-all_unread : (store : Store) (job : FlushJob) (files : NewFiles) → AreOfJob store job files
+all_unread : (store : Store) (job : FlushJob) (files : NewFiles) → AreFilesOfJob store job files
     → Each (λ file. file.token.rights ≡ 0) (all_of files)
 all_unread store job files of_job = each_of (λ file. file.token.rights ≡ 0) files.sequence files.unsequence
     (unread_there store job.born.0 (job_part Sequence job) job.sequence files.sequence of_job.sequence)
@@ -126,26 +126,26 @@ if_weaker P Q None weaker holds = tt
 if_weaker P Q (Some file) weaker holds = weaker file holds
 
 -- what the bytes of files that tell them are stored under
-pub stored_number : (Q : ℕ → Type 0) (files : List NewFile) → Each (λ file. Q (number_of file)) files
+pub stored_number : (Q : ℕ → Type 0) (files : List NewFile) → Each (λ file. Q (file_number file)) files
     → Each (λ (stored : StoredFile). Q stored.number) (flat_map stored_of files)
 stored_number Q [] all = tt
 stored_number Q (file ∷ files) all = each_append (λ (stored : StoredFile). Q stored.number) (stored_of file)
     (flat_map stored_of files) (of_file file.token.name.bytes) (stored_number Q files all.1)
   where
     of_file : (bytes : Option (List ℕ)) → Each (λ (stored : StoredFile). Q stored.number)
-        (map (λ b. record { number = number_of file; bytes = b }) (if_some bytes))
+        (map (λ b. record { number = file_number file; bytes = b }) (if_some bytes))
     of_file None = tt
     of_file (Some bytes) = (all.0, tt)
 
-pub put_numbers : (store : Store) (job : FlushJob) (files : NewFiles) → AreOfJob store job files
+pub put_numbers : (store : Store) (job : FlushJob) (files : NewFiles) → AreFilesOfJob store job files
     → Each (λ (stored : StoredFile). IsOfJob job stored.number) (flat_map stored_of (all_of files))
 put_numbers store job files of_job = stored_number (IsOfJob job) (all_of files)
-    (each_of (λ file. IsOfJob job (number_of file)) files.sequence files.unsequence
-    (if_weaker (λ file. Among (number_of file) (numbers_if job.sequence)) (λ file. IsOfJob job (number_of file))
-    files.sequence (λ file. among_left (numbers_if job.sequence) (numbers_if job.unsequence) (number_of file))
+    (each_of (λ file. IsOfJob job (file_number file)) files.sequence files.unsequence
+    (if_weaker (λ file. Among (file_number file) (numbers_if job.sequence)) (λ file. IsOfJob job (file_number file))
+    files.sequence (λ file. among_left (numbers_if job.sequence) (numbers_if job.unsequence) (file_number file))
     (number_there store job.born.0 (job_part Sequence job) job.sequence files.sequence of_job.sequence))
-    (if_weaker (λ file. Among (number_of file) (numbers_if job.unsequence)) (λ file. IsOfJob job (number_of file))
-    files.unsequence (λ file. among_right (numbers_if job.sequence) (numbers_if job.unsequence) (number_of file))
+    (if_weaker (λ file. Among (file_number file) (numbers_if job.unsequence)) (λ file. IsOfJob job (file_number file))
+    files.unsequence (λ file. among_right (numbers_if job.sequence) (numbers_if job.unsequence) (file_number file))
     (number_there store job.born.0 (job_part Unsequence job) job.unsequence files.unsequence of_job.unsequence)))
 
 -- a number of a range of numbers
@@ -164,7 +164,7 @@ within from (suc count) n (inr among) =
 
 -- ---- jobs
 
-abbrev flush_of : FlushJob → state.FlushJob
+abbrev flush_of : FlushJob → state.FlushState
 flush_of job = record {
   born = job.born.0;
   pair = record { sequence = empty; unsequence = empty };
@@ -172,7 +172,7 @@ flush_of job = record {
   unsequence = option_map (λ (number : FileNumber). number.0) job.unsequence;
 }
 
-only_one : (flush : state.FlushJob) → IsWithOne flush [] (flush ∷ [])
+only_one : (flush : state.FlushState) → IsWithOne flush [] (flush ∷ [])
 only_one flush = record { before = []; behind = []; with_it = refl; without = refl }
 
 pub still_made : (Q : KeptFile → Type 0) (old new : Places) → OnlyMakesPlaces old new → AllFiles Q old → AllFiles Q new
@@ -192,7 +192,7 @@ module _ {J F S R P : Type 0} {means : disk.Ghosts J} {counts : counted.Ghosts J
   }
 
   pub is_busy : (store : Store) (old new : Core J F S R P means counts) (job : FlushJob) → TakesMemory old new
-      → IsTaken old new job → IsReady store old → IsBusy store new job
+      → IsFlushTaken old new job → IsReady store old → IsBusy store new job
   is_busy store old new job takes taken ready = record {
     flush = flush_of job;
     numbers = record { sequence = refl; unsequence = refl };
@@ -212,7 +212,7 @@ module _ {J F S R P : Type 0} {means : disk.Ghosts J} {counts : counted.Ghosts J
   }
 
   pub ready_again : (store given : Store) (old new : Core J F S R P means counts) (job : FlushJob) (files : NewFiles)
-      (commit : Commit) → AreOfJob given job files → EndsFlush old new job files commit
+      (commit : Commit) → AreFilesOfJob given job files → HasEndedFlush old new job files commit
       → Each (IsIn store) (all_of files) → IsBusy store old job → IsReady store new
   ready_again store given old new job files commit of_job ends all busy = record {
     jobs = ends.jobs busy.flush [] (busy.flush ∷ []) [] busy.numbers (only_one busy.flush) busy.jobs;

@@ -7,12 +7,12 @@ use Rattle.tsdb_memory.proofs.Following.{froze_stands}
 use Rattle.tsdb_base.specs.declared.answers.Answer.{Answer}
 use Rattle.tsdb_base.specs.declared.answers.Answer.TheVariants as answer
 use Rattle.tsdb_core.proofs.Stored.{numbers_differ, one_at_most, told_same, worlds_with}
-use Rattle.tsdb_core.specs.Files.{AreOfJob, IsOutAs, NewFiles, TellBytes, all_of, state_files}
-use Rattle.tsdb_core.specs.Files.{stored_of, told_with, with_files}
+use Rattle.tsdb_core.specs.Files.{AreFilesOfJob, IsOutAs, NewFiles, TellBytes, all_of, state_files}
+use Rattle.tsdb_core.specs.Files.{stored_of, told_after_flush, with_files}
 use Rattle.tsdb_core.specs.Commands.{IsCoreCommand, IsSeenAfter}
 use Rattle.tsdb_core.specs.Core.{IsSeen, files_of, logged_of}
-use Rattle.tsdb_core.specs.Flushes.{IsAbandoned, IsCommit, IsCommitAnswer, IsOldest, IsSeenAfterCommit}
-use Rattle.tsdb_core.specs.Flushes.{IsTaken}
+use Rattle.tsdb_core.specs.Flushes.{IsAbandoned, IsCommit, IsCommitAnswer, IsOldestPair, IsSeenAfterCommit}
+use Rattle.tsdb_core.specs.Flushes.{IsFlushTaken}
 use Rattle.tsdb_core.specs.Rows.{CanFreezeNow}
 use Rattle.tsdb_core.specs.declared.commit.Commit.{Commit}
 use Rattle.tsdb_core.specs.declared.commit.Commit.TheVariants.{Device, Done, Gone}
@@ -25,7 +25,7 @@ use Rattle.tsdb_base.proofs.Lists.{each_among, each_from_among, each_left, each_
 use Rattle.tsdb_base.specs.Lists.{Among}
 use Rattle.tsdb_log.specs.declared.record.LogRecord.{LogRecord}
 use Rattle.tsdb_log.specs.declared.record.LogRecord.TheVariants.{Freeze}
-use Rattle.tsdb_memory.specs.Commands.{IsAny}
+use Rattle.tsdb_memory.specs.Commands.{NeedsNothing}
 use Rattle.tsdb_memory.specs.Logged.{IsStoredIn, Outside, log_of, memory_of, with_record}
 use Rattle.tsdb_model.specs.State as plain
 use Rattle.tsdb_model.specs.World.{World}
@@ -40,17 +40,17 @@ use Rattle.tsdb_serving.proofs.Steps.{quiet_left, quiet}
 use Rattle.tsdb_serving.specs.Flushing.{IsServingJob}
 use Rattle.tsdb_serving.specs.Serving.{IsServedBy, IsServing, LeavesEither, MayDoubt, disk_under, slot_under}
 use Rattle.tsdb_state.proofs.Told.{value_same}
-use Rattle.tsdb_state.specs.Order.{DoubtInOrder, files_of as state_files_of}
+use Rattle.tsdb_state.specs.Order.{DoubtInOrder, all_files as state_files_of}
 use Rattle.tsdb_state.specs.Records.{after, flush_oldest, names, numbers_of}
 use Rattle.tsdb_state.specs.State as state
-use Rattle.tsdb_state.specs.State.{EngineState, File, FrozenPair, StoreState, Told}
+use Rattle.tsdb_state.specs.State.{EngineState, File, FrozenContent, StoreState, ToldContents}
 use Rattle.tsdb_state.specs.Steps.{committed_flush, ended_flush, failed, flush_record, number_or_none, settled}
 use Rattle.tsdb_state.specs.Steps.{took_flush, wrote}
 use Rattle.tsdb_state.specs.Worlds.{StandsFor}
 
 -- ---- what is told of other files
 
-module _ (told other : Told) where
+module _ (told other : ToldContents) where
   abbrev Same : File → Type 0
   Same file = told file.number ≡ other file.number
 
@@ -88,17 +88,17 @@ module _ (told other : Told) where
       (each_left Same (store.sequence ++ store.unsequence) outgoing same)) leads
 
 -- a flush leaves the stamp
-flushed_stamp : (s u : ℕ) (frozen : List FrozenPair) (store : StoreState)
+flushed_stamp : (s u : ℕ) (frozen : List FrozenContent) (store : StoreState)
     → (flush_oldest s u frozen store).stamp ≡ store.stamp
 flushed_stamp s u [] store = refl
 flushed_stamp s u (oldest ∷ newer) store = refl
 
-module _ (job : FlushJob) (outside : Outside) (engine : EngineState) (flush : state.FlushJob)
-    (others : List state.FlushJob) (stored : IsStoredIn outside engine) (out : IsOutAs job flush others engine)
-    (store : Store) (files : NewFiles) (of_job : AreOfJob store job files) where
+module _ (job : FlushJob) (outside : Outside) (engine : EngineState) (flush : state.FlushState)
+    (others : List state.FlushState) (stored : IsStoredIn outside engine) (out : IsOutAs job flush others engine)
+    (store : Store) (files : NewFiles) (of_job : AreFilesOfJob store job files) where
   pub leads_with : (next : Option plain.State) → LeadsTo outside.told engine.store engine.doubt next
-      → LeadsTo (told_with flush files outside.told) engine.store engine.doubt next
-  leads_with next leads = leads_as outside.told (told_with flush files outside.told) stored.named engine.store
+      → LeadsTo (told_after_flush flush files outside.told) engine.store engine.doubt next
+  leads_with next leads = leads_as outside.told (told_after_flush flush files outside.told) stored.named engine.store
       engine.outgoing engine.doubt next
       (each_from_among _ (state_files_of engine)
       (told_same job outside engine flush others stored out store files of_job))
@@ -109,7 +109,7 @@ module _ {J F S R P : Type 0} {means : disk.Ghosts J} {counts : counted.Ghosts J
   -- ---- a freeze
 
   module _ (Q : ℕ → Type 0) (old new : Core J F S R P means counts) (result : Answer)
-      (step : IsCoreCommand old new Freeze IsAny result) (can : CanFreezeNow old) (files : List StoredFile)
+      (step : IsCoreCommand old new Freeze NeedsNothing result) (can : CanFreezeNow old) (files : List StoredFile)
       (at : plain.State) (next : Option plain.State) (serving : IsServing old files at next) where
     frozen_stands : IsStateOf serving.outside.told (after Freeze serving.state.store) at
     frozen_stands = record {
@@ -228,7 +228,7 @@ module _ {J F S R P : Type 0} {means : disk.Ghosts J} {counts : counted.Ghosts J
   -- ---- taking a job
 
   pub taken : (old new : Core J F S R P means counts) (job : FlushJob) (files : List StoredFile) (at : plain.State)
-      (next : Option plain.State) → IsTaken old new job → IsServing old files at next
+      (next : Option plain.State) → IsFlushTaken old new job → IsServing old files at next
       → IsServingJob new job files at next
   taken old new job files at next takes serving =
       let step = takes.step serving.outside serving.state serving.seen in
@@ -251,7 +251,7 @@ module _ {J F S R P : Type 0} {means : disk.Ghosts J} {counts : counted.Ghosts J
   -- ---- ending it
 
   module _ (Q : ℕ → Type 0) (old new : Core J F S R P means counts) (job : FlushJob) (built : NewFiles)
-      (store : Store) (of_job : AreOfJob store job built) (tells : TellBytes built)
+      (store : Store) (of_job : AreFilesOfJob store job built) (tells : TellBytes built)
       (numbers : Each (λ (file : StoredFile). Q file.number) (flat_map stored_of (all_of built)))
       (files : List StoredFile) (at : plain.State) (next : Option plain.State)
       (is : IsServingJob old job files at next) where
@@ -307,7 +307,7 @@ module _ {J F S R P : Type 0} {means : disk.Ghosts J} {counts : counted.Ghosts J
         (gives_up.step is.outside is.state is.flush is.others is.seen is.out tells))
 
     module _ (commit : Commit) (commits : IsCommit old new job built commit) where
-      record_stands : IsOldest job (memory_of (logged_of old))
+      record_stands : IsOldestPair job (memory_of (logged_of old))
           → IsStateOf later.told (after (flush_record is.flush) is.state.store) at
       record_stands oldest =
           let keeps = commits.keeps is.outside is.state is.flush is.others is.seen is.out tells oldest in record {
@@ -319,7 +319,7 @@ module _ {J F S R P : Type 0} {means : disk.Ghosts J} {counts : counted.Ghosts J
                 is.state.store.frozen is.state.store ∙ is.stands.stamp;
           }
 
-      by_record : IsOldest job (memory_of (logged_of old)) → (doubt : Option plain.State) → MayDoubt next at at doubt
+      by_record : IsOldestPair job (memory_of (logged_of old)) → (doubt : Option plain.State) → MayDoubt next at at doubt
           → IsServing new (files ++ put) at doubt → IsServedBy Q old new files at next at at
       by_record oldest doubt may shown = record {
         put = put;

@@ -16,7 +16,7 @@ use Rattle.tsdb_state.proofs.LayerLemmas.Places.{place_cmp_total}
 use Rattle.tsdb_state.specs.Layers.{Layer, survivor, value_in}
 use Rattle.tsdb_base.specs.Lists.{count}
 use Rattle.tsdb_state.specs.Marks.{survives}
-use Rattle.tsdb_state.specs.Places.{Content, Place}
+use Rattle.tsdb_state.specs.Places.{Content, PointPlace}
 use Rattle.tsdb_core.specs.FilesetListings.{TellsFile}
 use Rattle.tsdb_model.specs.Commands.{AreDifferent}
 use Rattle.tsdb_model.specs.State as plain
@@ -29,7 +29,7 @@ use Rattle.tsdb_memory.proofs.Counts.{put_back, removed_none}
 use Rattle.tsdb_state.specs.Jobs.{Describes, EntriesMatch}
 use Rattle.tsdb_state.specs.Order.{IsInOrder}
 use Rattle.tsdb_state.specs.Records.{numbers_of}
-use Rattle.tsdb_state.specs.State.{EngineState, Entries, File, FrozenPair, Told}
+use Rattle.tsdb_state.specs.State.{EngineState, KnownFiles, File, FrozenContent, ToldContents}
 use Rattle.tsdb_state.specs.Views.{all_layers, file_layers, sequence_layer, unsequence_layer, working_pair}
 use Rattle.tsdb_state.specs.Worlds.{StandsFor}
 
@@ -38,7 +38,7 @@ use Rattle.tsdb_state.specs.Worlds.{StandsFor}
 one_more : (n : ℕ) → n + 1 ≡ 0 → ⊥
 one_more n is = omega (arith, is)
 
-pub no_value : (content : Content) (place : Place) → len content ≡ 0 → get content place ≡ None
+pub no_value : (content : Content) (place : PointPlace) → len content ≡ 0 → get content place ≡ None
 no_value content place none = by (get content place) refl
   where
     by : (o : Option Value) → get content place ≡ o → o ≡ None
@@ -50,7 +50,7 @@ no_value content place none = by (get content place) refl
         (removed_none content place)) ∙ none))
 
 -- layers none of which has a point have no value
-none_survives : (marks : List Mark) (place : Place) (layer : Layer) → get layer.content place ≡ None
+none_survives : (marks : List Mark) (place : PointPlace) (layer : Layer) → get layer.content place ≡ None
     → survivor marks place layer ≡ None
 none_survives marks place layer none = by (survives marks place layer.born)
   where
@@ -58,7 +58,7 @@ none_survives marks place layer none = by (survives marks place layer.born)
     by true = none
     by false = refl
 
-nothing_in : (marks : List Mark) (place : Place) (layers : List Layer)
+nothing_in : (marks : List Mark) (place : PointPlace) (layers : List Layer)
     → Each (λ (layer : Layer). get layer.content place ≡ None) layers → value_in marks place layers ≡ None
 nothing_in marks place [] all = refl
 nothing_in marks place (layer ∷ higher) all =
@@ -116,7 +116,7 @@ one_place (x ∷ numbers) once (suc i) (suc j) n m at other same =
 abbrev line_number : FileLine → ℕ
 line_number line = line.number.0
 
-module _ (told : Told) (known : Entries) (named : List ℕ) (state : EngineState) (order : IsInOrder told known named state)
+module _ (told : ToldContents) (known : KnownFiles) (named : List ℕ) (state : EngineState) (order : IsInOrder told known named state)
     (at : plain.State) (stands : StandsFor told state.store at.world) (stamp : state.store.stamp ≡ at.stamp)
     (listing : Listing) (lists : ListsStore told state.store listing) where
   told_numbers : (space : Space) (files : List File) (lines : List FileLine) → AllZip (TellsFile told space) files lines
@@ -184,7 +184,7 @@ module _ (told : Told) (known : Entries) (named : List ℕ) (state : EngineState
   no_file space (file ∷ files) [] tells none = absurd tells
   no_file space (file ∷ files) (line ∷ lines) tells none = absurd cc
 
-  no_pair : (pairs : List FrozenPair) → length pairs ≡ 0 → pairs ≡ []
+  no_pair : (pairs : List FrozenContent) → length pairs ≡ 0 → pairs ≡ []
   no_pair [] none = refl
   no_pair (pair ∷ pairs) none = absurd (omega (arith, none))
 
@@ -199,7 +199,7 @@ module _ (told : Told) (known : Entries) (named : List ℕ) (state : EngineState
   nothing_told : ListsNothing listing → HasNoPoint at.world
   nothing_told none path time = stands.values place ∙ nothing_in state.store.marks place (all_layers told state.store) all
     where
-      place : Place
+      place : PointPlace
       place = record { path = path; time = time }
 
       no_lines : lists.files.sequence ++ lists.files.unsequence ≡ []

@@ -14,12 +14,12 @@ use Rattle.tsdb_outside.specs.declared.disk.Disk as disk
 use Rattle.tsdb_outside.specs.declared.faults.Counted as counted
 use Rattle.tsdb_serving.proofs.Parts.{unchanged, unchanged_left}
 use Rattle.tsdb_serving.proofs.Possible.{possible}
-use Rattle.tsdb_serving.specs.Serving.{Answers, IsDrawn}
+use Rattle.tsdb_serving.specs.Serving.{ServesCommand, IsDrawn}
 
 module _ {J F S R P : Type 0} {means : disk.Ghosts J} {counts : counted.Ghosts J}
     (laws : (journal : J) → IsLawful (means.state journal)) where
   pub shown : (core : Core J F S R P means counts) (result : Result Listing Memory) → IfOk result (TellsStore core)
-      → IfOk result (λ listing. Answers core core ShowFiles (Files listing))
+      → IfOk result (λ listing. ServesCommand core core ShowFiles (Files listing))
   shown core (Ok listing) tells = λ files at next serving. record {
     allowed = (
       refl,

@@ -2,7 +2,7 @@
 use Rattle.std.proofs.Common.{◌≡◌, List, ℕ, inl, inr, refl, subst, sym, ap, ◌∙◌}
 use Rattle.tsdb_base.specs.declared.answers.Answer.{Answer}
 use Rattle.tsdb_base.specs.declared.answers.Answer.TheVariants as answer
-use Rattle.tsdb_core.specs.Rows.{HasPlace, IsFrozenFor, IsPut, IsRowCommand}
+use Rattle.tsdb_core.specs.Rows.{HasRowPlace, IsFrozenFor, IsRowPut, IsRowCommand}
 use Rattle.tsdb_core.specs.declared.engine.Core.{Core}
 use Rattle.tsdb_model.specs.declared.command.Row.{Row}
 use Rattle.tsdb_outside.specs.declared.disk.Disk as disk
@@ -14,11 +14,11 @@ module _ {J F S R P : Type 0} {means : disk.Ghosts J} {counts : counted.Ghosts J
   same : new ≡ old → slot_under new ≡ slot_under old
   same is = ap slot_under is
 
-  place_slot : (between : Core J F S R P means counts) → HasPlace row old between → slot_under between ≡ slot_under old
+  place_slot : (between : Core J F S R P means counts) → HasRowPlace row old between → slot_under between ≡ slot_under old
   place_slot between (inl fits) = ap slot_under fits.1
   place_slot between (inr frozen) = frozen.freeze.slot
 
-  put_slot : (result : Answer) → IsPut device row old new result → slot_under new ≡ slot_under old
+  put_slot : (result : Answer) → IsRowPut device row old new result → slot_under new ≡ slot_under old
   put_slot result put = put.put.slot ∙ place_slot put.between put.place
 
   frozen_slot : (result : Answer) → IsFrozenFor row old new result → slot_under new ≡ slot_under old

@@ -14,9 +14,9 @@ use Rattle.tsdb_core.specs.Sweeps.{IsSwept, without_files}
 use Rattle.tsdb_core.specs.declared.engine.Core.{Core}
 use Rattle.tsdb_frames.proofs.Counted.{no_fault_no_doubt}
 use Rattle.tsdb_frames.specs.Frames.{disk_of, faults_of, is_in_doubt, slot_of}
-use Rattle.tsdb_memory.specs.Fits.{FitsPair, HasNoPoint}
+use Rattle.tsdb_memory.specs.Fits.{FitsPair, HasNoPairPoint}
 use Rattle.tsdb_memory.specs.Logged.{log_of, memory_of}
-use Rattle.tsdb_memory.specs.declared.logged.Logged.{Logged}
+use Rattle.tsdb_memory.specs.declared.logged.LoggedMemory.{LoggedMemory}
 use Rattle.tsdb_model.specs.State as plain
 use Rattle.tsdb_model.specs.declared.command.Command.{Command}
 use Rattle.tsdb_model.specs.declared.command.Row.{Row}
@@ -30,16 +30,16 @@ use Rattle.tsdb_outside.specs.declared.faults.Failed.{Failed}
 use Rattle.tsdb_serving.proofs.Causes.{rose_later}
 use Rattle.tsdb_serving.proofs.Held.{held_without}
 use Rattle.tsdb_serving.proofs.Jobs.{drawn_first}
-use Rattle.tsdb_serving.specs.Flushing.{GoesOn, IsReady, faults_under, frozen_in}
-use Rattle.tsdb_serving.specs.Serving.{Answers, IsDrawn, IsServedBy, IsServing, LeavesEither, StaysInPlace, disk_under}
+use Rattle.tsdb_serving.specs.Flushing.{GoesOn, IsReady, faults_under, frozen_under}
+use Rattle.tsdb_serving.specs.Serving.{ServesCommand, IsDrawn, IsServedBy, IsServing, LeavesEither, StaysInPlace, disk_under}
 use Rattle.tsdb_serving.specs.Serving.{slot_under}
-use Rattle.tsdb_serving.specs.Sweeping.{KeepsListed, LeavesNothing}
+use Rattle.tsdb_serving.specs.Sweeping.{KeepsAllButOutgoing, LeavesNothing}
 use Rattle.tsdb_serving.specs.declared.fault.FlushFault.{FlushFault}
 use Rattle.tsdb_state.specs.Steps.{swept as swept_state}
 
 module _ {J F S R P : Type 0} {means : disk.Ghosts J} {counts : counted.Ghosts J} where
   -- nothing is done
-  pub idle_keeps : (core : Core J F S R P means counts) → KeepsListed core core
+  pub idle_keeps : (core : Core J F S R P means counts) → KeepsAllButOutgoing core core
   idle_keeps core = record {
     logged = refl;
     next = refl;
@@ -50,7 +50,7 @@ module _ {J F S R P : Type 0} {means : disk.Ghosts J} {counts : counted.Ghosts J
   }
 
   module _ (old new : Core J F S R P means counts) where
-    pub sweep_keeps : (outcome : Result ℕ Failed) → IsSwept old new outcome → KeepsListed old new
+    pub sweep_keeps : (outcome : Result ℕ Failed) → IsSwept old new outcome → KeepsAllButOutgoing old new
     sweep_keeps (Ok count) sweeps = record {
       logged = sweeps.logged;
       next = sweeps.next;
@@ -87,7 +87,7 @@ module _ {J F S R P : Type 0} {means : disk.Ghosts J} {counts : counted.Ghosts J
         → IsReady store old → (before now : ℕ) → HasCause before now outcome → LeavesNothing before now new
     nothing_left store (Ok count) sweeps kept ready before now cause = λ calm sure. none_left sweeps.doubted (files_of old)
         (files_of new) kept ready.unread
-        (sweeps.none (subst (λ (logged : Logged J means counts). is_in_doubt (log_of logged) ≡ false) sweeps.logged sure))
+        (sweeps.none (subst (λ (logged : LoggedMemory J means counts). is_in_doubt (log_of logged) ≡ false) sweeps.logged sure))
         sweeps.all.left
     nothing_left store (Err fault) sweeps kept ready before now cause = λ calm sure. absurd (calm cause.failed)
 
@@ -102,7 +102,7 @@ module _ {J F S R P : Type 0} {means : disk.Ghosts J} {counts : counted.Ghosts J
   empty_without_faults core before now leaves calm none =
       leaves calm (no_fault_no_doubt (log_of (logged_of core)) none)
 
-  module _ (old mid new : Core J F S R P means counts) (keeps : KeepsListed mid new) where
+  module _ (old mid new : Core J F S R P means counts) (keeps : KeepsAllButOutgoing mid new) where
     served_on : (files : List StoredFile) (at : plain.State) (next : Option plain.State) (after now : plain.State)
         → IsServedBy (IsDrawn old mid) old mid files at next after now
         → IsServedBy (IsDrawn old new) old new files at next after now
@@ -115,7 +115,7 @@ module _ {J F S R P : Type 0} {means : disk.Ghosts J} {counts : counted.Ghosts J
       doubt = served.doubt;
       may = served.may;
       serving = keeps.serving (files ++ served.put) now served.doubt served.serving;
-      moments = subst (λ (logged : Logged J means counts). LeavesOnly (disk_under old) (disk_of (log_of logged))
+      moments = subst (λ (logged : LoggedMemory J means counts). LeavesOnly (disk_under old) (disk_of (log_of logged))
           (LeavesEither (files ++ served.put) (slot_under old) at next after)) (sym keeps.logged) served.moments;
     }
 
@@ -126,14 +126,14 @@ module _ {J F S R P : Type 0} {means : disk.Ghosts J} {counts : counted.Ghosts J
       limit = keeps.limit ∙ part.limit;
       slot = ap (λ logged. slot_of (log_of logged)) keeps.logged ∙ part.slot;
       next = let same = keeps.next in omega (arith, part.next, same);
-      later = subst (λ (logged : Logged J means counts). faults_under old ≤ faults_of (log_of logged)) (sym keeps.logged)
+      later = subst (λ (logged : LoggedMemory J means counts). faults_under old ≤ faults_of (log_of logged)) (sym keeps.logged)
           part.later;
       keeps = λ tells files at next serving. served_on files at next at at (part.keeps tells files at next serving);
     }
 
     -- what a command answers, and then a sweep
-    pub answers_swept : (command : Command) (reply : Reply) → Answers old mid command reply
-        → Answers old new command reply
+    pub answers_swept : (command : Command) (reply : Reply) → ServesCommand old mid command reply
+        → ServesCommand old new command reply
     unfolding served_on
     answers_swept command reply answers files at next serving = let one = answers files at next serving in record {
       allowed = one.allowed;
@@ -144,14 +144,14 @@ module _ {J F S R P : Type 0} {means : disk.Ghosts J} {counts : counted.Ghosts J
     }
 
   -- the log stays in its slot
-  pub stays_swept : (old mid new : Core J F S R P means counts) → KeepsListed mid new → StaysInPlace old mid
+  pub stays_swept : (old mid new : Core J F S R P means counts) → KeepsAllButOutgoing mid new → StaysInPlace old mid
       → StaysInPlace old new
   stays_swept old mid new keeps stays = record {
     slot = ap (λ logged. slot_of (log_of logged)) keeps.logged ∙ stays.slot;
     next = let first = stays.next in let same = keeps.next in omega (arith, first, same);
   }
 
-  module _ (mid new : Core J F S R P means counts) (keeps : KeepsListed mid new) where
+  module _ (mid new : Core J F S R P means counts) (keeps : KeepsAllButOutgoing mid new) where
     -- the journal's count is as it was
     pub faults_swept : faults_under new ≡ faults_under mid
     faults_swept = ap (λ logged. faults_of (log_of logged)) keeps.logged
@@ -161,18 +161,18 @@ module _ {J F S R P : Type 0} {means : disk.Ghosts J} {counts : counted.Ghosts J
 
     -- all pairs that were flushed are flushed still
     pub flushed_swept : (result : Result (Unit {0}) FlushFault)
-        → OnOk result ((frozen_in mid ≡ []) × HasNoPoint (working_of mid))
-        → OnOk result ((frozen_in new ≡ []) × HasNoPoint (working_of new))
-    flushed_swept result = subst (λ (logged : Logged J means counts).
-        OnOk result (((memory_of logged).frozen ≡ []) × HasNoPoint (memory_of logged).working)) (sym keeps.logged)
+        → OnOk result ((frozen_under mid ≡ []) × HasNoPairPoint (working_of mid))
+        → OnOk result ((frozen_under new ≡ []) × HasNoPairPoint (working_of new))
+    flushed_swept result = subst (λ (logged : LoggedMemory J means counts).
+        OnOk result (((memory_of logged).frozen ≡ []) × HasNoPairPoint (memory_of logged).working)) (sym keeps.logged)
 
     -- where no flush was needed before it, none is
     pub none_needed : (row : Row) (result : Result (Unit {0}) FlushFault) → OnOk result (¬ NeedsFlush row mid)
         → OnOk result (¬ NeedsFlush row new)
     none_needed row (Ok value) none = λ needs. none (
       λ fits. needs.0 (subst (λ most. FitsPair most row (working_of new)) (sym keeps.limit)
-          (subst (λ (logged : Logged J means counts). FitsPair (limit_of mid) row (memory_of logged).working)
+          (subst (λ (logged : LoggedMemory J means counts). FitsPair (limit_of mid) row (memory_of logged).working)
           (sym keeps.logged) fits)),
-      subst (λ (logged : Logged J means counts). length (memory_of logged).frozen ≡ max_frozen) keeps.logged needs.1,
+      subst (λ (logged : LoggedMemory J means counts). length (memory_of logged).frozen ≡ max_frozen) keeps.logged needs.1,
     )
     none_needed row (Err fault) none = tt

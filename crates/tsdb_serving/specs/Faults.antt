@@ -12,10 +12,10 @@ use Rattle.tsdb_serving.specs.declared.fault.FlushFault.TheVariants.{Device, Mem
 use Rattle.tsdb_base.specs.Limits.{end_of_numbers}
 
 -- the answer to the command that the flush was for
-abbrev pub answer_of : FlushFault → Answer
-answer_of Device = answer.Device
-answer_of Memory = answer.Memory
-answer_of (Full counter) = answer.Full counter
+abbrev pub flush_answer : FlushFault → Answer
+flush_answer Device = answer.Device
+flush_answer Memory = answer.Memory
+flush_answer (Full counter) = answer.Full counter
 
 -- the fault of a file that could not be written, and of a job that could not be taken
 abbrev pub of_file_fault : StoreFault → FlushFault

@@ -18,7 +18,7 @@ use Rattle.tsdb_outside.specs.declared.disk.Disk as disk
 use Rattle.tsdb_outside.specs.declared.faults.Counted as counted
 use Rattle.tsdb_serving.specs.Serving.{AreHeldWith, IsServedBy, KeepsServing, slot_under}
 use Rattle.tsdb_state.specs.Stores.{IsStateOf}
-use Rattle.tsdb_state.specs.State.{EngineState, FlushJob as StateFlush}
+use Rattle.tsdb_state.specs.State.{EngineState, FlushState as StateFlush}
 
 -- a number that was drawn for the job
 abbrev pub IsOfJob : FlushJob → ℕ → Type 0
@@ -30,8 +30,8 @@ module _ {J F S R P : Type 0} {means : disk.Ghosts J} {counts : counted.Ghosts J
   faults_under core = faults_of (log_of (logged_of core))
 
   -- the frozen pairs, from the oldest on
-  abbrev pub frozen_in : Core J F S R P means counts → List FrozenPair
-  frozen_in core = (memory_of (logged_of core)).frozen
+  abbrev pub frozen_under : Core J F S R P means counts → List FrozenPair
+  frozen_under core = (memory_of (logged_of core)).frozen
 
   -- no job and no right to read a file is out, and all kept files are of the store
   pub record IsReady (store : Store) (core : Core J F S R P means counts) : Type 0 where

@@ -21,13 +21,13 @@ use Rattle.tsdb_outside.specs.Moments.{LeavesOnly}
 use Rattle.tsdb_outside.specs.declared.disk.Disk as disk
 use Rattle.tsdb_outside.specs.declared.disk.Slot.{Slot}
 use Rattle.tsdb_outside.specs.declared.faults.Counted as counted
-use Rattle.tsdb_state.specs.Stores.{Files, HoldsKept, IsStateOf}
+use Rattle.tsdb_state.specs.Stores.{BytesByNumber, HoldsKept, IsStateOf}
 use Rattle.tsdb_base.specs.Limits.{end_of_numbers}
 use Rattle.tsdb_state.specs.State.{EngineState}
 
 -- whoever holds the second files holds the first
 abbrev pub AreHeldWith : List StoredFile → List StoredFile → Type 0
-AreHeldWith kept more = (files : Files) → HoldsKept more files → HoldsKept kept files
+AreHeldWith kept more = (files : BytesByNumber) → HoldsKept more files → HoldsKept kept files
 
 -- The state in doubt after a command: none, the one that was, that before the command where what is in doubt changes no
 -- state, or the one after it.
@@ -49,8 +49,8 @@ LeavesDoubt next at command reply doubt = (doubt ≡ None) ⊎ ((doubt ≡ next)
     ⊎ ((DrawsNumbers command × (doubt ≡ Some at)) ⊎ IsInDoubtOf at command reply doubt))
 
 -- the record of a change may have been written: it was done, or its device failed and the map accepts it
-abbrev pub IsWritten : plain.State → Command → Reply → Type 0
-IsWritten at command reply =
+abbrev pub MayBeWritten : plain.State → Command → Reply → Type 0
+MayBeWritten at command reply =
     (reply ≡ Plain Done) ⊎ ((reply ≡ Plain Device) × (reply_of at.world command ≡ Plain Done))
 
 -- With these files, what a stop left in the slot stands for the state, or for the one in doubt, or for that after the
@@ -136,10 +136,10 @@ module _ {J F S R P : Type 0} {means : disk.Ghosts J} {counts : counted.Ghosts J
         (state_after at command reply)
     pub settled : IsChange command → reply ≡ Plain Done → served.doubt ≡ None
     pub doubtful : LeavesDoubt next at command reply served.doubt
-    pub unwritten : IsChange command → ¬ IsWritten at command reply → IsServedBy Put old new files at next at at
+    pub unwritten : IsChange command → ¬ MayBeWritten at command reply → IsServedBy Put old new files at next at at
 
   -- It leaves this of each state that the core may be in. The files that were put have numbers that were drawn for
   -- them.
-  abbrev pub Answers : Core J F S R P means counts → Core J F S R P means counts → Command → Reply → Type 0
-  Answers old new command reply = (files : List StoredFile) (at : plain.State) (next : Option plain.State)
+  abbrev pub ServesCommand : Core J F S R P means counts → Core J F S R P means counts → Command → Reply → Type 0
+  ServesCommand old new command reply = (files : List StoredFile) (at : plain.State) (next : Option plain.State)
       → IsServing old files at next → IsAnsweredBy (IsDrawn old new) old new files at next command reply

@@ -26,7 +26,7 @@ module _ {J F S R P : Type 0} {means : disk.Ghosts J} {counts : counted.Ghosts J
 
   -- All but the files on their way out is as it was: the log with what is in memory, both lists, and each state of the
   -- plain model that the core is in.
-  pub record KeepsListed (old new : Core J F S R P means counts) : Type 0 where
+  pub record KeepsAllButOutgoing (old new : Core J F S R P means counts) : Type 0 where
     pub logged : logged_of new ≡ logged_of old
     pub next : next_of new ≡ next_of old
     pub limit : limit_of new ≡ limit_of old

@@ -11,7 +11,7 @@ ghost use Rattle.tsdb_base.specs.Causes.{Rose};
 ghost use Rattle.tsdb_outside.specs.Files.{Store};
 ghost use Rattle.tsdb_serving.specs.Faults.{HasFlushCause};
 ghost use Rattle.tsdb_serving.specs.Flushing.{GoesOn, IsReady, faults_under};
-ghost use Rattle.tsdb_serving.specs.Serving.{Answers, HasFullCause, StaysInPlace};
+ghost use Rattle.tsdb_serving.specs.Serving.{ServesCommand, HasFullCause, StaysInPlace};
 ghost use Rattle.tsdb_serving.specs.Sweeping.{LeavesNothing, StaysEmpty};
 
 use crate::fault::FlushFault;
@@ -28,7 +28,7 @@ use tsdb_path::Path;
 pub fn create<J: Journal, F: Files>(core: &mut Core<J, F>, schema: &Schema) -> Answer
     requires { IsSchema schema.now }
     ensures files { files_of core.new ≡ files_of core.old }
-    ensures answers { Answers core.old core.new (Command.Create schema.now) (Reply.Plain result) }
+    ensures answers { ServesCommand core.old core.new (Command.Create schema.now) (Reply.Plain result) }
     ensures ready { (store : Store) → IsReady store core.old → IsReady store core.new }
     ensures stays { StaysInPlace core.old core.new }
     ensures draws { next_of core.new ≡ next_of core.old }
@@ -42,7 +42,7 @@ pub fn create<J: Journal, F: Files>(core: &mut Core<J, F>, schema: &Schema) -> A
 /// Deletes the points of a series in a range.
 pub fn delete<J: Journal, F: Files>(core: &mut Core<J, F>, series: &Path, range: &Range) -> Answer
     ensures files { files_of core.new ≡ files_of core.old }
-    ensures answers { Answers core.old core.new (Command.Delete series.now range.now) (Reply.Plain result) }
+    ensures answers { ServesCommand core.old core.new (Command.Delete series.now range.now) (Reply.Plain result) }
     ensures ready { (store : Store) → IsReady store core.old → IsReady store core.new }
     ensures stays { StaysInPlace core.old core.new }
     ensures draws { next_of core.new ≡ next_of core.old }
@@ -66,7 +66,7 @@ pub fn insert<J: Journal, F: Files>(
     requires ready { IsReady (F.Port.store port.old) core.old }
     ensures swept { StaysEmpty (F.Port.faults port.old) (F.Port.faults port.new) core.old core.new }
     ensures answers { (F.Port.store port.old).tells ≡ true
-        → Answers core.old core.new (Command.Insert device.now row.now) (Reply.Plain result) }
+        → ServesCommand core.old core.new (Command.Insert device.now row.now) (Reply.Plain result) }
     ensures ready { IsReady (F.Port.store port.old) core.new }
     ensures stays { StaysInPlace core.old core.new }
     ensures draws { next_of core.new ≤ next_of core.old + 2 }

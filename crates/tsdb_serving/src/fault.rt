@@ -1,6 +1,6 @@
 //! Why a flush ended before its end. Depends on nothing here.
 ghost use Rattle.std.specs.Prelude.{◌≡◌};
-ghost use Rattle.tsdb_serving.specs.Faults.{answer_of, of_core_fault, of_file_fault};
+ghost use Rattle.tsdb_serving.specs.Faults.{flush_answer, of_core_fault, of_file_fault};
 
 use tsdb_base::{Answer, Memory};
 use tsdb_core::CoreFault;
@@ -18,7 +18,7 @@ pub enum FlushFault {
 impl FlushFault {
     /// The answer to the command that the flush was for.
     pub fn answer(self) -> Answer
-        ensures { result ≡ answer_of self }
+        ensures { result ≡ flush_answer self }
     {
         match self {
             FlushFault::Device => Answer::Device,

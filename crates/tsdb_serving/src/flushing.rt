@@ -3,16 +3,16 @@ ghost use Rattle.std.specs.Prelude.{◌≡◌, ◌≢◌, ◌⊎◌, ◌+◌, �
 ghost use Rattle.std.specs.Prelude.{length, slice_get};
 ghost use Rattle.std.specs.Option.{option_map};
 ghost use Rattle.tsdb_core.specs.Core.{logged_of, next_of, working_of};
-ghost use Rattle.tsdb_core.specs.Flushes.{IsDue, IsOldest};
+ghost use Rattle.tsdb_core.specs.Flushes.{IsDue, IsOldestPair};
 ghost use Rattle.tsdb_core.specs.Jobs.{IsJob};
 ghost use Rattle.tsdb_memory.specs.Logged.{memory_of};
 ghost use Rattle.tsdb_outside.specs.Files.{Store};
 ghost use Rattle.tsdb_base.specs.Causes.{Rose};
-ghost use Rattle.tsdb_memory.specs.Fits.{HasNoPoint};
+ghost use Rattle.tsdb_memory.specs.Fits.{HasNoPairPoint};
 ghost use Rattle.tsdb_serving.specs.declared.fault.FlushFault.{FlushFault as FaultOf};
 ghost use Rattle.tsdb_serving.specs.Faults.{HasFlushCause};
-ghost use Rattle.tsdb_serving.specs.Files.{AreDone, AreDoneSoFar};
-ghost use Rattle.tsdb_serving.specs.Flushing.{EndsJob, GoesOn, IsBusy, IsReady, faults_under, frozen_in};
+ghost use Rattle.tsdb_serving.specs.Files.{AreDoneInStore, AreDoneSoFarInStore};
+ghost use Rattle.tsdb_serving.specs.Flushing.{EndsJob, GoesOn, IsBusy, IsReady, faults_under, frozen_under};
 ghost use Rattle.tsdb_serving.specs.Sweeping.{LeavesNothing};
 ghost use Rattle.tsdb_base.specs.Limits.{max_frozen};
 
@@ -37,7 +37,7 @@ pub fn flush<J: Journal, F: Files>(
     port: &mut F::Port,
 ) -> Result<(), FlushFault>
     requires ready { IsReady (F.Port.store port.old) core.old }
-    ensures flushed { OnOk result ((frozen_in core.new ≡ []) × HasNoPoint (working_of core.new)) }
+    ensures flushed { OnOk result ((frozen_under core.new ≡ []) × HasNoPairPoint (working_of core.new)) }
     ensures swept { LeavesNothing (F.Port.faults port.old) (F.Port.faults port.new) core.new }
     ensures goes_on { GoesOn (F.Port.store port.old) core.old core.new }
     ensures draws { next_of core.new ≤ next_of core.old + 6 }
@@ -58,7 +58,7 @@ fn flush_pairs<J: Journal, F: Files>(
     port: &mut F::Port,
 ) -> Result<(), FlushFault>
     requires ready { IsReady (F.Port.store port.old) core.old }
-    ensures flushed { OnOk result ((frozen_in core.new ≡ []) × HasNoPoint (working_of core.new)) }
+    ensures flushed { OnOk result ((frozen_under core.new ≡ []) × HasNoPairPoint (working_of core.new)) }
     ensures goes_on { GoesOn (F.Port.store port.old) core.old core.new }
     ensures draws { next_of core.new ≤ next_of core.old + 6 }
     ensures same_store { F.Port.store port.new ≡ F.Port.store port.old }
@@ -78,9 +78,9 @@ fn freeze_and_flush<J: Journal, F: Files>(
     core: &mut Core<J, F>,
     port: &mut F::Port,
 ) -> Result<(), FlushFault>
-    requires place { HasNoPoint (working_of core.old) ⊎ (length (frozen_in core.old) < max_frozen) }
+    requires place { HasNoPairPoint (working_of core.old) ⊎ (length (frozen_under core.old) < max_frozen) }
     requires ready { IsReady (F.Port.store port.old) core.old }
-    ensures flushed { OnOk result ((frozen_in core.new ≡ []) × HasNoPoint (working_of core.new)) }
+    ensures flushed { OnOk result ((frozen_under core.new ≡ []) × HasNoPairPoint (working_of core.new)) }
     ensures goes_on { GoesOn (F.Port.store port.old) core.old core.new }
     ensures draws { next_of core.new ≤ next_of core.old + 4 }
     ensures same_store { F.Port.store port.new ≡ F.Port.store port.old }
@@ -101,7 +101,7 @@ fn flush_both<J: Journal, F: Files>(
     port: &mut F::Port,
 ) -> Result<(), FlushFault>
     requires ready { IsReady (F.Port.store port.old) core.old }
-    ensures flushed { OnOk result (frozen_in core.new ≡ []) }
+    ensures flushed { OnOk result (frozen_under core.new ≡ []) }
     ensures working { working_of core.new ≡ working_of core.old }
     ensures goes_on { GoesOn (F.Port.store port.old) core.old core.new }
     ensures draws { next_of core.new ≤ next_of core.old + 4 }
@@ -123,7 +123,7 @@ fn make_place<J: Journal, F: Files>(
     port: &mut F::Port,
 ) -> Result<(), FlushFault>
     requires ready { IsReady (F.Port.store port.old) core.old }
-    ensures place { OnOk result (HasNoPoint (working_of core.new) ⊎ (length (frozen_in core.new) < max_frozen)) }
+    ensures place { OnOk result (HasNoPairPoint (working_of core.new) ⊎ (length (frozen_under core.new) < max_frozen)) }
     ensures goes_on { GoesOn (F.Port.store port.old) core.old core.new }
     ensures draws { next_of core.new ≤ next_of core.old + 2 }
     ensures same_store { F.Port.store port.new ≡ F.Port.store port.old }
@@ -142,15 +142,15 @@ fn make_place<J: Journal, F: Files>(
 
 /// Whether the working pair has no point.
 fn is_idle<J: Journal, F: Files>(core: &Core<J, F>) -> bool
-    ensures { IsTrue result ↔ HasNoPoint (working_of core.now) }
+    ensures { IsTrue result ↔ HasNoPairPoint (working_of core.now) }
 {
     core.working(Space::Sequence) == 0 && core.working(Space::Unsequence) == 0
 }
 
 /// Freezes the working pair, where it has a point.
 fn freeze<J: Journal, F: Files>(core: &mut Core<J, F>) -> Result<(), FlushFault>
-    requires place { HasNoPoint (working_of core.old) ⊎ (length (frozen_in core.old) < max_frozen) }
-    ensures emptied { OnOk result (HasNoPoint (working_of core.new)) }
+    requires place { HasNoPairPoint (working_of core.old) ⊎ (length (frozen_under core.old) < max_frozen) }
+    ensures emptied { OnOk result (HasNoPairPoint (working_of core.new)) }
     ensures goes_on { (store : Store) → IsReady store core.old → GoesOn store core.old core.new }
     ensures draws { next_of core.new ≡ next_of core.old }
     ensures cause { IfErr result (λ fault. fault ≡ FaultOf.Device
@@ -169,8 +169,9 @@ fn freeze<J: Journal, F: Files>(core: &mut Core<J, F>) -> Result<(), FlushFault>
 
 /// The stamp at which the oldest frozen pair was frozen.
 fn oldest<J: Journal, F: Files>(core: &Core<J, F>) -> Option<Stamp>
-    ensures two { length (frozen_in core.now) ≤ max_frozen }
-    ensures born { option_map (λ stamp. stamp.0) result ≡ option_map (λ pair. pair.born) (slice_get (frozen_in core.now) 0) }
+    ensures two { length (frozen_under core.now) ≤ max_frozen }
+    ensures born { option_map (λ stamp. stamp.0) result ≡ option_map (λ pair. pair.born)
+        (slice_get (frozen_under core.now) 0) }
 {
     match core.memory().frozen().first() {
         Some(pair) => Some(pair.born()),
@@ -185,8 +186,8 @@ pub(crate) fn flush_oldest<J: Journal, F: Files>(
     port: &mut F::Port,
 ) -> Result<(), FlushFault>
     requires ready { IsReady (F.Port.store port.old) core.old }
-    ensures flushed { OnOk result (frozen_in core.new ≡ drop 1 (frozen_in core.old)) }
-    ensures few { length (frozen_in core.old) ≤ max_frozen }
+    ensures flushed { OnOk result (frozen_under core.new ≡ drop 1 (frozen_under core.old)) }
+    ensures few { length (frozen_under core.old) ≤ max_frozen }
     ensures working { working_of core.new ≡ working_of core.old }
     ensures goes_on { GoesOn (F.Port.store port.old) core.old core.new }
     ensures draws { next_of core.new ≤ next_of core.old + 2 }
@@ -208,9 +209,9 @@ fn flush_due<J: Journal, F: Files>(
     port: &mut F::Port,
     upto: Stamp,
 ) -> Result<(), FlushFault>
-    requires due { IsDue upto.0 (frozen_in core.old) }
+    requires due { IsDue upto.0 (frozen_under core.old) }
     requires ready { IsReady (F.Port.store port.old) core.old }
-    ensures flushed { OnOk result (frozen_in core.new ≡ drop 1 (frozen_in core.old)) }
+    ensures flushed { OnOk result (frozen_under core.new ≡ drop 1 (frozen_under core.old)) }
     ensures working { working_of core.new ≡ working_of core.old }
     ensures goes_on { GoesOn (F.Port.store port.old) core.old core.new }
     ensures draws { next_of core.new ≤ next_of core.old + 2 }
@@ -235,8 +236,8 @@ fn run_job<J: Journal, F: Files>(
 ) -> Result<(), FlushFault>
     requires is_job { IsJob job }
     requires busy { IsBusy (F.Port.store port.old) core.old job }
-    requires oldest { IsOldest job (memory_of (logged_of core.old)) }
-    ensures flushed { OnOk result (frozen_in core.new ≡ drop 1 (frozen_in core.old)) }
+    requires oldest { IsOldestPair job (memory_of (logged_of core.old)) }
+    ensures flushed { OnOk result (frozen_under core.new ≡ drop 1 (frozen_under core.old)) }
     ensures working { working_of core.new ≡ working_of core.old }
     ensures ends { EndsJob (F.Port.store port.old) core.old core.new job }
     ensures same_store { F.Port.store port.new ≡ F.Port.store port.old }
@@ -259,11 +260,13 @@ fn commit<J: Journal, F: Files>(
     job: FlushJob,
     files: Flushed<F>,
 ) -> Result<(), FlushFault>
-    requires oldest { IsOldest job (memory_of (logged_of core.old)) }
-    requires busy { (store : Store) × AreDone F.Sealed.file F.Sealed.rights store job files × IsBusy store core.old job }
-    ensures flushed { OnOk result (frozen_in core.new ≡ drop 1 (frozen_in core.old)) }
+    requires oldest { IsOldestPair job (memory_of (logged_of core.old)) }
+    requires busy { (store : Store) × AreDoneInStore F.Sealed.file F.Sealed.rights store job files
+        × IsBusy store core.old job }
+    ensures flushed { OnOk result (frozen_under core.new ≡ drop 1 (frozen_under core.old)) }
     ensures working { working_of core.new ≡ working_of core.old }
-    ensures ends { (store : Store) → IsBusy store core.old job → AreDone F.Sealed.file F.Sealed.rights store job files
+    ensures ends { (store : Store) → IsBusy store core.old job
+        → AreDoneInStore F.Sealed.file F.Sealed.rights store job files
         → EndsJob store core.old core.new job }
     ensures cause { IfErr result (λ fault. (fault ≡ FaultOf.Device)
         × Rose (faults_under core.old) (faults_under core.new)) }
@@ -277,11 +280,11 @@ fn commit<J: Journal, F: Files>(
 
 /// Gives the only job that is out up: those of its files that are there are on their way out.
 fn give_up<J: Journal, F: Files>(core: &mut Core<J, F>, job: FlushJob, files: Flushed<F>)
-    requires busy { (store : Store) × AreDoneSoFar F.Sealed.file F.Sealed.rights store job files
+    requires busy { (store : Store) × AreDoneSoFarInStore F.Sealed.file F.Sealed.rights store job files
         × IsBusy store core.old job }
     ensures memory { memory_of (logged_of core.new) ≡ memory_of (logged_of core.old) }
     ensures ends { (store : Store) → IsBusy store core.old job
-        → AreDoneSoFar F.Sealed.file F.Sealed.rights store job files → EndsJob store core.old core.new job }
+        → AreDoneSoFarInStore F.Sealed.file F.Sealed.rights store job files → EndsJob store core.old core.new job }
 {
     core.abandon_flush(job, files);
 }

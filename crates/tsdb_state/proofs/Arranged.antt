@@ -5,22 +5,22 @@ use Rattle.tsdb_state.proofs.LayerLemmas.Rising.{IsPartOf, below_both, below_par
 use Rattle.tsdb_state.proofs.LayerLemmas.Values.{has_cases, has_left, has_right}
 use Rattle.tsdb_state.specs.Layers.{Layer}
 use Rattle.tsdb_state.specs.LayerOrder.{Rises}
-use Rattle.tsdb_state.specs.Places.{Place}
+use Rattle.tsdb_state.specs.Places.{PointPlace}
 use Rattle.tsdb_state.proofs.Purges.{stamps_purged, value_purged}
 use Rattle.tsdb_state.proofs.Values.{stored, stored_late}
 use Rattle.tsdb_state.specs.Records.{purged}
-use Rattle.tsdb_state.specs.State.{File, FrozenPair, StoreState, Told}
-use Rattle.tsdb_state.specs.StoreOrder.{LateIsBelow, StampsInOrder, StoreInOrder, points_of}
+use Rattle.tsdb_state.specs.State.{File, FrozenContent, StoreState, ToldContents}
+use Rattle.tsdb_state.specs.StoreOrder.{LateIsBelow, StampsInOrder, StoreInOrder, unordered_layers}
 use Rattle.tsdb_state.specs.Views.{file_layers, pair_layers, sequence_layer, unsequence_layer}
-use Rattle.tsdb_state.specs.Worlds.{KeepsWorld, value_of}
+use Rattle.tsdb_state.specs.Worlds.{KeepsWorld, value_at_place}
 
 -- the layers of files in three parts, with others behind them
-pub regroup : (told : Told) (before run behind : List File) (others : List Layer)
+pub regroup : (told : ToldContents) (before run behind : List File) (others : List Layer)
     → file_layers told (before ++ (run ++ behind)) ++ others
     ≡ file_layers told before ++ (file_layers told run ++ (file_layers told behind ++ others))
 regroup told before run behind others = simp (map-append, append_assoc)
 
-pub two_parts : (told : Told) (first later : List File) (others : List Layer)
+pub two_parts : (told : ToldContents) (first later : List File) (others : List Layer)
     → file_layers told (first ++ later) ++ others ≡ file_layers told first ++ (file_layers told later ++ others)
 two_parts told first later others = simp (map-append, append_assoc)
 
@@ -36,7 +36,7 @@ regrouped : (a b c d k l m n e : List Layer) → IsPartOf ((a ++ c) ++ (b ++ d))
 regrouped a b c d k l m n e part place value has = from_stored k l m n e place value
     (part_append _ _ _ _ part (part_itself e) place value (to_stored a b c d e place value has))
 
-module _ (told : Told) (state : StoreState) (sequence unsequence : List File) (frozen : List FrozenPair)
+module _ (told : ToldContents) (state : StoreState) (sequence unsequence : List File) (frozen : List FrozenContent)
     (points : IsPartOf (stored told sequence frozen)
     (stored told state.sequence state.frozen ++ stored_late told state.unsequence state.frozen))
     (late_points : IsPartOf (stored_late told unsequence frozen) (stored_late told state.unsequence state.frozen))
@@ -45,7 +45,7 @@ module _ (told : Told) (state : StoreState) (sequence unsequence : List File) (f
   abbrev pub arranged : StoreState
   arranged = record state { frozen = frozen; sequence = sequence; unsequence = unsequence }
 
-  pub arranged_keeps : ((place : Place) → value_of told arranged place ≡ value_of told state place)
+  pub arranged_keeps : ((place : PointPlace) → value_at_place told arranged place ≡ value_at_place told state place)
       → KeepsWorld told state (purged arranged)
   arranged_keeps same = record {
     types = λ path. refl;
@@ -79,8 +79,8 @@ module _ (told : Told) (state : StoreState) (sequence unsequence : List File) (f
       both place value has = ⊎_elim (points place value) (λ late. has_right _ _ place value
           (late_points place value late)) (has_cases _ _ place value has)
 
-      all_points : IsPartOf (points_of told sequence unsequence frozen state.working)
-          (points_of told state.sequence state.unsequence state.frozen state.working)
+      all_points : IsPartOf (unordered_layers told sequence unsequence frozen state.working)
+          (unordered_layers told state.sequence state.unsequence state.frozen state.working)
       all_points = regrouped (file_layers told sequence) (file_layers told unsequence) (map sequence_layer frozen)
           (map unsequence_layer frozen) (file_layers told state.sequence) (file_layers told state.unsequence)
           (map sequence_layer state.frozen) (map unsequence_layer state.frozen) (pair_layers state.working) both

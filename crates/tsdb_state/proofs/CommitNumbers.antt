@@ -5,9 +5,9 @@ use Rattle.std.specs.Prelude.{◌⊎◌}
 use Rattle.tsdb_base.specs.Lists.{IsWithOne, count, if_some}
 use Rattle.tsdb_base.proofs.Lists.{count_append}
 use Rattle.tsdb_state.specs.Jobs.{drawn_by, drawn_numbers, job_inputs}
-use Rattle.tsdb_state.specs.Order.{files_of}
+use Rattle.tsdb_state.specs.Order.{all_files}
 use Rattle.tsdb_state.specs.Records.{after, flush_oldest, flushed, names, new_file, new_numbers, numbers_of}
-use Rattle.tsdb_state.specs.State.{Compaction, Entries, EngineState, File, FlushJob, FrozenPair, StoreState, Told}
+use Rattle.tsdb_state.specs.State.{Compaction, KnownFiles, EngineState, File, FlushState, FrozenContent, StoreState, ToldContents}
 use Rattle.tsdb_state.specs.Steps.{CommitsFlush, committed, committed_flush, compaction_record, flush_record}
 use Rattle.tsdb_state.specs.Steps.{number_or_none, output_number}
 use Rattle.tsdb_state.proofs.Counting.{numbers_named}
@@ -44,16 +44,16 @@ count_number n None = omega arith
 count_number n (Some m) = count_new_one n m
 
 -- the lists of a store after a flush
-pub flushed_sequence : (s u : ℕ) (state : StoreState) (oldest : FrozenPair) (newer : List FrozenPair)
+pub flushed_sequence : (s u : ℕ) (state : StoreState) (oldest : FrozenContent) (newer : List FrozenContent)
     → state.frozen ≡ oldest ∷ newer → (flushed s u state).sequence ≡ state.sequence ++ new_file s oldest.born
-flushed_sequence s u state oldest newer are = ap (λ (f : List FrozenPair). (flush_oldest s u f state).sequence) are
+flushed_sequence s u state oldest newer are = ap (λ (f : List FrozenContent). (flush_oldest s u f state).sequence) are
 
-pub flushed_unsequence : (s u : ℕ) (state : StoreState) (oldest : FrozenPair) (newer : List FrozenPair)
+pub flushed_unsequence : (s u : ℕ) (state : StoreState) (oldest : FrozenContent) (newer : List FrozenContent)
     → state.frozen ≡ oldest ∷ newer → (flushed s u state).unsequence ≡ state.unsequence ++ new_file u oldest.born
-flushed_unsequence s u state oldest newer are = ap (λ (f : List FrozenPair). (flush_oldest s u f state).unsequence) are
+flushed_unsequence s u state oldest newer are = ap (λ (f : List FrozenContent). (flush_oldest s u f state).unsequence) are
 
-pub committed_flush_numbers : (told : Told) (known : Entries) (named : List ℕ) (flush : FlushJob)
-    (others : List FlushJob) (state : EngineState) → CommitsFlush told known flush others state
+pub committed_flush_numbers : (told : ToldContents) (known : KnownFiles) (named : List ℕ) (flush : FlushState)
+    (others : List FlushState) (state : EngineState) → CommitsFlush told known flush others state
     → HasNumbers named state
     → HasNumbers (names (flush_record flush) ++ named) (committed_flush flush others state)
 committed_flush_numbers told known named flush others state commits order =
@@ -78,8 +78,8 @@ committed_flush_numbers told known named flush others state commits order =
       count_append n (if_some flush.sequence) (if_some flush.unsequence),
     )
 
-    files : (n : ℕ) → count n (numbers_of (files_of (committed_flush flush others state)))
-        ≤ count n (numbers_of (files_of state)) + count n (drawn_by flush)
+    files : (n : ℕ) → count n (numbers_of (all_files (committed_flush flush others state)))
+        ≤ count n (numbers_of (all_files state)) + count n (drawn_by flush)
     files n = omega (
       arith,
       count_files,
@@ -129,8 +129,8 @@ committed_numbers named job others output place state out file lists order =
         ≡ count n (job.output ∷ []) + count n (drawn_numbers state.flushes others)
     drawn n = drawn_by_job n job others state.compactions state.flushes out
 
-    files : (n : ℕ) → count n (numbers_of (files_of (committed job others output place state)))
-        ≤ count n (numbers_of (files_of state)) + count n (numbers_of output)
+    files : (n : ℕ) → count n (numbers_of (all_files (committed job others output place state)))
+        ≤ count n (numbers_of (all_files state)) + count n (numbers_of output)
     files n = omega (
       arith,
       lists n,

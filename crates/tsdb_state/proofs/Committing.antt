@@ -12,25 +12,25 @@ use Rattle.tsdb_state.proofs.LayerLemmas.Rising.{IsPartOf}
 use Rattle.tsdb_state.proofs.LayerLemmas.Values.{value_is_point}
 use Rattle.tsdb_state.specs.Layers.{HasPoint, Layer, value_in}
 use Rattle.tsdb_state.specs.LayerOrder.{Rises}
-use Rattle.tsdb_state.specs.Places.{Place}
+use Rattle.tsdb_state.specs.Places.{PointPlace}
 use Rattle.tsdb_state.proofs.Replacing.{crossed_both, merged_both}
 use Rattle.tsdb_state.proofs.Runs.{dropped_first, output_is, replaced_run}
 use Rattle.tsdb_base.specs.Lists.{IsRun}
 use Rattle.tsdb_state.specs.Jobs.{HasGap, HasKind, KeepsItsMarks, Stands, job_inputs}
 use Rattle.tsdb_state.specs.Records.{new_file, numbers_of, purged, replace, replace_in, replaced}
-use Rattle.tsdb_state.specs.State.{Compaction, File, StoreState, Told}
+use Rattle.tsdb_state.specs.State.{Compaction, File, StoreState, ToldContents}
 use Rattle.tsdb_state.specs.Steps.{IsOutput, IsOutputPlace, output_number, replacement}
 use Rattle.tsdb_state.specs.StoreOrder.{StoreInOrder}
 use Rattle.tsdb_state.specs.Views.{file_layer, file_layers}
 use Rattle.tsdb_state.specs.Worlds.{KeepsWorld}
 
-map_same : {Y : Type 0} (told : Told) (f g : Layer → Y) (files : List File)
+map_same : {Y : Type 0} (told : ToldContents) (f g : Layer → Y) (files : List File)
     → Each (λ file. f (file_layer told file) ≡ g (file_layer told file)) files
     → map f (file_layers told files) ≡ map g (file_layers told files)
 map_same told f g [] same = refl
 map_same told f g (file ∷ files) same = λ i. same.0 i ∷ map_same told f g files same.1 i
 
-module _ (told : Told) (state : StoreState) (job : Compaction) (output : List File)
+module _ (told : ToldContents) (state : StoreState) (job : Compaction) (output : List File)
     (marked : KeepsItsMarks told state.stamp state.marks job) (gives : IsOutput told job output)
     (file : (output ≡ []) ⊎ (output ≡ record { number = job.output; born = job.born } ∷ [])) where
   abbrev input_layers : List Layer
@@ -56,7 +56,7 @@ module _ (told : Told) (state : StoreState) (job : Compaction) (output : List Fi
       by_file (λ files. Each (λ (layer : Layer). layer.born ≡ job.born) (file_layers told files)) tt (refl, tt)
 
   -- at each place the output has the value that the inputs have
-  pub output_has : (p : Place) → value_in state.marks p output_layers ≡ value_in state.marks p input_layers
+  pub output_has : (p : PointPlace) → value_in state.marks p output_layers ≡ value_in state.marks p input_layers
   output_has p =
       output_value _ _ p _ _ _ (each_map _ _ _ marked.older) output_born (map_same _ _ _ _ (marked.same p)) (gives p)
 
@@ -69,7 +69,7 @@ module _ (told : Told) (state : StoreState) (job : Compaction) (output : List Fi
       only (inl is) = is
       only (inr h) = absurd h
 
-module _ (told : Told) (state : StoreState) (job : Compaction) (output : List File) (place : ℕ)
+module _ (told : ToldContents) (state : StoreState) (job : Compaction) (output : List File) (place : ℕ)
     (order : StoreInOrder told state) (marked : KeepsItsMarks told state.stamp state.marks job)
     (gives : IsOutput told job output) (some : 1 ≤ job.output)
     (file : (output ≡ []) ⊎ (output ≡ record { number = job.output; born = job.born } ∷ [])) where
@@ -105,7 +105,7 @@ module _ (told : Told) (state : StoreState) (job : Compaction) (output : List Fi
   reached : Each (λ (f : File). f.born ≤ state.stamp) output
   reached = output_reached _ state _ _ marked gives file
 
-  value : (p : Place) (layers : List Layer) → inputs ≡ layers
+  value : (p : PointPlace) (layers : List Layer) → inputs ≡ layers
       → value_in state.marks p outputs ≡ value_in state.marks p layers
   value p layers are = output_has _ state _ _ marked gives file p ∙ ap (value_in state.marks p) are
 

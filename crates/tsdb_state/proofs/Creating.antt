@@ -9,9 +9,9 @@ use Rattle.tsdb_base.specs.declared.answers.Answer.TheVariants.{Done, Exists}
 use Rattle.tsdb_base.proofs.Lists.{each_append, pairs_push}
 use Rattle.tsdb_state.proofs.LayerLemmas.Places.{is_path_same}
 use Rattle.tsdb_state.proofs.LayerLemmas.Values.{or_none}
-use Rattle.tsdb_state.specs.Places.{Place, is_path}
+use Rattle.tsdb_state.specs.Places.{PointPlace, is_path}
 use Rattle.tsdb_model.specs.Apply.{accepted, reply_of}
-use Rattle.tsdb_model.specs.World.{Series, World, new_series, points_of, value_at}
+use Rattle.tsdb_model.specs.World.{Series, World, new_series, points_of_series, value_at}
 use Rattle.tsdb_model.specs.declared.command.Command.TheVariants.{Create}
 use Rattle.tsdb_model.specs.declared.command.Schema.{Schema}
 use Rattle.tsdb_model.specs.declared.reply.Reply.TheVariants.{Plain}
@@ -19,16 +19,16 @@ use Rattle.tsdb_state.proofs.Series.{free_apart, series_kept, type_kept, type_pu
 use Rattle.tsdb_state.proofs.Stamps.{stamps_up, value_stamp}
 use Rattle.tsdb_state.proofs.Worlds.{type_in}
 use Rattle.tsdb_state.specs.Records.{CanCreate, created}
-use Rattle.tsdb_state.specs.State.{SeriesEntry, StoreState, Told}
+use Rattle.tsdb_state.specs.State.{SeriesEntry, StoreState, ToldContents}
 use Rattle.tsdb_state.specs.StoreOrder.{StoreInOrder}
-use Rattle.tsdb_state.specs.Worlds.{StandsFor, type_at, value_of}
+use Rattle.tsdb_state.specs.Worlds.{StandsFor, type_at, value_at_place}
 
-module _ (told : Told) (schema : Schema) (state : StoreState) (order : StoreInOrder told state)
+module _ (told : ToldContents) (schema : Schema) (state : StoreState) (order : StoreInOrder told state)
     (can : CanCreate schema state) where
   abbrev entry : SeriesEntry
   entry = record { schema = schema; live = true }
 
-  created_value : (place : Place) → value_of told (created schema state) place ≡ value_of told state place
+  created_value : (place : PointPlace) → value_at_place told (created schema state) place ≡ value_at_place told state place
   created_value place = value_stamp told state place order.stamps.versions
 
   pub created_in_order : StoreInOrder told (created schema state)
@@ -67,7 +67,7 @@ module _ (told : Told) (schema : Schema) (state : StoreState) (order : StoreInOr
           ∙ by_type path (is_path path schema.path) refl
           ∙ sym (type_push state.schemas entry path);
       values =
-          λ place. ap (λ o. get (points_of o) place.time) (found _)
+          λ place. ap (λ o. get (points_of_series o) place.time) (found _)
           ∙ by_value place (is_path place.path schema.path) refl
           ∙ stands.values place
           ∙ sym (created_value _);
@@ -80,11 +80,11 @@ module _ (told : Told) (schema : Schema) (state : StoreState) (order : StoreInOr
             (sym (ap (type_at state.schemas) (is_path_same _ _ e) ∙ can.free))
         by_type path false e = stands.types path ∙ sym (or_none (type_at state.schemas path))
 
-        by_value : (place : Place) (b : Bool) → is_path place.path schema.path ≡ b
-            → get (points_of (cond b (Some (new_series schema.data_type)) (get world place.path))) place.time
+        by_value : (place : PointPlace) (b : Bool) → is_path place.path schema.path ≡ b
+            → get (points_of_series (cond b (Some (new_series schema.data_type)) (get world place.path))) place.time
             ≡ value_at world place.path place.time
         by_value place true e =
             get-empty int_cmp place.time
-            ∙ sym (ap (λ o. get (points_of o) place.time) (ap (get world) (is_path_same _ _ e) ∙ not_there) ∙ get-empty
+            ∙ sym (ap (λ o. get (points_of_series o) place.time) (ap (get world) (is_path_same _ _ e) ∙ not_there) ∙ get-empty
             int_cmp place.time)
         by_value place false e = refl

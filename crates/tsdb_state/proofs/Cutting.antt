@@ -20,7 +20,7 @@ use Rattle.tsdb_state.proofs.LayerLemmas.Places.{get_cut, place_cmp-IsAntisymmet
 use Rattle.tsdb_state.proofs.LayerLemmas.Tests.{clear_append}
 use Rattle.tsdb_state.specs.Layers.{HasPoint, Layer, value_in}
 use Rattle.tsdb_state.specs.Marks.{is_over, survives}
-use Rattle.tsdb_state.specs.Places.{Content, Place, cut, is_path, is_within, place_cmp}
+use Rattle.tsdb_state.specs.Places.{Content, PointPlace, cut_content, is_path, is_within, place_cmp}
 use Rattle.tsdb_model.specs.World.{is_in}
 use Rattle.tsdb_marks.specs.declared.marks.Mark.{Mark}
 use Rattle.tsdb_memtable.specs.Points.{value_bytes}
@@ -29,11 +29,11 @@ use Rattle.tsdb_state.specs.Records.{add_mark, cut_pair}
 use Rattle.tsdb_state.specs.State.{PairContent}
 use Rattle.tsdb_state.specs.Views.{pair_layers}
 
-module _ (content : Content) (test : Place → Bool) where
-  alike : (q x : Place) → place_cmp q x ≡ Equal → test x ≡ test q
+module _ (content : Content) (test : PointPlace → Bool) where
+  alike : (q x : PointPlace) → place_cmp q x ≡ Equal → test x ≡ test q
   alike q x e = ap test (sym (place_cmp-IsAntisymmetric q x e))
 
-  abbrev kept : List (Place × Value)
+  abbrev kept : List (PointPlace × Value)
   kept = filter (λ entry. test entry.0) (entries content)
 
   sorted : T (is_sorted place_cmp kept)
@@ -47,7 +47,7 @@ module _ (content : Content) (test : Place → Bool) where
       (entries content))))
       ∙ entries-from_sorted place_cmp kept sorted
 
-fewer_in : (test : Place × Value → Bool) (points : List (Place × Value)) → length (filter test points) ≤ length points
+fewer_in : (test : PointPlace × Value → Bool) (points : List (PointPlace × Value)) → length (filter test points) ≤ length points
 fewer_in test [] = omega arith
 fewer_in test (point ∷ points) = by (test point) (fewer_in test points)
   where
@@ -56,7 +56,7 @@ fewer_in test (point ∷ points) = by (test point) (fewer_in test points)
     by true h = omega arith
     by false h = omega arith
 
-lighter_in : (weight : Place × Value → ℕ) (test : Place × Value → Bool) (points : List (Place × Value))
+lighter_in : (weight : PointPlace × Value → ℕ) (test : PointPlace × Value → Bool) (points : List (PointPlace × Value))
     → sum_by weight (filter test points) ≤ sum_by weight points
 lighter_in weight test [] = omega arith
 lighter_in weight test (point ∷ points) = by (test point) (lighter_in weight test points)
@@ -66,16 +66,16 @@ lighter_in weight test (point ∷ points) = by (test point) (lighter_in weight t
     by true h = omega (arith, sum_by-cons weight point (filter test points), sum_by-cons weight point points)
     by false h = omega (arith, sum_by-cons weight point points)
 
-abbrev weight : Place × Value → ℕ
+abbrev weight : PointPlace × Value → ℕ
 weight entry = 8 + value_bytes entry.1
 
-pub cut_fewer : (path : List ℕ) (range : Range) (content : Content) → len (cut path range content) ≤ len content
-cut_fewer path range content = subst (λ n. n ≤ len content) (sym (len-entries (cut path range content) ∙ ap length
+pub cut_fewer : (path : List ℕ) (range : Range) (content : Content) → len (cut_content path range content) ≤ len content
+cut_fewer path range content = subst (λ n. n ≤ len content) (sym (len-entries (cut_content path range content) ∙ ap length
     (entries_kept _ _))) (subst (λ n. length (kept content (λ place. not (is_within path range place))) ≤ n)
     (sym (len-entries content)) (fewer_in _ _))
 
 pub cut_lighter : (path : List ℕ) (range : Range) (content : Content)
-    → content_bytes (cut path range content) ≤ content_bytes content
+    → content_bytes (cut_content path range content) ≤ content_bytes content
 cut_lighter path range content = subst (λ points. sum_by weight points ≤ content_bytes content) (sym (entries_kept _ _))
     (lighter_in weight (λ entry. not (is_within path range entry.0)) (entries content))
 
@@ -85,17 +85,17 @@ was_there : (b : Bool) (o : Option Value) (value : Value) → cond (not b) o Non
 was_there true o value e = absurd (cc)
 was_there false o value e = e
 
-pub cut_point : (path : List ℕ) (range : Range) (content : Content) (place : Place) (value : Value)
-    → get (cut path range content) place ≡ Some value → get content place ≡ Some value
+pub cut_point : (path : List ℕ) (range : Range) (content : Content) (place : PointPlace) (value : Value)
+    → get (cut_content path range content) place ≡ Some value → get content place ≡ Some value
 cut_point path range content place value is = was_there _ _ _ (sym (get_cut _ _ _ _) ∙ is)
 
-pub cut_points : (path : List ℕ) (range : Range) (pair : PairContent) (place : Place) (value : Value)
+pub cut_points : (path : List ℕ) (range : Range) (pair : PairContent) (place : PointPlace) (value : Value)
     → HasPoint (pair_layers (cut_pair path range pair)) place value → HasPoint (pair_layers pair) place value
 cut_points path range pair place value (inl h) = inl (cut_point _ _ _ _ _ h)
 cut_points path range pair place value (inr (inl h)) = inr (inl (cut_point _ _ _ _ _ h))
 cut_points path range pair place value (inr (inr h)) = absurd h
 
-empty_cut : (path : List ℕ) (range : Range) (content : Content) → content ≡ empty → cut path range content ≡ empty
+empty_cut : (path : List ℕ) (range : Range) (content : Content) → content ≡ empty → cut_content path range content ≡ empty
 empty_cut path range content none =
     same_content _ _ (λ q. get_cut _ _ _ q ∙ ap (λ c. cond (not (is_within path range q)) (get c q) None) none
     ∙ ap (λ o. cond (not (is_within path range q)) o None) (get-empty place_cmp q)
@@ -125,7 +125,7 @@ reversed from to time e = grind (arith, ints)
 newer : (born version : ℕ) → born < version → nat_lt born version ≡ true
 newer born version h = grind (arith, nat_tests)
 
-marked_survives : (path : List ℕ) (range : Range) (version : ℕ) (marks : List Mark) (place : Place) (born : ℕ)
+marked_survives : (path : List ℕ) (range : Range) (version : ℕ) (marks : List Mark) (place : PointPlace) (born : ℕ)
     → born < version
     → survives (add_mark path range version marks) place born
     ≡ (survives marks place born && not (is_within path range place))
@@ -153,7 +153,7 @@ marked_survives path range version marks place born old = by (int_lt range.to ra
         ∙ whole (survives marks place born) (is_within path range place)
 
 -- values of layers older than the mark
-pub marked_value : (path : List ℕ) (range : Range) (version : ℕ) (marks : List Mark) (place : Place)
+pub marked_value : (path : List ℕ) (range : Range) (version : ℕ) (marks : List Mark) (place : PointPlace)
     (layers : List Layer) → Each (λ layer. layer.born < version) layers
     → value_in (add_mark path range version marks) place layers
     ≡ cond (is_within path range place) None (value_in marks place layers)

@@ -14,7 +14,7 @@ use Rattle.tsdb_base.proofs.Lists.{each_append, each_map, each_weaker, pairs_pus
 use Rattle.tsdb_state.proofs.LayerLemmas.Places.{get_cut}
 use Rattle.tsdb_state.specs.Layers.{HasPoint, Layer, value_in}
 use Rattle.tsdb_base.specs.Lists.{EachPair}
-use Rattle.tsdb_state.specs.Places.{Content, Place, cut as cut_content, is_within}
+use Rattle.tsdb_state.specs.Places.{Content, PointPlace, cut_content, is_within}
 use Rattle.tsdb_model.specs.Apply.{accepted, reply_of}
 use Rattle.tsdb_model.specs.World.{Series, World}
 use Rattle.tsdb_model.specs.declared.command.Command.TheVariants.{Delete}
@@ -26,17 +26,17 @@ use Rattle.tsdb_state.proofs.Stamps.{stamps_up}
 use Rattle.tsdb_state.proofs.Values.{AreReached, joined, reached_more, stored, stored_late, value_is}
 use Rattle.tsdb_state.proofs.Worlds.{change_type, cut_at, type_in}
 use Rattle.tsdb_state.specs.Records.{CanDelete, add_mark, cut_pair, deleted}
-use Rattle.tsdb_state.specs.State.{File, FrozenPair, StoreState, Told}
+use Rattle.tsdb_state.specs.State.{File, FrozenContent, StoreState, ToldContents}
 use Rattle.tsdb_state.specs.StoreOrder.{StampsInOrder, StoreInOrder}
 use Rattle.tsdb_state.specs.Views.{file_layers, pair_layers, layer_of, sequence_layer, unsequence_layer}
-use Rattle.tsdb_state.specs.Worlds.{StandsFor, type_at, value_of}
+use Rattle.tsdb_state.specs.Worlds.{StandsFor, type_at, value_at_place}
 use Rattle.tsdb_state.proofs.LayerLemmas.Rising.{part_append, part_itself}
 
-older_files : (told : Told) (stamp : ℕ) (files : List File) → Each (λ file. file.born ≤ stamp) files
+older_files : (told : ToldContents) (stamp : ℕ) (files : List File) → Each (λ file. file.born ≤ stamp) files
     → Each (λ layer. layer.born < stamp + 1) (file_layers told files)
 older_files told stamp files old = each_map _ _ _ (each_weaker _ _ (λ file h. omega (arith, h)) _ old)
 
-module _ (told : Told) (path : List ℕ) (range : Range) (state : StoreState) (order : StoreInOrder told state)
+module _ (told : ToldContents) (path : List ℕ) (range : Range) (state : StoreState) (order : StoreInOrder told state)
     (can : CanDelete path state) where
   -- the state before its marks are purged
   abbrev marked : StoreState
@@ -66,15 +66,15 @@ module _ (told : Told) (path : List ℕ) (range : Range) (state : StoreState) (o
   abbrev Older : Layer → Type 0
   Older layer = layer.born < state.stamp + 1
 
-  pairs_older : (f : FrozenPair → Layer) → ((pair : FrozenPair) → (f pair).born ≡ pair.born)
+  pairs_older : (f : FrozenContent → Layer) → ((pair : FrozenContent) → (f pair).born ≡ pair.born)
       → Each Older (map f state.frozen)
   pairs_older f same =
       each_map _ f _ (each_weaker _ _ (λ pair h. omega (arith, same pair, h)) _ order.stamps.frozen_born)
 
-  abbrev at : Place → Bool
+  abbrev at : PointPlace → Bool
   at place = is_within path range place
 
-  marked_is : (place : Place) → value_of told marked place ≡ cond (at place) None (value_of told state place)
+  marked_is : (place : PointPlace) → value_at_place told marked place ≡ cond (at place) None (value_at_place told state place)
   marked_is place =
       value_is told marked _ marks_reached
       ∙ (λ i. joined (get_cut state.working.sequence path range place i)
@@ -93,8 +93,8 @@ module _ (told : Told) (path : List ℕ) (range : Range) (state : StoreState) (o
       all true a b c d = refl
       all false a b c d = refl
 
-  pub deleted_value : (place : Place)
-      → value_of told (deleted path range state) place ≡ cond (at place) None (value_of told state place)
+  pub deleted_value : (place : PointPlace)
+      → value_at_place told (deleted path range state) place ≡ cond (at place) None (value_at_place told state place)
   deleted_value place = value_purged told marked place marks_reached ∙ marked_is _
 
   marked_stamps : StampsInOrder (state.stamp + 1) marked.marks state.sequence state.unsequence state.frozen
@@ -136,13 +136,13 @@ module _ (told : Told) (path : List ℕ) (range : Range) (state : StoreState) (o
       pairs : List Layer
       pairs = map sequence_layer state.frozen ++ map unsequence_layer state.frozen
 
-      one : (content : Content) (place : Place) (value : Value)
+      one : (content : Content) (place : PointPlace) (value : Value)
           → HasPoint (layer_of (cut_content path range content)) place value
           → HasPoint (layer_of content) place value
       one content place value (inl h) = inl (cut_point _ _ _ _ _ h)
       one content place value (inr h) = absurd h
 
-      live : (place : Place) (value : Value) (w : Bool) → cond w None (value_of told state place) ≡ Some value
+      live : (place : PointPlace) (value : Value) (w : Bool) → cond w None (value_at_place told state place) ≡ Some value
           → type_at state.schemas place.path ≡ Some (type_of value)
       live place value true is = absurd (cc)
       live place value false is = order.live place value is

@@ -24,10 +24,10 @@ use Rattle.tsdb_state.proofs.OtherJobs.{apart_turned, inputs_listed, stands_cros
 use Rattle.tsdb_state.proofs.Runs.{length_numbers}
 use Rattle.tsdb_state.specs.Jobs.{AreApart, CompactionsInOrder, Describes, EntriesMatch, HasGap, HasKind, IsFlushOut}
 use Rattle.tsdb_state.specs.Jobs.{KeepsItsMarks, Stands, drawn_numbers, held_numbers, job_inputs}
-use Rattle.tsdb_state.specs.Order.{DoubtInOrder, IsInOrder, files_of}
+use Rattle.tsdb_state.specs.Order.{DoubtInOrder, IsInOrder, all_files}
 use Rattle.tsdb_state.specs.Records.{CanFollow, CanReplace, HasInputs, Replacement, StandAt, after, files_at, inputs_of}
 use Rattle.tsdb_state.specs.Records.{names, number_list, numbers_of, purged, replace_in, replaced}
-use Rattle.tsdb_state.specs.State.{Compaction, EngineState, Entries, File, StoreState, Told}
+use Rattle.tsdb_state.specs.State.{Compaction, EngineState, KnownFiles, File, StoreState, ToldContents}
 use Rattle.tsdb_state.specs.Steps.{Begins, CommitsCompaction, EndsCompaction, IsOutputPlace, began, committed}
 use Rattle.tsdb_state.specs.Steps.{compaction_record, ended, file_numbers, output_number, replacement}
 use Rattle.tsdb_state.specs.StoreOrder.{StoreInOrder}
@@ -88,7 +88,7 @@ stand_at before run behind all place is at = record {
   are = ap numbers_of (files_at_is _ _ _ _ _ is at);
 }
 
-module _ (told : Told) (known : Entries) (named : List ℕ) (state : EngineState)
+module _ (told : ToldContents) (known : KnownFiles) (named : List ℕ) (state : EngineState)
     (order : IsInOrder told known named state) where
   abbrev old : StoreState
   old = state.store
@@ -117,7 +117,7 @@ module _ (told : Told) (known : Entries) (named : List ℕ) (state : EngineState
         marked = (marked, order.compactions.marked);
       } in
       let numbers = began_numbers told named job state begins order.numbers in
-      let rights = rights_taken state.rights (files_of state) _ (numbers_of (job_inputs job))
+      let rights = rights_taken state.rights (all_files state) _ (numbers_of (job_inputs job))
       (held_numbers (job ∷ state.compactions) state.pins) order.rights
       (λ n. held_with_job n job state.compactions state.pins) (λ n h. omega (
         arith,
@@ -137,7 +137,7 @@ module _ (told : Told) (known : Entries) (named : List ℕ) (state : EngineState
     marked = with_one_each _ _ _ _ out order.compactions.marked;
   }
 
-  more_files : (built : List File) (n : ℕ) → count n (numbers_of (files_of state))
+  more_files : (built : List File) (n : ℕ) → count n (numbers_of (all_files state))
       ≤ count n (numbers_of ((old.sequence ++ old.unsequence) ++ (state.outgoing ++ built)))
   more_files built n = omega (arith, count_out n (old.sequence ++ old.unsequence) state.outgoing built)
 
@@ -146,7 +146,7 @@ module _ (told : Told) (known : Entries) (named : List ℕ) (state : EngineState
   end_step job others built ends =
       let compactions = others_in_order job others ends.out in
       let numbers = ended_numbers named job others built state ends order.numbers in
-      let rights = rights_returned state.rights (files_of state) (files_of (ended job others built state)) _
+      let rights = rights_returned state.rights (all_files state) (all_files (ended job others built state)) _
       (numbers_of (job_inputs job)) (held_numbers others state.pins) order.rights
       (λ n. held_by_job n job others state.compactions state.pins ends.out) (more_files built) in
       let room = room_without_compaction job others state.room state.flushes state.compactions ends.out order.room in
@@ -297,15 +297,15 @@ module _ (told : Told) (known : Entries) (named : List ℕ) (state : EngineState
       compactions = good.jobs;
       numbers = committed_numbers named job others output place state commits.out file good.lists order.numbers;
       entries = good.entries;
-      rights = rights_returned state.rights (files_of state) (files_of (committed job others output place state))
+      rights = rights_returned state.rights (all_files state) (all_files (committed job others output place state))
           (held_numbers state.compactions state.pins) (numbers_of (job_inputs job)) (held_numbers others state.pins)
           order.rights (λ n. held_by_job n job others state.compactions state.pins commits.out) files_more;
       room = room_without_compaction job others state.room state.flushes state.compactions commits.out order.room;
       doubt = tt;
     }
       where
-        files_more : (n : ℕ) → count n (numbers_of (files_of state))
-            ≤ count n (numbers_of (files_of (committed job others output place state)))
+        files_more : (n : ℕ) → count n (numbers_of (all_files state))
+            ≤ count n (numbers_of (all_files (committed job others output place state)))
         files_more n = omega (
           arith,
           good.lists n,

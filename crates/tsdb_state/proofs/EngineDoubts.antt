@@ -13,7 +13,7 @@ use Rattle.tsdb_state.proofs.EngineFlush.{end_flush_step, flush_can, flush_doubt
 use Rattle.tsdb_state.proofs.EngineRecords.{fail_step}
 use Rattle.tsdb_state.specs.Order.{DoubtInOrder, FollowsWorld, IsInOrder}
 use Rattle.tsdb_state.specs.Records.{CanFollow, after, names, new_numbers, numbers_of}
-use Rattle.tsdb_state.specs.State.{Compaction, EngineState, Entries, File, FlushJob, Told}
+use Rattle.tsdb_state.specs.State.{Compaction, EngineState, KnownFiles, File, FlushState, ToldContents}
 use Rattle.tsdb_state.specs.Steps.{CommitsCompaction, CommitsFlush, EndsFlush, compaction_record, ended, ended_flush}
 use Rattle.tsdb_state.specs.Steps.{failed}
 use Rattle.tsdb_state.specs.Steps.{flush_record, output_number}
@@ -36,9 +36,9 @@ output_named job output (inr one) = subst (λ files. Each (λ n. Among n (number
     by true = tt
     by false = (inl refl, tt)
 
-module _ (told : Told) (known : Entries) (named : List ℕ) (state : EngineState)
+module _ (told : ToldContents) (known : KnownFiles) (named : List ℕ) (state : EngineState)
     (order : IsInOrder told known named state) where
-  pub failed_flush_step : (flush : FlushJob) (others : List FlushJob) (built : List File)
+  pub failed_flush_step : (flush : FlushState) (others : List FlushState) (built : List File)
       → CommitsFlush told known flush others state → EndsFlush flush others built state
       → Each (λ n. Among n (numbers_of built)) (names (flush_record flush))
       → IsInOrder told known named (failed (flush_record flush) (ended_flush flush others built state))
@@ -63,7 +63,7 @@ module _ (told : Told) (known : Entries) (named : List ℕ) (state : EngineState
       (doubt.can, doubt.order, doubt.world)
 
   -- what a commit appends can follow: it could be in doubt, with its files out
-  pub flush_follows : (flush : FlushJob) (others : List FlushJob) → CommitsFlush told known flush others state
+  pub flush_follows : (flush : FlushState) (others : List FlushState) → CommitsFlush told known flush others state
       → CanFollow named (flush_record flush) state.store
   flush_follows flush others commits = flush_can _ _ _ _ order _ _ commits
 

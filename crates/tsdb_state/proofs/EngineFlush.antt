@@ -19,10 +19,10 @@ use Rattle.tsdb_state.proofs.OtherJobs.{stands_more}
 use Rattle.tsdb_state.specs.Jobs.{CompactionsInOrder, Describes, IsDrawnFor, IsFlushOut, RightsMatch}
 use Rattle.tsdb_state.specs.Jobs.{drawn_numbers, held_numbers}
 use Rattle.tsdb_state.specs.Limit.{IsEmptyPair}
-use Rattle.tsdb_state.specs.Order.{DoubtInOrder, IsInOrder, files_of}
+use Rattle.tsdb_state.specs.Order.{DoubtInOrder, IsInOrder, all_files}
 use Rattle.tsdb_state.specs.Records.{CanFlush, IsNumberOf, flush_oldest, flushed, names, new_file}
 use Rattle.tsdb_state.specs.Records.{numbers_of, purged}
-use Rattle.tsdb_state.specs.State.{EngineState, Entries, File, FlushJob, FrozenPair, PairContent, StoreState, Told}
+use Rattle.tsdb_state.specs.State.{EngineState, KnownFiles, File, FlushState, FrozenContent, PairContent, StoreState, ToldContents}
 use Rattle.tsdb_state.specs.Steps.{CommitsFlush, EndsFlush, IsBuilt, TakesFlush, committed_flush, ended_flush}
 use Rattle.tsdb_state.specs.Steps.{flush_record, number_or_none, took_flush}
 use Rattle.tsdb_state.specs.StoreOrder.{LateIsBelow, StoreInOrder}
@@ -30,8 +30,8 @@ use Rattle.tsdb_state.specs.Views.{file_layers, sequence_layer}
 use Rattle.tsdb_state.specs.Worlds.{KeepsWorld}
 
 -- the flush of the oldest pair
-new_flush : (stamp : ℕ) (frozen : List FrozenPair) (working : PairContent) (oldest : FrozenPair) (newer : List FrozenPair)
-    (flush : FlushJob) → frozen ≡ oldest ∷ newer → flush.born ≡ oldest.born → flush.pair ≡ oldest.pair
+new_flush : (stamp : ℕ) (frozen : List FrozenContent) (working : PairContent) (oldest : FrozenContent) (newer : List FrozenContent)
+    (flush : FlushState) → frozen ≡ oldest ∷ newer → flush.born ≡ oldest.born → flush.pair ≡ oldest.pair
     → Each (λ pair. pair.born ≤ stamp) frozen → EachPair (λ pair later. pair.born < later.born) frozen
     → (¬ IsEmptyPair working → Each (λ pair. pair.born < stamp) frozen)
     → IsDrawnFor flush.sequence flush.pair.sequence → IsDrawnFor flush.unsequence flush.pair.unsequence
@@ -46,12 +46,12 @@ new_flush stamp frozen working oldest newer flush are born pair reached rise bef
       unsequence = unsequence;
     })
   where
-    rises : EachPair (λ (pair later : FrozenPair). pair.born < later.born) (oldest ∷ newer)
-    rises = subst (EachPair (λ (pair later : FrozenPair). pair.born < later.born)) are rise
+    rises : EachPair (λ (pair later : FrozenContent). pair.born < later.born) (oldest ∷ newer)
+    rises = subst (EachPair (λ (pair later : FrozenContent). pair.born < later.born)) are rise
 
 -- flushes that are out, without the oldest pair
-tail_flush : (stamp : ℕ) (frozen : List FrozenPair) (working : PairContent) (oldest : FrozenPair) (newer : List FrozenPair)
-    (flush : FlushJob) → frozen ≡ oldest ∷ newer → IsFlushOut stamp frozen working flush
+tail_flush : (stamp : ℕ) (frozen : List FrozenContent) (working : PairContent) (oldest : FrozenContent) (newer : List FrozenContent)
+    (flush : FlushState) → frozen ≡ oldest ∷ newer → IsFlushOut stamp frozen working flush
     → IsFlushOut stamp newer working flush
 tail_flush stamp frozen working oldest newer flush are out =
     let here = subst (λ frozen. IsFlushOut stamp frozen working flush) are out in
@@ -66,12 +66,12 @@ number_is : (o : Option ℕ) (content : Content) → IsDrawnFor o content → ((
 number_is None content drawn some = ((λ e. drawn), λ ne. absurd (ne refl))
 number_is (Some n) content drawn some = ((λ e. absurd (omega (arith, e, some n refl))), λ ne. drawn)
 
-number_has : (told : Told) (known : Entries) (o : Option ℕ) (content : Content) → IsBuilt told known o content
+number_has : (told : ToldContents) (known : KnownFiles) (o : Option ℕ) (content : Content) → IsBuilt told known o content
     → (number_or_none o).0 ≢ 0 → told (number_or_none o).0 ≡ content
 number_has told known None content built ne = absurd (ne refl)
 number_has told known (Some n) content built ne = built.0
 
-new_entry : (told : Told) (known : Entries) (o : Option ℕ) (born : ℕ) (content : Content)
+new_entry : (told : ToldContents) (known : KnownFiles) (o : Option ℕ) (born : ℕ) (content : Content)
     → IsBuilt told known o content
     → Each (λ (file : File). Describes (known file.number) (told file.number)) (new_file (number_or_none o).0 born)
 new_entry told known None born content built = tt
@@ -85,12 +85,12 @@ counted_some (Some m) n e =
     let same : m ≡ n = cc in
     subst (λ k. 1 ≤ count n (k ∷ [])) (sym same) (omega (arith, count_here n []))
 
-module _ (told : Told) (known : Entries) (named : List ℕ) (state : EngineState)
+module _ (told : ToldContents) (known : KnownFiles) (named : List ℕ) (state : EngineState)
     (order : IsInOrder told known named state) where
   abbrev old : StoreState
   old = state.store
 
-  pub take_flush_step : (flush : FlushJob) → TakesFlush flush state
+  pub take_flush_step : (flush : FlushState) → TakesFlush flush state
       → IsInOrder told known named (took_flush flush state)
   take_flush_step flush takes =
       let out = new_flush old.stamp old.frozen old.working takes.oldest takes.newer flush takes.are takes.born
@@ -100,22 +100,22 @@ module _ (told : Told) (known : Entries) (named : List ℕ) (state : EngineState
       let room = room_with_flush flush state.room state.flushes state.compactions order.room in
       search
 
-  more_files : (built : List File) (n : ℕ) → count n (numbers_of (files_of state))
+  more_files : (built : List File) (n : ℕ) → count n (numbers_of (all_files state))
       ≤ count n (numbers_of ((old.sequence ++ old.unsequence) ++ (state.outgoing ++ built)))
   more_files built n = omega (arith, count_out n (old.sequence ++ old.unsequence) state.outgoing built)
 
-  pub end_flush_step : (flush : FlushJob) (others : List FlushJob) (built : List File)
+  pub end_flush_step : (flush : FlushState) (others : List FlushState) (built : List File)
       → EndsFlush flush others built state → IsInOrder told known named (ended_flush flush others built state)
   end_flush_step flush others built ends =
       let flushes = with_one_each _ flush others state.flushes ends.out order.flushes in
       let numbers = ended_flush_numbers named flush others built state ends order.numbers in
-      let rights = rights_more _ _ (files_of (ended_flush flush others built state)) _ order.rights (more_files built)
+      let rights = rights_more _ _ (all_files (ended_flush flush others built state)) _ order.rights (more_files built)
       in
       let room = room_without_flush flush others state.room state.flushes state.compactions ends.out order.room in
       let doubt = doubt_more told named old state.outgoing built state.doubt order.doubt in
       search
 
-  module _ (flush : FlushJob) (others : List FlushJob) (commits : CommitsFlush told known flush others state) where
+  module _ (flush : FlushState) (others : List FlushState) (commits : CommitsFlush told known flush others state) where
     out : IsFlushOut old.stamp old.frozen old.working flush
     out = with_one_is _ _ _ _ commits.out order.flushes
 
@@ -201,7 +201,7 @@ module _ (told : Told) (known : Entries) (named : List ℕ) (state : EngineState
     as_put : (P : StoreState → Type 0) → P (purged put) → P (flushed first second old)
     as_put P = subst P (sym is_put)
 
-    files_more : (n : ℕ) → count n (numbers_of (files_of state))
+    files_more : (n : ℕ) → count n (numbers_of (all_files state))
         ≤ count n (numbers_of ((put.sequence ++ put.unsequence) ++ (state.outgoing ++ [])))
     files_more n = omega (arith, count_files)
 

@@ -21,12 +21,12 @@ use Rattle.tsdb_state.specs.Limit.{IsEmptyPair, empty_pair}
 use Rattle.tsdb_state.specs.Order.{DoubtInOrder, IsInOrder}
 use Rattle.tsdb_state.specs.Records.{CanCreate, CanDelete, CanFreeze, CanInsert, add_mark, created, cut_pair, deleted}
 use Rattle.tsdb_state.specs.Records.{froze, inserted}
-use Rattle.tsdb_state.specs.State.{Compaction, EngineState, Entries, File, FlushJob, FrozenPair, PairContent, StoreState, Told}
+use Rattle.tsdb_state.specs.State.{Compaction, EngineState, KnownFiles, File, FlushState, FrozenContent, PairContent, StoreState, ToldContents}
 use Rattle.tsdb_state.specs.Steps.{failed}
 use Rattle.tsdb_state.specs.Views.{borns_of, working_pair}
 
 -- flushes that are out, where the stamp rises
-pub flushes_up : (stamp : ℕ) (frozen : List FrozenPair) (working new : PairContent) (flushes : List FlushJob)
+pub flushes_up : (stamp : ℕ) (frozen : List FrozenContent) (working new : PairContent) (flushes : List FlushState)
     → Each (IsFlushOut stamp frozen working) flushes → Each (IsFlushOut (stamp + 1) frozen new) flushes
 flushes_up stamp frozen working new = each_weaker _ _ (λ flush out.
     let reached : flush.born ≤ stamp + 1 = omega (arith, out.reached) in
@@ -34,7 +34,7 @@ flushes_up stamp frozen working new = each_weaker _ _ (λ flush out.
     search)
 
 -- and where the working pair, which has a point, is frozen
-flushes_frozen : (state : StoreState) (flushes : List FlushJob) → ¬ IsEmptyPair state.working
+flushes_frozen : (state : StoreState) (flushes : List FlushState) → ¬ IsEmptyPair state.working
     → Each (IsFlushOut state.stamp state.frozen state.working) flushes
     → Each (IsFlushOut state.stamp (state.frozen ++ working_pair state ∷ []) empty_pair) flushes
 flushes_frozen state flushes some = each_weaker _ _ (λ flush out. record {
@@ -47,7 +47,7 @@ flushes_frozen state flushes some = each_weaker _ _ (λ flush out. record {
 }) flushes
 
 -- compactions that are out, where marks, the stamp and the lists of files change
-pub jobs_moved : {told other : Told} {stamp new : ℕ} {marks others : List Mark}
+pub jobs_moved : {told other : ToldContents} {stamp new : ℕ} {marks others : List Mark}
     {sequence unsequence new_sequence new_unsequence : List File} {jobs : List Compaction} (P : Compaction → Type 0)
     → Each P jobs
     → ((job : Compaction) → P job → HasKind job.space job → Stands job.space told sequence unsequence job
@@ -71,14 +71,14 @@ jobs_moved {told} {other} {stamp} {new} {marks} {others} {sequence} {unsequence}
         ((here.0, rest.0), (here.1, rest.1))
 
 -- a purge looks at the borns of all inputs
-pub purge_kept : (told : Told) (stamp : ℕ) (marks : List Mark) (state : StoreState) (job : Compaction)
+pub purge_kept : (told : ToldContents) (stamp : ℕ) (marks : List Mark) (state : StoreState) (job : Compaction)
     → HasKind job.space job → Stands job.space told state.sequence state.unsequence job
     → KeepsItsMarks told stamp marks job
     → KeepsItsMarks told stamp (purge (borns_of state) marks) job
 purge_kept told stamp marks state job kind stands marked =
     marked_purge _ _ _ _ _ marked (each_weaker _ _ (born_listed state) _ (inputs_listed _ _ _ _ _ kind stands))
 
-module _ (told : Told) (known : Entries) (named : List ℕ) (state : EngineState)
+module _ (told : ToldContents) (known : KnownFiles) (named : List ℕ) (state : EngineState)
     (order : IsInOrder told known named state) where
   abbrev old : StoreState
   old = state.store

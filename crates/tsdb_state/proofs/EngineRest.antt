@@ -14,45 +14,45 @@ use Rattle.tsdb_log.specs.declared.record.LogRecord.{LogRecord}
 use Rattle.tsdb_state.proofs.Counting.{some_of_sum}
 use Rattle.tsdb_state.proofs.Holding.{held_by_pin, held_with_pin, rights_returned, rights_taken, swept_rights}
 use Rattle.tsdb_state.proofs.Numbering.{count_files, count_filter, count_flat, swept_numbers}
-use Rattle.tsdb_state.specs.Jobs.{held_numbers, pin_numbers, source_numbers}
-use Rattle.tsdb_state.specs.Order.{DoubtInOrder, IsInOrder, files_of}
+use Rattle.tsdb_state.specs.Jobs.{held_numbers, pin_numbers, source_file_numbers}
+use Rattle.tsdb_state.specs.Order.{DoubtInOrder, IsInOrder, all_files}
 use Rattle.tsdb_state.specs.Records.{names, numbers_of}
-use Rattle.tsdb_state.specs.State.{Column, EngineState, Entries, File, FromFile, FromPart, FrozenPair, Pin, Source}
-use Rattle.tsdb_state.specs.State.{StoreState, Told}
+use Rattle.tsdb_state.specs.State.{ColumnState, EngineState, KnownFiles, File, FromFile, FromPart, FrozenContent, PinState, SourceState}
+use Rattle.tsdb_state.specs.State.{StoreState, ToldContents}
 use Rattle.tsdb_state.specs.Steps.{Sweeps, TakesPin, file_sources, part_sources, part_within, pinned}
 use Rattle.tsdb_state.specs.Steps.{sources_of, swept, unpinned}
 use Rattle.tsdb_state.specs.Views.{sequence_layer, unsequence_layer, working_pair}
 
-files_only : (files : List File) → flat_map source_numbers (map FromFile files) ≡ numbers_of files
+files_only : (files : List File) → flat_map source_file_numbers (map FromFile files) ≡ numbers_of files
 files_only [] = refl
 files_only (file ∷ files) = ap (λ numbers. file.number ∷ numbers) (files_only files)
 
 parts_only : (f : Layer → Layer) (layers : List Layer)
-    → flat_map source_numbers (map (λ layer. FromPart (f layer)) layers) ≡ []
+    → flat_map source_file_numbers (map (λ layer. FromPart (f layer)) layers) ≡ []
 parts_only f [] = refl
 parts_only f (layer ∷ layers) = parts_only f layers
 
-module _ (known : Entries) (state : StoreState) (path : List ℕ) (range : Range) where
-  of_files : (n : ℕ) (files : List File) → count n (flat_map source_numbers (file_sources known path files))
+module _ (known : KnownFiles) (state : StoreState) (path : List ℕ) (range : Range) where
+  of_files : (n : ℕ) (files : List File) → count n (flat_map source_file_numbers (file_sources known path files))
       ≤ count n (numbers_of files)
   of_files n files =
       subst (λ numbers. count n numbers ≤ count n (numbers_of files)) (sym (files_only _)) (count_filter n _ _)
 
-  of_parts : (n : ℕ) (layers : List Layer) → count n (flat_map source_numbers (part_sources path range layers)) ≡ 0
+  of_parts : (n : ℕ) (layers : List Layer) → count n (flat_map source_file_numbers (part_sources path range layers)) ≡ 0
   of_parts n layers = ap (count n) (parts_only (part_within path range)
       (filter (λ layer. nat_lt 0 (len (retain_keys layer.content (is_within path range)))) layers))
 
-  abbrev parts : (FrozenPair → Layer) → List Source
+  abbrev parts : (FrozenContent → Layer) → List SourceState
   parts f = part_sources path range (map f (state.frozen ++ working_pair state ∷ []))
 
-  sources_listed : (n : ℕ) → count n (flat_map source_numbers (sources_of known state path range))
+  sources_listed : (n : ℕ) → count n (flat_map source_file_numbers (sources_of known state path range))
       ≤ count n (numbers_of (state.sequence ++ state.unsequence))
   sources_listed n = omega (
     arith,
-    count_flat source_numbers n (file_sources known path state.sequence ++ parts sequence_layer)
+    count_flat source_file_numbers n (file_sources known path state.sequence ++ parts sequence_layer)
         (file_sources known path state.unsequence ++ parts unsequence_layer),
-    count_flat source_numbers n (file_sources known path state.sequence) (parts sequence_layer),
-    count_flat source_numbers n (file_sources known path state.unsequence) (parts unsequence_layer),
+    count_flat source_file_numbers n (file_sources known path state.sequence) (parts sequence_layer),
+    count_flat source_file_numbers n (file_sources known path state.unsequence) (parts unsequence_layer),
     of_files n state.sequence,
     of_files n state.unsequence,
     of_parts n (map sequence_layer (state.frozen ++ working_pair state ∷ [])),
@@ -60,18 +60,18 @@ module _ (known : Entries) (state : StoreState) (path : List ℕ) (range : Range
     count_files n state.sequence state.unsequence,
   )
 
-columns_listed : (known : Entries) (state : StoreState) (range : Range) (n : ℕ) (columns : List Column)
+columns_listed : (known : KnownFiles) (state : StoreState) (range : Range) (n : ℕ) (columns : List ColumnState)
     → Each (λ column. column.sources ≡ sources_of known state column.path range) columns
-    → 1 ≤ count n (flat_map (λ column. flat_map source_numbers column.sources) columns)
+    → 1 ≤ count n (flat_map (λ column. flat_map source_file_numbers column.sources) columns)
     → 1 ≤ count n (numbers_of (state.sequence ++ state.unsequence))
 columns_listed known state range n [] are h = absurd (omega arith)
 columns_listed known state range n (column ∷ columns) are h =
-    let here : count n (flat_map source_numbers column.sources)
+    let here : count n (flat_map source_file_numbers column.sources)
     ≤ count n (numbers_of (state.sequence ++ state.unsequence)) =
     rw are.0 (sources_listed known state column.path range n) in
     ⊎_elim (λ some. omega (arith, here, some)) (columns_listed known state range n columns are.1) (some_of_sum _ _
-    (subst (λ m. 1 ≤ m) (count_append n (flat_map source_numbers column.sources)
-    (flat_map (λ (column : Column). flat_map source_numbers column.sources) columns)) h))
+    (subst (λ m. 1 ≤ m) (count_append n (flat_map source_file_numbers column.sources)
+    (flat_map (λ (column : ColumnState). flat_map source_file_numbers column.sources) columns)) h))
 
 -- what is not swept stays
 
@@ -105,7 +105,7 @@ stays n numbers (file ∷ outgoing) never (inr among) = by (list_any (nat_eq fil
     by true h = h
     by false h = inr h
 
-doubt_stays : (told : Told) (named : List ℕ) (state : StoreState) (outgoing : List File) (numbers : List ℕ)
+doubt_stays : (told : ToldContents) (named : List ℕ) (state : StoreState) (outgoing : List File) (numbers : List ℕ)
     (doubt : Option LogRecord) → Each (λ number. IfSome doubt (λ item. Among number (names item) → ⊥)) numbers
     → IfSome doubt (DoubtInOrder told named state outgoing)
     → IfSome doubt (DoubtInOrder told named state (left numbers outgoing))
@@ -118,11 +118,11 @@ doubt_stays told named state outgoing numbers (Some item) settled order = record
       (each_among _ _ n order.kept among));
 }
 
-module _ (told : Told) (known : Entries) (named : List ℕ) (state : EngineState)
+module _ (told : ToldContents) (known : KnownFiles) (named : List ℕ) (state : EngineState)
     (order : IsInOrder told known named state) where
-  pub pin_step : (pin : Pin) → TakesPin known pin state → IsInOrder told known named (pinned pin state)
+  pub pin_step : (pin : PinState) → TakesPin known pin state → IsInOrder told known named (pinned pin state)
   pin_step pin takes =
-      let rights = rights_taken state.rights (files_of state) _ (pin_numbers pin)
+      let rights = rights_taken state.rights (all_files state) _ (pin_numbers pin)
       (held_numbers state.compactions (pin ∷ state.pins)) order.rights
       (λ n. held_with_pin n pin state.compactions state.pins) (λ n h. omega (
         arith,
@@ -131,10 +131,10 @@ module _ (told : Told) (known : Entries) (named : List ℕ) (state : EngineState
       )) in
       search
 
-  pub unpin_step : (pin : Pin) (others : List Pin) → IsWithOne pin others state.pins
+  pub unpin_step : (pin : PinState) (others : List PinState) → IsWithOne pin others state.pins
       → IsInOrder told known named (unpinned pin others state)
   unpin_step pin others out =
-      let rights = rights_returned state.rights (files_of state) (files_of state) _ (pin_numbers pin)
+      let rights = rights_returned state.rights (all_files state) (all_files state) _ (pin_numbers pin)
       (held_numbers state.compactions others) order.rights (λ n. held_by_pin n pin others state.pins state.compactions
       out) (λ n. omega arith) in
       search

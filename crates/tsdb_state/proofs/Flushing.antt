@@ -11,16 +11,16 @@ use Rattle.tsdb_state.proofs.LayerLemmas.Rising.{IsPartOf, part_append, part_its
 use Rattle.tsdb_state.proofs.LayerLemmas.Values.{has_left, no_survivor, or_assoc, value_append}
 use Rattle.tsdb_state.specs.Layers.{Layer, survivor, value_in}
 use Rattle.tsdb_state.specs.LayerOrder.{Rises}
-use Rattle.tsdb_state.specs.Places.{Content, Place, place_cmp}
+use Rattle.tsdb_state.specs.Places.{Content, PointPlace, place_cmp}
 use Rattle.tsdb_marks.specs.declared.marks.Mark.{Mark}
 use Rattle.tsdb_state.proofs.Arranged.{arranged_in_order, arranged_keeps, two_parts}
 use Rattle.tsdb_state.proofs.Typed.{late_part}
 use Rattle.tsdb_state.proofs.Values.{stored, stored_late}
 use Rattle.tsdb_state.specs.Records.{IsNumberOf, flush_oldest, flushed, new_file}
-use Rattle.tsdb_state.specs.State.{File, FrozenPair, StoreState, Told}
+use Rattle.tsdb_state.specs.State.{File, FrozenContent, StoreState, ToldContents}
 use Rattle.tsdb_state.specs.StoreOrder.{StampsInOrder, StoreInOrder}
 use Rattle.tsdb_state.specs.Views.{file_layers, sequence_layer, unsequence_layer}
-use Rattle.tsdb_state.specs.Worlds.{KeepsWorld, value_of}
+use Rattle.tsdb_state.specs.Worlds.{KeepsWorld, value_at_place}
 
 is_zero : (n : ℕ) → (n == 0) ≡ true → n ≡ 0
 is_zero n e = grind (arith, nat_tests)
@@ -38,7 +38,7 @@ for_new_file P number born none one = by (number == 0) refl
     by false e = one (not_zero number e)
 
 -- the file of a part, or none where the part has no point
-module _ (told : Told) (number born : ℕ) (content : Content) (is_number : IsNumberOf number content)
+module _ (told : ToldContents) (number born : ℕ) (content : Content) (is_number : IsNumberOf number content)
     (has : number ≢ 0 → told number ≡ content) where
   abbrev part : Layer
   part = record { born = born; content = content }
@@ -46,7 +46,7 @@ module _ (told : Told) (number born : ℕ) (content : Content) (is_number : IsNu
   abbrev file : List Layer
   file = file_layers told (new_file number born)
 
-  pub part_value : (marks : List Mark) (place : Place) → value_in marks place file ≡ survivor marks place part
+  pub part_value : (marks : List Mark) (place : PointPlace) → value_in marks place file ≡ survivor marks place part
   part_value marks place =
       for_new_file (λ files. value_in marks place (file_layers told files) ≡ survivor marks place part) number born
       (λ e. sym (no_survivor marks place part (ap (λ c. get c place) (is_number.0 e) ∙ get-empty place_cmp place)))
@@ -64,7 +64,7 @@ module _ (told : Told) (number born : ℕ) (content : Content) (is_number : IsNu
   pub part_born : (stamp : ℕ) → born ≤ stamp → Each (λ (f : File). f.born ≤ stamp) (new_file number born)
   part_born stamp h = for_new_file (Each (λ (f : File). f.born ≤ stamp)) number born (λ e. tt) (λ some. (h, tt))
 
-module _ (told : Told) (state : StoreState) (oldest : FrozenPair) (newer : List FrozenPair) (first second : ℕ)
+module _ (told : ToldContents) (state : StoreState) (oldest : FrozenContent) (newer : List FrozenContent) (first second : ℕ)
     (first_is : IsNumberOf first oldest.pair.sequence) (second_is : IsNumberOf second oldest.pair.unsequence)
     (first_has : first ≢ 0 → told first ≡ oldest.pair.sequence)
     (second_has : second ≢ 0 → told second ≡ oldest.pair.unsequence) where
@@ -89,9 +89,9 @@ module _ (told : Told) (state : StoreState) (oldest : FrozenPair) (newer : List 
   abbrev late : List Layer
   late = file_layers told state.unsequence
 
-  moved_value : (place : Place)
-      → value_of told (record state { frozen = newer; sequence = sequences; unsequence = unsequences }) place
-      ≡ value_of told before_flush place
+  moved_value : (place : PointPlace)
+      → value_at_place told (record state { frozen = newer; sequence = sequences; unsequence = unsequences }) place
+      ≡ value_at_place told before_flush place
   moved_value place = simp (
     map-append,
     value_append,
@@ -150,7 +150,7 @@ module _ (told : Told) (state : StoreState) (oldest : FrozenPair) (newer : List 
         versions_rise = old.versions_rise;
       }
 
-module _ (told : Told) (state : StoreState) (oldest : FrozenPair) (newer : List FrozenPair) (first second : ℕ)
+module _ (told : ToldContents) (state : StoreState) (oldest : FrozenContent) (newer : List FrozenContent) (first second : ℕ)
     (are : state.frozen ≡ oldest ∷ newer)
     (first_is : IsNumberOf first oldest.pair.sequence) (second_is : IsNumberOf second oldest.pair.unsequence)
     (first_has : first ≢ 0 → told first ≡ oldest.pair.sequence)

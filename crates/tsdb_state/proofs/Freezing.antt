@@ -14,17 +14,17 @@ use Rattle.tsdb_state.proofs.LayerLemmas.Places.{is_path_same, is_place, path_it
 use Rattle.tsdb_state.proofs.LayerLemmas.Rising.{IsPartOf, below_both, part_append, part_itself, rises_append}
 use Rattle.tsdb_state.specs.Layers.{Layer, survivor}
 use Rattle.tsdb_base.specs.Lists.{Among}
-use Rattle.tsdb_state.specs.LayerOrder.{IsAbove, IsBeforeInTime, IsBelow, Watermarks}
-use Rattle.tsdb_state.specs.Places.{Content, Place, is_path, place_cmp}
+use Rattle.tsdb_state.specs.LayerOrder.{IsAbove, IsBeforeInTime, IsBelow, WatermarkMap}
+use Rattle.tsdb_state.specs.Places.{Content, PointPlace, is_path, place_cmp}
 use Rattle.tsdb_memtable.specs.Watermarks.{later_time}
 use Rattle.tsdb_path.specs.Nodes.{device_of}
 use Rattle.tsdb_state.proofs.Values.{none_in, none_in_pair}
 use Rattle.tsdb_state.specs.Limit.{empty_pair}
 use Rattle.tsdb_state.specs.Records.{CanFreeze, froze, raise_all, raise_to}
-use Rattle.tsdb_state.specs.State.{FrozenPair, StoreState, Told}
+use Rattle.tsdb_state.specs.State.{FrozenContent, StoreState, ToldContents}
 use Rattle.tsdb_state.specs.StoreOrder.{LateIsBelow, StoreInOrder}
 use Rattle.tsdb_state.specs.Views.{file_layers, layer_of, pair_layers, sequence_layer, unsequence_layer, working_pair}
-use Rattle.tsdb_state.specs.Worlds.{KeepsWorld, value_of}
+use Rattle.tsdb_state.specs.Worlds.{KeepsWorld, value_at_place}
 use Rattle.tsdb_state.proofs.LayerLemmas.Values.{has_cases, has_left, has_right, no_survivor, or_assoc, value_append}
 use Rattle.std.proofs.lemmas.List.{length-append}
 
@@ -61,7 +61,7 @@ keeps (Some last) time old h = by (int_lt time last) refl
     by true e = h
     by false e = goes_up old time last e h
 
-module _ (place : Place) (watermarks : Watermarks) where
+module _ (place : PointPlace) (watermarks : WatermarkMap) where
   raised_at : (device : List ℕ) → get (raise_to place watermarks) device
       ≡ cond (is_path device (device_of place.path))
       (Some (raised_time (get watermarks (device_of place.path)) place.time)) (get watermarks device)
@@ -86,23 +86,23 @@ module _ (place : Place) (watermarks : Watermarks) where
       (get watermarks (device_of place.path))) (path_itself (device_of place.path))))
       (reaches (get watermarks (device_of place.path)) place.time)
 
-all_keep : (points : List (Place × Value)) (watermarks : Watermarks) (device : List ℕ) (old : ℤ)
+all_keep : (points : List (PointPlace × Value)) (watermarks : WatermarkMap) (device : List ℕ) (old : ℤ)
     → IsAtLeast (get watermarks device) old → IsAtLeast (get (raise_all points watermarks) device) old
 all_keep [] watermarks device old h = h
 all_keep (point ∷ points) watermarks device old h = all_keep points (raise_to point.0 watermarks) device old
     (raise_keeps point.0 watermarks device old h)
 
-all_reach : (points : List (Place × Value)) (watermarks : Watermarks) (point : Place × Value) → Among point points
+all_reach : (points : List (PointPlace × Value)) (watermarks : WatermarkMap) (point : PointPlace × Value) → Among point points
     → IsAtLeast (get (raise_all points watermarks) (device_of point.0.path)) point.0.time
 all_reach [] watermarks point among = absurd among
-all_reach (first ∷ points) watermarks point (inl is) = subst (λ (p : Place × Value). IsAtLeast
+all_reach (first ∷ points) watermarks point (inl is) = subst (λ (p : PointPlace × Value). IsAtLeast
     (get (raise_all points (raise_to first.0 watermarks)) (device_of p.0.path)) p.0.time) is
     (all_keep points (raise_to first.0 watermarks) (device_of first.0.path) first.0.time
     (raise_reaches first.0 watermarks))
 all_reach (first ∷ points) watermarks point (inr among) = all_reach points (raise_to first.0 watermarks) point among
 
 -- a point stands among the entries
-pub find_among : (points : List (Place × Value)) (place : Place) (value : Value)
+pub find_among : (points : List (PointPlace × Value)) (place : PointPlace) (value : Value)
     → find place_cmp place points ≡ Some value → Among (place, value) points
 find_among [] place value is = absurd (cc)
 find_among (point ∷ points) place value is = by (is_eq (place_cmp place point.0)) refl
@@ -117,12 +117,12 @@ find_among (point ∷ points) place value is = by (is_eq (place_cmp place point.
     by true e rest is = inl (λ i. (sym (is_place place point.0 e) i, same_value point.1 value is i))
     by false e rest is = inr (rest is)
 
-pub below_raised : (points : List (Place × Value)) (watermarks : Watermarks) (layers : List Layer)
+pub below_raised : (points : List (PointPlace × Value)) (watermarks : WatermarkMap) (layers : List Layer)
     → IsBelow watermarks layers → IsBelow (raise_all points watermarks) layers
 below_raised points watermarks layers below place value has =
     all_keep points watermarks (device_of place.path) place.time (below place value has)
 
-pub content_raised : (content : Content) (watermarks : Watermarks)
+pub content_raised : (content : Content) (watermarks : WatermarkMap)
     → IsBelow (raise_all (entries content) watermarks) (layer_of content)
 content_raised content watermarks place value (inl is) = all_reach (entries content) watermarks (place, value)
     (find_among (entries content) place value (sym (get-entries content place) ∙ is))
@@ -133,7 +133,7 @@ content_raised content watermarks place value (inr none) = absurd none
 apart : (a b last : ℤ) → a ≤ℤ last → last <ℤ b → a <ℤ b
 apart a b last h k = grind (arith, ints)
 
-pub below_above : (watermarks : Watermarks) (xs ys : List Layer) → IsBelow watermarks xs → IsAbove watermarks ys
+pub below_above : (watermarks : WatermarkMap) (xs ys : List Layer) → IsBelow watermarks xs → IsAbove watermarks ys
     → IsBeforeInTime xs ys
 below_above watermarks xs ys below above p q v w a b same = by (get watermarks (device_of p.path)) (below p v a)
     (subst (λ d. IfSome (get watermarks d) (λ last. last <ℤ q.time)) (sym same) (above q w b))
@@ -143,7 +143,7 @@ below_above watermarks xs ys below above p q v w a b same = by (get watermarks (
     by (Some last) h k = apart p.time q.time last h k
 
 -- one pair more behind the frozen ones
-late_push : (late : List Layer) (pairs : List FrozenPair) (pair : FrozenPair) → LateIsBelow late pairs
+late_push : (late : List Layer) (pairs : List FrozenContent) (pair : FrozenContent) → LateIsBelow late pairs
     → IsBeforeInTime (late ++ (map unsequence_layer pairs ++ unsequence_layer pair ∷ [])) (sequence_layer pair ∷ [])
     → LateIsBelow late (pairs ++ pair ∷ [])
 late_push late [] pair below last = (last, tt)
@@ -162,8 +162,8 @@ frozen_part : (seqs unseqs first second working late none : List Layer) → IsPa
 frozen_part seqs unseqs first second working late none one two never place value has =
     grind (arith, has_cases, has_left, has_right, one, two, never)
 
-module _ (told : Told) (state : StoreState) (order : StoreInOrder told state) (can : CanFreeze state) where
-  abbrev pair : FrozenPair
+module _ (told : ToldContents) (state : StoreState) (order : StoreInOrder told state) (can : CanFreeze state) where
+  abbrev pair : FrozenContent
   pair = working_pair state
 
   abbrev files : List Layer
@@ -172,17 +172,17 @@ module _ (told : Told) (state : StoreState) (order : StoreInOrder told state) (c
   abbrev late : List Layer
   late = file_layers told state.unsequence
 
-  pushed : (f : FrozenPair → Layer) (low : List Layer)
+  pushed : (f : FrozenContent → Layer) (low : List Layer)
       → low ++ map f (state.frozen ++ pair ∷ []) ≡ (low ++ map f state.frozen) ++ f pair ∷ []
   pushed f low = simp (map-append, append_assoc)
 
-  froze_value : (place : Place) → value_of told (froze state) place ≡ value_of told state place
+  froze_value : (place : PointPlace) → value_at_place told (froze state) place ≡ value_at_place told state place
   froze_value place = simp (map-append, value_append, or_assoc, nothing)
     where
       nothing : survivor state.marks place (record { born = state.stamp; content = empty }) ≡ None
       nothing = no_survivor _ _ _ (get-empty place_cmp place)
 
-  abbrev raised : Watermarks
+  abbrev raised : WatermarkMap
   raised = raise_all (entries state.working.sequence) state.watermarks
 
   -- all but the sequence part, with the unsequence part of the pair

@@ -14,7 +14,7 @@ use Rattle.tsdb_state.specs.Jobs.{NumbersInOrder, RightsMatch}
 use Rattle.tsdb_base.specs.Limits.{end_of_numbers}
 use Rattle.tsdb_state.specs.Order.{DoubtInOrder}
 use Rattle.tsdb_state.specs.Records.{AreNew, numbers_of}
-use Rattle.tsdb_state.specs.State.{File, StoreState, Told}
+use Rattle.tsdb_state.specs.State.{File, StoreState, ToldContents}
 
 is_itself : (n : ℕ) → (n == n) ≡ true
 is_itself n = grind (arith, nat_tests)
@@ -69,7 +69,7 @@ are_new named next files drawn xs order few = record {
     fewer n h k = omega arith
 
 -- more files on their way out
-pub doubt_more : (told : Told) (named : List ℕ) (state : StoreState) (outgoing built : List File)
+pub doubt_more : (told : ToldContents) (named : List ℕ) (state : StoreState) (outgoing built : List File)
     (doubt : Option LogRecord)
     → IfSome doubt (DoubtInOrder told named state outgoing)
     → IfSome doubt (DoubtInOrder told named state (outgoing ++ built))

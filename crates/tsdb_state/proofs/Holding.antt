@@ -11,23 +11,23 @@ use Rattle.tsdb_base.specs.Lists.{IsWithOne, count, if_some}
 use Rattle.tsdb_base.proofs.Lists.{count_append, each_weaker, with_one_each}
 use Rattle.tsdb_state.specs.Jobs.{KeepsRoom, RightsMatch, drawn_by, held_numbers, job_inputs}
 use Rattle.tsdb_state.specs.Jobs.{outgoing_places, output_places, pin_numbers}
-use Rattle.tsdb_state.specs.Order.{files_of}
+use Rattle.tsdb_state.specs.Order.{all_files}
 use Rattle.tsdb_state.specs.Records.{numbers_of}
-use Rattle.tsdb_state.specs.State.{Compaction, EngineState, File, FlushJob, Pin, Room}
-use Rattle.tsdb_state.specs.Steps.{compaction_room, flush_room, swept, with_rights, without_rights}
+use Rattle.tsdb_state.specs.State.{Compaction, EngineState, File, FlushState, PinState, Room}
+use Rattle.tsdb_state.specs.Steps.{room_for_compaction, room_for_flush, swept, with_rights, without_rights}
 use Rattle.tsdb_state.proofs.Counting.{is_or_not, rights_match}
 use Rattle.tsdb_state.proofs.Numbering.{count_files, count_with_one}
 
 -- rights
 
-count_held : (n : ℕ) (compactions : List Compaction) (pins : List Pin)
+count_held : (n : ℕ) (compactions : List Compaction) (pins : List PinState)
     → count n (held_numbers compactions pins)
     ≡ count n (flat_map (λ job. numbers_of (job_inputs job)) compactions) + count n (flat_map pin_numbers pins)
 count_held n compactions pins = count_append n _ _
 
 -- the rights of a state match
 abbrev pub HasRights : EngineState → Type 0
-HasRights state = RightsMatch state.rights (files_of state) (held_numbers state.compactions state.pins)
+HasRights state = RightsMatch state.rights (all_files state) (held_numbers state.compactions state.pins)
 
 -- a job or a pin takes rights on files that are there
 pub rights_taken : (rights : ℕ → ℕ) (files : List File) (held taken left : List ℕ) → RightsMatch rights files held
@@ -54,7 +54,7 @@ rights_returned rights files more held taken left match is kept = rights_match _
 one_more : {X : Type 0} (x : X) (xs : List X) → IsWithOne x xs (x ∷ xs)
 one_more x xs = record { before = []; behind = xs; with_it = refl; without = refl }
 
-pub held_by_job : (n : ℕ) (job : Compaction) (others all : List Compaction) (pins : List Pin) → IsWithOne job others all
+pub held_by_job : (n : ℕ) (job : Compaction) (others all : List Compaction) (pins : List PinState) → IsWithOne job others all
     → count n (held_numbers all pins) ≡ count n (numbers_of (job_inputs job)) + count n (held_numbers others pins)
 held_by_job n job others all pins out = omega (
   arith,
@@ -63,7 +63,7 @@ held_by_job n job others all pins out = omega (
   count_with_one (λ (job : Compaction). numbers_of (job_inputs job)) n job others all out,
 )
 
-pub held_by_pin : (n : ℕ) (pin : Pin) (others all : List Pin) (compactions : List Compaction) → IsWithOne pin others all
+pub held_by_pin : (n : ℕ) (pin : PinState) (others all : List PinState) (compactions : List Compaction) → IsWithOne pin others all
     → count n (held_numbers compactions all) ≡ count n (pin_numbers pin) + count n (held_numbers compactions others)
 held_by_pin n pin others all compactions out = omega (
   arith,
@@ -72,12 +72,12 @@ held_by_pin n pin others all compactions out = omega (
   count_with_one pin_numbers n pin others all out,
 )
 
-pub held_with_job : (n : ℕ) (job : Compaction) (compactions : List Compaction) (pins : List Pin)
+pub held_with_job : (n : ℕ) (job : Compaction) (compactions : List Compaction) (pins : List PinState)
     → count n (held_numbers (job ∷ compactions) pins)
     ≡ count n (numbers_of (job_inputs job)) + count n (held_numbers compactions pins)
 held_with_job n job compactions pins = held_by_job n job compactions _ pins (one_more _ _)
 
-pub held_with_pin : (n : ℕ) (pin : Pin) (compactions : List Compaction) (pins : List Pin)
+pub held_with_pin : (n : ℕ) (pin : PinState) (compactions : List Compaction) (pins : List PinState)
     → count n (held_numbers compactions (pin ∷ pins))
     ≡ count n (pin_numbers pin) + count n (held_numbers compactions pins)
 held_with_pin n pin compactions pins = held_by_pin n pin pins _ compactions (one_more _ _)
@@ -132,7 +132,7 @@ sum_with_one f x others all out = omega (
 )
 
 -- a flush or a compaction more, or one less, with the room for its end
-record FlushSums (flush : FlushJob) (others all : List FlushJob) : Type 0 where
+record FlushSums (flush : FlushState) (others all : List FlushState) : Type 0 where
   sequence : sum_by (λ f. length (if_some f.sequence)) all
       ≡ length (if_some flush.sequence) + sum_by (λ f. length (if_some f.sequence)) others
   unsequence : sum_by (λ f. length (if_some f.unsequence)) all
@@ -140,16 +140,16 @@ record FlushSums (flush : FlushJob) (others all : List FlushJob) : Type 0 where
   outgoing : sum_by (λ f. length (drawn_by f)) all
       ≡ length (drawn_by flush) + sum_by (λ f. length (drawn_by f)) others
 
-flush_sums : (flush : FlushJob) (others all : List FlushJob) → IsWithOne flush others all → FlushSums flush others all
+flush_sums : (flush : FlushState) (others all : List FlushState) → IsWithOne flush others all → FlushSums flush others all
 flush_sums flush others all out = record {
   sequence = sum_with_one _ _ _ _ out;
   unsequence = sum_with_one _ _ _ _ out;
   outgoing = sum_with_one _ _ _ _ out;
 }
 
-pub room_with_flush : (flush : FlushJob) (room : Room) (flushes : List FlushJob) (compactions : List Compaction)
+pub room_with_flush : (flush : FlushState) (room : Room) (flushes : List FlushState) (compactions : List Compaction)
     → KeepsRoom room flushes compactions
-    → KeepsRoom (flush_room (λ a b. a + b) flush room) (flush ∷ flushes) compactions
+    → KeepsRoom (room_for_flush (λ a b. a + b) flush room) (flush ∷ flushes) compactions
 room_with_flush flush room flushes compactions keeps =
     let sums = flush_sums flush flushes (flush ∷ flushes) (one_more flush flushes) in
     record {
@@ -160,9 +160,9 @@ room_with_flush flush room flushes compactions keeps =
       replaced = each_weaker _ _ (λ job fits. omega (arith, fits)) compactions keeps.replaced;
     }
 
-pub room_without_flush : (flush : FlushJob) (others : List FlushJob) (room : Room) (flushes : List FlushJob)
+pub room_without_flush : (flush : FlushState) (others : List FlushState) (room : Room) (flushes : List FlushState)
     (compactions : List Compaction) → IsWithOne flush others flushes → KeepsRoom room flushes compactions
-    → KeepsRoom (flush_room (λ a b. a - b) flush room) others compactions
+    → KeepsRoom (room_for_flush (λ a b. a - b) flush room) others compactions
 room_without_flush flush others room flushes compactions out keeps =
     let sums = flush_sums _ _ _ out in
     record {
@@ -188,9 +188,9 @@ compaction_sums job others all out = record {
   outgoing = sum_with_one _ _ _ _ out;
 }
 
-pub room_with_compaction : (job : Compaction) (room : Room) (flushes : List FlushJob) (compactions : List Compaction)
+pub room_with_compaction : (job : Compaction) (room : Room) (flushes : List FlushState) (compactions : List Compaction)
     → KeepsRoom room flushes compactions
-    → KeepsRoom (compaction_room (λ a b. a + b) job room) flushes (job ∷ compactions)
+    → KeepsRoom (room_for_compaction (λ a b. a + b) job room) flushes (job ∷ compactions)
 room_with_compaction job room flushes compactions keeps =
     let sums = compaction_sums job compactions (job ∷ compactions) (one_more job compactions) in
     record {
@@ -201,9 +201,9 @@ room_with_compaction job room flushes compactions keeps =
       replaced = (omega arith, each_weaker _ _ (λ job fits. omega (arith, fits)) compactions keeps.replaced);
     }
 
-pub room_without_compaction : (job : Compaction) (others : List Compaction) (room : Room) (flushes : List FlushJob)
+pub room_without_compaction : (job : Compaction) (others : List Compaction) (room : Room) (flushes : List FlushState)
     (compactions : List Compaction) → IsWithOne job others compactions → KeepsRoom room flushes compactions
-    → KeepsRoom (compaction_room (λ a b. a - b) job room) flushes others
+    → KeepsRoom (room_for_compaction (λ a b. a - b) job room) flushes others
 room_without_compaction job others room flushes compactions out keeps =
     let sums = compaction_sums _ _ _ out in
     record {

@@ -15,7 +15,7 @@ use Rattle.tsdb_base.proofs.Lists.{each_weaker}
 use Rattle.tsdb_state.proofs.LayerLemmas.Places.{is_place}
 use Rattle.tsdb_state.specs.Layers.{HasPoint}
 use Rattle.tsdb_base.specs.Lists.{EachPair}
-use Rattle.tsdb_state.specs.Places.{Place, place_cmp}
+use Rattle.tsdb_state.specs.Places.{PointPlace, place_cmp}
 use Rattle.tsdb_log.specs.declared.record.CellRecord.{CellRecord}
 use Rattle.tsdb_model.specs.Apply.{accepted, all_fit, are_there, fits_series, put_cells as map_cells, put_literal}
 use Rattle.tsdb_model.specs.Apply.{put_value as put_in, reply_of, value_of as literal_value}
@@ -30,25 +30,25 @@ use Rattle.tsdb_state.proofs.Series.{ArePathsApart, among_at, path_at, series_at
 use Rattle.tsdb_state.proofs.Stamps.{stamps_up, value_stamp}
 use Rattle.tsdb_state.proofs.Values.{AreReached, none_in_pair}
 use Rattle.tsdb_state.proofs.Worlds.{change_type, put_at, type_in}
-use Rattle.tsdb_state.specs.Commands.{AreCells, IsCell, KeepsBytes}
+use Rattle.tsdb_state.specs.Commands.{AreCells, IsRowCell, KeepsBytes}
 use Rattle.tsdb_state.specs.Limit.{IsEmptyPair, IsOneRow, IsWithinPairLimit, empty_pair, point_count}
 use Rattle.tsdb_base.specs.Limits.{max_pair_points}
-use Rattle.tsdb_state.specs.Records.{CanInsert, IsOfDevice, inserted, path_of, place_of, put_cells, put_in_pair}
-use Rattle.tsdb_state.specs.State.{PairContent, SeriesEntry, StoreState, Told}
-use Rattle.tsdb_state.specs.StoreOrder.{HasLiveValues, IsOfSeries, LayersInOrder, StoreInOrder, points_of}
+use Rattle.tsdb_state.specs.Records.{CanInsert, IsOfDevice, inserted, path_of, cell_place, put_record_cells, put_in_pair}
+use Rattle.tsdb_state.specs.State.{PairContent, SeriesEntry, StoreState, ToldContents}
+use Rattle.tsdb_state.specs.StoreOrder.{HasLiveValues, IsOfSeries, LayersInOrder, StoreInOrder, unordered_layers}
 use Rattle.tsdb_state.specs.Views.{file_layers, pair_layers, sequence_layer, unsequence_layer}
-use Rattle.tsdb_state.specs.Worlds.{StandsFor, type_at, value_of}
+use Rattle.tsdb_state.specs.Worlds.{StandsFor, type_at, value_at_place}
 use Rattle.tsdb_state.proofs.Typed.{AreTyped, typed_append, typed_left, typed_right}
 
 -- what holds of the points of a pair, and of the cells of a row
-pub cells_hold : (P : Place → Value → Type 0) (schemas : List SeriesEntry) (state : StoreState) (time : ℤ)
+pub cells_hold : (P : PointPlace → Value → Type 0) (schemas : List SeriesEntry) (state : StoreState) (time : ℤ)
     (cells : List CellRecord) (pair : PairContent)
-    → ((q : Place) (w : Value) → HasPoint (pair_layers pair) q w → P q w)
-    → Each (λ cell. P (place_of schemas time cell) cell.value) cells
-    → (q : Place) (w : Value) → HasPoint (pair_layers (put_cells schemas state.watermarks time cells pair)) q w → P q w
+    → ((q : PointPlace) (w : Value) → HasPoint (pair_layers pair) q w → P q w)
+    → Each (λ cell. P (cell_place schemas time cell) cell.value) cells
+    → (q : PointPlace) (w : Value) → HasPoint (pair_layers (put_record_cells schemas state.watermarks time cells pair)) q w → P q w
 cells_hold P schemas state time [] pair all each = all
 cells_hold P schemas state time (cell ∷ cells) pair all each = cells_hold P schemas state time cells
-    (put_in_pair state.watermarks (place_of schemas time cell) cell.value pair) (pair_holds P _ _ _ _ all each.0) each.1
+    (put_in_pair state.watermarks (cell_place schemas time cell) cell.value pair) (pair_holds P _ _ _ _ all each.0) each.1
 
 -- a series with the number, which is there
 pub record Found (device : List ℕ) (schemas : List SeriesEntry) (cell : CellRecord) : Type 0 where
@@ -66,7 +66,7 @@ found_in device schemas cell there = by (slice_get schemas cell.series.0) refl t
     by (Some series) e h = record { series = series; at = e; of = h }
 
 -- what steps of a row keep: all of the order but the limit
-pub record IsReady (told : Told) (state : StoreState) : Type 0 where
+pub record IsReady (told : ToldContents) (state : StoreState) : Type 0 where
   pub layers : LayersInOrder told state.watermarks state.sequence state.unsequence state.frozen state.working
   pub reached : AreReached state.marks state.stamp
   pub once : EachPair ArePathsApart state.schemas
@@ -77,11 +77,11 @@ Theres device state cells =
     Each (λ cell. IsSomeAnd (slice_get state.schemas cell.series.0) (IsOfDevice device cell)) cells
 
 -- the state with one value more, and with those of a row
-abbrev pub with_value : Place → Value → StoreState → StoreState
+abbrev pub with_value : PointPlace → Value → StoreState → StoreState
 with_value place value state = record state { working = put_in_pair state.watermarks place value state.working }
 
 abbrev pub with_row : ℤ → List CellRecord → StoreState → StoreState
-with_row time cells state = record state { working = put_cells state.schemas state.watermarks time cells state.working }
+with_row time cells state = record state { working = put_record_cells state.schemas state.watermarks time cells state.working }
 
 pub cell_type : (device : List ℕ) (state : StoreState) (cell : CellRecord)
     → EachPair ArePathsApart state.schemas → Found device state.schemas cell
@@ -91,7 +91,7 @@ cell_type device state cell once found =
     ∙ type_of_live _ _ once (among_at state.schemas cell.series.0 _ found.at) found.of.live
     ∙ ap Some (sym found.of.type)
 
-pub value_ready : (told : Told) (state : StoreState) (place : Place) (value : Value) → IsReady told state
+pub value_ready : (told : ToldContents) (state : StoreState) (place : PointPlace) (value : Value) → IsReady told state
     → type_at state.schemas place.path ≡ Some (type_of value) → IsReady told (with_value place value state)
 value_ready told state place value ready typed = record {
   layers = put_in_order told state.watermarks _ _ _ _ place value ready.layers;
@@ -101,28 +101,28 @@ value_ready told state place value ready typed = record {
       (sym (put_value told state place value ready.layers ready.reached q) ∙ is);
 }
   where
-    by : (q : Place) (w : Value) (b : Bool) → eq_by_cmp place_cmp q place ≡ b
-        → cond b (Some value) (value_of told state q) ≡ Some w → type_at state.schemas q.path ≡ Some (type_of w)
+    by : (q : PointPlace) (w : Value) (b : Bool) → eq_by_cmp place_cmp q place ≡ b
+        → cond b (Some value) (value_at_place told state q) ≡ Some w → type_at state.schemas q.path ≡ Some (type_of w)
     by q w true e is =
         let same : value ≡ w = cc in
-        ap (λ (p : Place). type_at state.schemas p.path) (is_place q place e) ∙ typed ∙ ap (λ v. Some (type_of v)) same
+        ap (λ (p : PointPlace). type_at state.schemas p.path) (is_place q place e) ∙ typed ∙ ap (λ v. Some (type_of v)) same
     by q w false e is = ready.live q w is
 
-pub row_ready : (told : Told) (device : List ℕ) (time : ℤ) (cells : List CellRecord) (state : StoreState)
+pub row_ready : (told : ToldContents) (device : List ℕ) (time : ℤ) (cells : List CellRecord) (state : StoreState)
     → IsReady told state → Theres device state cells → IsReady told (with_row time cells state)
 row_ready told device time [] state ready there = ready
 row_ready told device time (cell ∷ cells) state ready there = row_ready told device time cells
-    (with_value (place_of state.schemas time cell) cell.value state)
+    (with_value (cell_place state.schemas time cell) cell.value state)
     (value_ready told state _ _ ready (cell_type device state _ ready.once (found_in _ _ _ there.0))) there.1
 
-empty_holds : (P : Place → Value → Type 0) (pair : PairContent) → IsEmptyPair pair
-    → (q : Place) (w : Value) → HasPoint (pair_layers pair) q w → P q w
+empty_holds : (P : PointPlace → Value → Type 0) (pair : PairContent) → IsEmptyPair pair
+    → (q : PointPlace) (w : Value) → HasPoint (pair_layers pair) q w → P q w
 empty_holds P pair none q w has = absurd (none_in_pair q w (subst (λ pair. HasPoint (pair_layers pair) q w) same has))
   where
     same : pair ≡ empty_pair
     same = λ i. record { sequence = none.0 i; unsequence = none.1 i }
 
-module _ (told : Told) (time : ℤ) (cells : List CellRecord) (state : StoreState) (order : StoreInOrder told state)
+module _ (told : ToldContents) (time : ℤ) (cells : List CellRecord) (state : StoreState) (order : StoreInOrder told state)
     (can : CanInsert time cells state) where
   pub ready_state : IsReady told state
   ready_state = record {
@@ -135,14 +135,14 @@ module _ (told : Told) (time : ℤ) (cells : List CellRecord) (state : StoreStat
   abbrev row_state : StoreState
   row_state = with_row time cells state
 
-  pub inserted_value : (place : Place) → value_of told (inserted time cells state) place ≡ value_of told row_state place
+  pub inserted_value : (place : PointPlace) → value_at_place told (inserted time cells state) place ≡ value_at_place told row_state place
   inserted_value place = value_stamp told row_state place order.stamps.versions
 
-  abbrev IsOfRow : Place → Value → Type 0
+  abbrev IsOfRow : PointPlace → Value → Type 0
   IsOfRow place value = (device_of place.path ≡ can.device) × (place.time ≡ time)
 
   of_row : (cell : CellRecord) → IsSomeAnd (slice_get state.schemas cell.series.0) (IsOfDevice can.device cell)
-      → IsOfRow (place_of state.schemas time cell) cell.value
+      → IsOfRow (cell_place state.schemas time cell) cell.value
   of_row cell there =
       let f = found_in can.device state.schemas cell there in
       (ap device_of (path_at state.schemas cell.series.0 f.series f.at) ∙ f.of.of_device, refl)
@@ -164,11 +164,11 @@ module _ (told : Told) (time : ℤ) (cells : List CellRecord) (state : StoreStat
       by (inr points) (inl none) = inr (inl (row_of none))
       by (inr points) (inr few) = inr (inr (record { points = points; bytes = few }))
 
-  abbrev IsTyped : Place → Value → Type 0
+  abbrev IsTyped : PointPlace → Value → Type 0
   IsTyped place value = IsOfSeries state.schemas place.path (type_of value)
 
   cell_typed : (cell : CellRecord) → IsSomeAnd (slice_get state.schemas cell.series.0) (IsOfDevice can.device cell)
-      → IsTyped (place_of state.schemas time cell) cell.value
+      → IsTyped (cell_place state.schemas time cell) cell.value
   cell_typed cell there =
       let f = found_in can.device state.schemas cell there in
       subst (λ (p : List ℕ). IsOfSeries state.schemas p (type_of cell.value))
@@ -176,7 +176,7 @@ module _ (told : Told) (time : ℤ) (cells : List CellRecord) (state : StoreStat
       (sym f.of.type) (series_at _ cell.series.0 _ f.at))
 
   typed : AreTyped state.schemas
-      (points_of told state.sequence state.unsequence state.frozen row_state.working)
+      (unordered_layers told state.sequence state.unsequence state.frozen row_state.working)
   typed =
       let files = file_layers told state.sequence ++ file_layers told state.unsequence in
       let pairs = map sequence_layer state.frozen ++ map unsequence_layer state.frozen in
@@ -220,9 +220,9 @@ record IsMatched (state : StoreState) (device : List ℕ) (world : World) (cell 
   there : MapSeries world (child_of device cell.measurement) (type_of item.value)
   value : literal_value cell.value there.series.data_type ≡ Some item.value
 
-matched : (told : Told) (state : StoreState) (world : World) (device other : List ℕ) (cell : Cell) (item : CellRecord)
+matched : (told : ToldContents) (state : StoreState) (world : World) (device other : List ℕ) (cell : Cell) (item : CellRecord)
     → EachPair ArePathsApart state.schemas → StandsFor told state world
-    → IsCell state.schemas device cell item
+    → IsRowCell state.schemas device cell item
     → IsSomeAnd (slice_get state.schemas item.series.0) (IsOfDevice other item)
     → IsMatched state device world cell item
 matched told state world device other cell item once stands is there =
@@ -250,10 +250,10 @@ keeps_type : (time : ℤ) (value : Option Value) (s : Series) → (put_in time v
 keeps_type time None s = refl
 keeps_type time (Some v) s = refl
 
-cell_stands : (told : Told) (state : StoreState) (world : World) (device : List ℕ) (time : ℤ) (cell : Cell)
+cell_stands : (told : ToldContents) (state : StoreState) (world : World) (device : List ℕ) (time : ℤ) (cell : Cell)
     (item : CellRecord)
     → IsReady told state → StandsFor told state world → IsMatched state device world cell item
-    → StandsFor told (with_value (place_of state.schemas time item) item.value state)
+    → StandsFor told (with_value (cell_place state.schemas time item) item.value state)
     (change world (child_of device cell.measurement) (put_literal time cell.value))
 cell_stands told state world device time cell item ready stands m = record {
   types = λ path. change_type _ _ _ _ (λ s. keeps_type _ _ s) ∙ stands.types path;
@@ -262,7 +262,7 @@ cell_stands told state world device time cell item ready stands m = record {
       ∙ put_at _ _ q _ _ m.there.is
       ∙ (λ i. cond (eq_by_cmp place_cmp q (record { path = sym m.path i; time = time })) (Some item.value)
       (stands.values q i))
-      ∙ sym (put_value told state (place_of state.schemas time item) item.value ready.layers ready.reached q);
+      ∙ sym (put_value told state (cell_place state.schemas time item) item.value ready.layers ready.reached q);
 }
   where
     changed : change world (child_of device cell.measurement) (put_literal time cell.value)
@@ -271,7 +271,7 @@ cell_stands told state world device time cell item ready stands m = record {
         ap (change_series world (child_of device cell.measurement) (put_literal time cell.value)) m.there.is
         ∙ ap (λ v. insert world (child_of device cell.measurement) (put_in time v m.there.series)) m.value
 
-row_stands : (told : Told) (device other : List ℕ) (time : ℤ) (cells : List Cell) (items : List CellRecord)
+row_stands : (told : ToldContents) (device other : List ℕ) (time : ℤ) (cells : List Cell) (items : List CellRecord)
     (state : StoreState) (world : World)
     → IsReady told state → StandsFor told state world → AreCells state.schemas device cells items
     → Theres other state items
@@ -281,14 +281,14 @@ row_stands told device other time [] (item ∷ items) state world ready stands a
 row_stands told device other time (cell ∷ cells) [] state world ready stands are there = absurd are
 row_stands told device other time (cell ∷ cells) (item ∷ items) state world ready stands are there =
     let m = matched told state world device other cell item ready.once stands are.0 there.0 in
-    row_stands told device other time cells items (with_value (place_of state.schemas time item) item.value state)
+    row_stands told device other time cells items (with_value (cell_place state.schemas time item) item.value state)
     (change world (child_of device cell.measurement) (put_literal time cell.value))
     (value_ready told state _ _ ready (cell_type other state item ready.once (found_in _ _ _ there.0)))
     (cell_stands _ _ _ _ _ _ _ ready stands m) are.1 there.1
 
 -- the map accepts the row
 
-row_fits : (told : Told) (device other : List ℕ) (cells : List Cell) (items : List CellRecord) (state : StoreState)
+row_fits : (told : ToldContents) (device other : List ℕ) (cells : List Cell) (items : List CellRecord) (state : StoreState)
     (world : World)
     → EachPair ArePathsApart state.schemas → StandsFor told state world → AreCells state.schemas device cells items
     → Theres other state items
@@ -303,7 +303,7 @@ row_fits told device other (cell ∷ cells) (item ∷ items) state world once st
       (λ i. fits_series cell.value (m.there.is i) && rest.1 i) ∙ ap (λ o. is_some o && true) m.value,
     )
 
-module _ (told : Told) (device : List ℕ) (row : Row) (items : List CellRecord) (state : StoreState)
+module _ (told : ToldContents) (device : List ℕ) (row : Row) (items : List CellRecord) (state : StoreState)
     (order : StoreInOrder told state) (can : CanInsert row.time items state) (world : World)
     (stands : StandsFor told state world) (are : AreCells state.schemas device row.cells items) where
   pub inserted_reply : reply_of world (Insert device row) ≡ Plain Done

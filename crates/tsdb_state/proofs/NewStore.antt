@@ -5,19 +5,19 @@ use Rattle.std.specs.FinMap.{empty, get, get-empty}
 use Rattle.std.specs.Option.{option_map}
 use Rattle.std.specs.Ordering.{int_cmp, nat_cmp}
 use Rattle.tsdb_state.proofs.LayerLemmas.Values.{value_none}
-use Rattle.tsdb_state.specs.Places.{Place}
-use Rattle.tsdb_model.specs.World.{Series, points_of}
+use Rattle.tsdb_state.specs.Places.{PointPlace}
+use Rattle.tsdb_model.specs.World.{Series, points_of_series}
 use Rattle.tsdb_state.proofs.Values.{none_in, none_in_pair}
 use Rattle.tsdb_state.specs.NewStore.{new_store}
-use Rattle.tsdb_state.specs.State.{Told}
+use Rattle.tsdb_state.specs.State.{ToldContents}
 use Rattle.tsdb_state.specs.StoreOrder.{StoreInOrder}
 use Rattle.tsdb_state.specs.Views.{all_layers}
-use Rattle.tsdb_state.specs.Worlds.{StandsFor, value_of}
+use Rattle.tsdb_state.specs.Worlds.{StandsFor, value_at_place}
 
-no_value : (told : Told) (place : Place) → value_of told new_store place ≡ None
+no_value : (told : ToldContents) (place : PointPlace) → value_at_place told new_store place ≡ None
 no_value told place = value_none [] place (all_layers told new_store) (none_in_pair place)
 
-pub new_store_in_order : (told : Told) → StoreInOrder told new_store
+pub new_store_in_order : (told : ToldContents) → StoreInOrder told new_store
 new_store_in_order told = record {
   layers = record {
     rises = tt;
@@ -43,7 +43,7 @@ new_store_in_order told = record {
   limit = inl (refl, refl);
 }
 
-pub new_store_stands : (told : Told) → StandsFor told new_store empty
+pub new_store_stands : (told : ToldContents) → StandsFor told new_store empty
 new_store_stands told = record {
   types = λ path. type_in_empty path;
   values = λ place. value_in_empty place ∙ sym (no_value told _);
@@ -54,9 +54,9 @@ new_store_stands told = record {
         (get (empty {X = Series} {R = slice_cmp nat_cmp}) path) ≡ None
     type_in_empty path = λ i. option_map (λ (s : Series). s.data_type) (get-empty (slice_cmp nat_cmp) path i)
 
-    value_in_empty : (place : Place)
-        → get (points_of (get (empty {X = Series} {R = slice_cmp nat_cmp}) place.path))
+    value_in_empty : (place : PointPlace)
+        → get (points_of_series (get (empty {X = Series} {R = slice_cmp nat_cmp}) place.path))
         place.time ≡ None
     value_in_empty place =
-        (λ i. get (points_of (get-empty (slice_cmp nat_cmp) place.path i)) place.time)
+        (λ i. get (points_of_series (get-empty (slice_cmp nat_cmp) place.path i)) place.time)
         ∙ get-empty int_cmp place.time

@@ -7,9 +7,9 @@ use Rattle.std.proofs.lemmas.List.{map-append}
 use Rattle.tsdb_base.specs.Lists.{IsWithOne, count, if_some}
 use Rattle.tsdb_base.proofs.Lists.{count_append}
 use Rattle.tsdb_state.specs.Jobs.{NumbersInOrder, drawn_by, drawn_numbers}
-use Rattle.tsdb_state.specs.Order.{files_of}
+use Rattle.tsdb_state.specs.Order.{all_files}
 use Rattle.tsdb_state.specs.Records.{numbers_of}
-use Rattle.tsdb_state.specs.State.{Compaction, EngineState, File, FlushJob}
+use Rattle.tsdb_state.specs.State.{Compaction, EngineState, File, FlushState}
 use Rattle.tsdb_state.specs.Steps.{Begins, EndsCompaction, EndsFlush, TakesFlush, began, ended, ended_flush, swept}
 use Rattle.tsdb_state.specs.Steps.{took_flush}
 use Rattle.tsdb_state.proofs.Counting.{numbers_drawn, numbers_less}
@@ -49,7 +49,7 @@ count_map_one f n x others all out = omega (
   count_append n (map f out.before) (map f out.behind),
 )
 
-pub count_drawn : (n : ℕ) (flushes : List FlushJob) (compactions : List Compaction)
+pub count_drawn : (n : ℕ) (flushes : List FlushState) (compactions : List Compaction)
     → count n (drawn_numbers flushes compactions)
     ≡ count n (flat_map drawn_by flushes) + count n (map (λ job. job.output) compactions)
 count_drawn n flushes compactions = count_append n _ _
@@ -66,7 +66,7 @@ count_out n listed outgoing built = omega (arith, count_files)
 
 -- the numbers of one job, and those of the others
 
-pub drawn_by_flush : (n : ℕ) (flush : FlushJob) (others all : List FlushJob) (compactions : List Compaction)
+pub drawn_by_flush : (n : ℕ) (flush : FlushState) (others all : List FlushState) (compactions : List Compaction)
     → IsWithOne flush others all
     → count n (drawn_numbers all compactions) ≡ count n (drawn_by flush) + count n (drawn_numbers others compactions)
 drawn_by_flush n flush others all compactions out = omega (
@@ -76,7 +76,7 @@ drawn_by_flush n flush others all compactions out = omega (
   count_with_one drawn_by n flush others all out,
 )
 
-pub drawn_by_job : (n : ℕ) (job : Compaction) (others all : List Compaction) (flushes : List FlushJob)
+pub drawn_by_job : (n : ℕ) (job : Compaction) (others all : List Compaction) (flushes : List FlushState)
     → IsWithOne job others all
     → count n (drawn_numbers flushes all) ≡ count n (job.output ∷ []) + count n (drawn_numbers flushes others)
 drawn_by_job n job others all flushes out = omega (
@@ -90,15 +90,15 @@ length_some : {X : Type 0} (o : Option X) → length (if_some o) ≤ 1
 length_some None = omega arith
 length_some (Some x) = omega arith
 
-pub drawn_two : (flush : FlushJob) → length (drawn_by flush) ≤ 2
+pub drawn_two : (flush : FlushState) → length (drawn_by flush) ≤ 2
 drawn_two flush = omega (arith, length-append {A = ℕ}, length_some flush.sequence, length_some flush.unsequence)
 
 -- the numbers of a state are in order
 abbrev pub HasNumbers : List ℕ → EngineState → Type 0
 HasNumbers named state =
-    NumbersInOrder named state.next_file (files_of state) (drawn_numbers state.flushes state.compactions)
+    NumbersInOrder named state.next_file (all_files state) (drawn_numbers state.flushes state.compactions)
 
-pub took_flush_numbers : (named : List ℕ) (flush : FlushJob) (state : EngineState) → TakesFlush flush state
+pub took_flush_numbers : (named : List ℕ) (flush : FlushState) (state : EngineState) → TakesFlush flush state
     → HasNumbers named state → HasNumbers named (took_flush flush state)
 took_flush_numbers named flush state takes order =
     numbers_drawn _ _ _ _ _ _ order (omega (arith, takes.left, drawn_two flush)) (λ n. omega (
@@ -109,7 +109,7 @@ took_flush_numbers named flush state takes order =
       ap (count n) takes.numbers,
     ))
 
-pub ended_flush_numbers : (named : List ℕ) (flush : FlushJob) (others : List FlushJob) (built : List File)
+pub ended_flush_numbers : (named : List ℕ) (flush : FlushState) (others : List FlushState) (built : List File)
     (state : EngineState) → EndsFlush flush others built state → HasNumbers named state
     → HasNumbers named (ended_flush flush others built state)
 ended_flush_numbers named flush others built state ends order =
@@ -121,7 +121,7 @@ ended_flush_numbers named flush others built state ends order =
     ))
     (λ n. omega (arith, drawn_by_flush n flush others state.flushes state.compactions ends.out))
 
-pub began_numbers : (told : Rattle.tsdb_state.specs.State.Told) (named : List ℕ) (job : Compaction) (state :
+pub began_numbers : (told : Rattle.tsdb_state.specs.State.ToldContents) (named : List ℕ) (job : Compaction) (state :
     EngineState) → Begins told job state
     → HasNumbers named state → HasNumbers named (began job state)
 began_numbers told named job state begins order =

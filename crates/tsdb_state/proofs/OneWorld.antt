@@ -17,20 +17,20 @@ use Rattle.tsdb_state.proofs.LayerLemmas.Places.{is_path_same, place_itself, tie
 use Rattle.tsdb_state.proofs.LayerLemmas.Values.{value_is_point}
 use Rattle.tsdb_state.specs.Layers.{HasPoint, Layer}
 use Rattle.tsdb_base.specs.Lists.{Among}
-use Rattle.tsdb_state.specs.Places.{Place, is_path, place_cmp}
-use Rattle.tsdb_model.specs.World.{Series, World, points_of, value_at}
+use Rattle.tsdb_state.specs.Places.{PointPlace, is_path, place_cmp}
+use Rattle.tsdb_model.specs.World.{Series, World, points_of_series, value_at}
 use Rattle.tsdb_model.specs.declared.command.Schema.{Schema}
 use Rattle.tsdb_state.proofs.Freezing.{find_among}
 use Rattle.tsdb_state.proofs.Worlds.{place_test, type_in}
-use Rattle.tsdb_state.specs.State.{SeriesEntry, StoreState, Told}
+use Rattle.tsdb_state.specs.State.{SeriesEntry, StoreState, ToldContents}
 use Rattle.tsdb_state.specs.StoreOrder.{HasLiveValues}
 use Rattle.tsdb_state.specs.Views.{all_layers}
-use Rattle.tsdb_state.specs.Worlds.{StandsFor, is_live_at, value_of}
+use Rattle.tsdb_state.specs.Worlds.{StandsFor, is_live_at, value_at_place}
 
 -- a world is its types and its values
 
 same_series : (a b : Option Series) → type_in a ≡ type_in b
-    → ((time : ℤ) → get (points_of a) time ≡ get (points_of b) time) → a ≡ b
+    → ((time : ℤ) → get (points_of_series a) time ≡ get (points_of_series b) time) → a ≡ b
 same_series None None types values = refl
 same_series None (Some s) types values = absurd (cc)
 same_series (Some r) None types values = absurd (cc)
@@ -45,7 +45,7 @@ same_world a b types values = same_map nat_list_cmp_total (slice_cmp-IsAntisymme
     (λ path. same_series _ _ (types path) (values path))
 
 -- a state stands for one world
-pub stands_once : (told : Told) (store : StoreState) (a b : World) → StandsFor told store a → StandsFor told store b
+pub stands_once : (told : ToldContents) (store : StoreState) (a b : World) → StandsFor told store a → StandsFor told store b
     → a ≡ b
 stands_once told store a b one other = same_world a b (λ path. one.types path ∙ sym (other.types path))
     (λ path time. one.values (record { path = path; time = time })
@@ -53,11 +53,11 @@ stands_once told store a b one other = same_world a b (λ path. one.types path �
 
 -- the world of a store in order: each series that is there, with its values at the places of all points
 
-entries_of : List Layer → List (Place × Value)
+entries_of : List Layer → List (PointPlace × Value)
 entries_of layers = flat_map (λ layer. entries layer.content) layers
 
 -- a point of layers is among their entries
-point_among : (layers : List Layer) (place : Place) (value : Value) → HasPoint layers place value
+point_among : (layers : List Layer) (place : PointPlace) (value : Value) → HasPoint layers place value
     → Among (place, value) (entries_of layers)
 unfolding entries_of
 point_among [] place value has = absurd has
@@ -69,8 +69,8 @@ point_among (layer ∷ layers) place value (inr has) = among_right (entries laye
 equal_times : (a b : ℤ) → eq_by_cmp int_cmp a b ≡ true → a ≡ b
 equal_times a b e = int_cmp-IsAntisymmetric a b (tied (int_cmp a b) e)
 
-module _ (told : Told) (state : StoreState) where
-  abbrev at : List ℕ → ℤ → Place
+module _ (told : ToldContents) (state : StoreState) where
+  abbrev at : List ℕ → ℤ → PointPlace
   at path time = record { path = path; time = time }
 
   abbrev with_value : ℤ → Option Value → FinMap int_cmp Value → FinMap int_cmp Value
@@ -87,22 +87,22 @@ module _ (told : Told) (state : StoreState) where
   get_with q time (Some value) rest = get-insert int_cmp_total rest time value q
 
   -- the times of the series among some entries, with the values that the state has there
-  points_among : List ℕ → List (Place × Value) → FinMap int_cmp Value
+  points_among : List ℕ → List (PointPlace × Value) → FinMap int_cmp Value
   points_among path [] = empty
   points_among path (entry ∷ es) = cond (is_path path entry.0.path)
-      (with_value entry.0.time (value_of told state entry.0) (points_among path es)) (points_among path es)
+      (with_value entry.0.time (value_at_place told state entry.0) (points_among path es)) (points_among path es)
 
-  abbrev is_at : Place → Place × Value → Bool
+  abbrev is_at : PointPlace → PointPlace × Value → Bool
   is_at place entry = eq_by_cmp place_cmp place entry.0
 
-  points_at : (path : List ℕ) (time : ℤ) (es : List (Place × Value))
+  points_at : (path : List ℕ) (time : ℤ) (es : List (PointPlace × Value))
       → get (points_among path es) time
-      ≡ cond (list_any (is_at (at path time)) es) (value_of told state (at path time)) None
+      ≡ cond (list_any (is_at (at path time)) es) (value_at_place told state (at path time)) None
   unfolding points_among
   points_at path time [] = get-empty int_cmp time
   points_at path time (entry ∷ es) =
       by (is_path path entry.0.path) (eq_by_cmp int_cmp time entry.0.time) refl refl (points_at path time es)
-      ∙ ap (λ b. cond (b || list_any (is_at (at path time)) es) (value_of told state (at path time)) None)
+      ∙ ap (λ b. cond (b || list_any (is_at (at path time)) es) (value_at_place told state (at path time)) None)
       (sym (place_test (at path time) entry.0))
     where
       rest : FinMap int_cmp Value
@@ -112,11 +112,11 @@ module _ (told : Told) (state : StoreState) where
       more = list_any (is_at (at path time)) es
 
       with_entry : (c : Bool) → eq_by_cmp int_cmp time entry.0.time ≡ c
-          → get (with_value entry.0.time (value_of told state entry.0) rest) time
-          ≡ cond c (option_or (value_of told state entry.0) (get rest time)) (get rest time)
+          → get (with_value entry.0.time (value_at_place told state entry.0) rest) time
+          ≡ cond c (option_or (value_at_place told state entry.0) (get rest time)) (get rest time)
       with_entry c e =
-          get_with time entry.0.time (value_of told state entry.0) rest
-          ∙ ap (λ b. cond b (option_or (value_of told state entry.0) (get rest time)) (get rest time)) e
+          get_with time entry.0.time (value_at_place told state entry.0) rest
+          ∙ ap (λ b. cond b (option_or (value_at_place told state entry.0) (get rest time)) (get rest time)) e
 
       either : (b : Bool) (o : Option Value) → option_or o (cond b o None) ≡ o
       either true None = refl
@@ -124,15 +124,15 @@ module _ (told : Told) (state : StoreState) where
       either b (Some value) = refl
 
       by : (p c : Bool) → is_path path entry.0.path ≡ p → eq_by_cmp int_cmp time entry.0.time ≡ c
-          → get rest time ≡ cond more (value_of told state (at path time)) None
-          → get (cond p (with_value entry.0.time (value_of told state entry.0) rest) rest) time
-          ≡ cond ((p && c) || more) (value_of told state (at path time)) None
+          → get rest time ≡ cond more (value_at_place told state (at path time)) None
+          → get (cond p (with_value entry.0.time (value_at_place told state entry.0) rest) rest) time
+          ≡ cond ((p && c) || more) (value_at_place told state (at path time)) None
       by false c p e is = is
       by true false p e is = with_entry false e ∙ is
-      by true true p e is = with_entry true e ∙ (λ i. option_or (value_of told state (record {
+      by true true p e is = with_entry true e ∙ (λ i. option_or (value_at_place told state (record {
         path = sym (is_path_same path entry.0.path p) i;
         time = sym (equal_times time entry.0.time e) i;
-      })) (is i)) ∙ either more (value_of told state (at path time))
+      })) (is i)) ∙ either more (value_at_place told state (at path time))
 
   -- the values of a series
   series_of : Schema → Series
@@ -142,20 +142,20 @@ module _ (told : Told) (state : StoreState) where
   }
 
   series_value : (schema : Schema) (time : ℤ)
-      → get (series_of schema).points time ≡ value_of told state (at schema.path time)
+      → get (series_of schema).points time ≡ value_at_place told state (at schema.path time)
   unfolding series_of
-  series_value schema time = points_at schema.path time es ∙ by (value_of told state here) refl
+  series_value schema time = points_at schema.path time es ∙ by (value_at_place told state here) refl
     where
-      here : Place
+      here : PointPlace
       here = at schema.path time
 
-      es : List (Place × Value)
+      es : List (PointPlace × Value)
       es = entries_of (all_layers told state)
 
-      by : (o : Option Value) → value_of told state here ≡ o
-          → cond (list_any (is_at here) es) (value_of told state here) None ≡ value_of told state here
+      by : (o : Option Value) → value_at_place told state here ≡ o
+          → cond (list_any (is_at here) es) (value_at_place told state here) None ≡ value_at_place told state here
       by None e = (λ i. cond (list_any (is_at here) es) (e i) None) ∙ sym (none_by (list_any (is_at here) es)) ∙ sym e
-      by (Some value) e = ap (λ b. cond b (value_of told state here) None)
+      by (Some value) e = ap (λ b. cond b (value_at_place told state here) None)
           (any_among (is_at here) es (here, value) (point_among _ here value
           (value_is_point state.marks here _ value e)) (place_itself here))
 
@@ -218,7 +218,7 @@ module _ (told : Told) (state : StoreState) where
   stands_for_world live = record {
     types = λ path. ap type_in (world_series _) ∙ type_of_found (find (is_live_at path) state.schemas);
     values =
-        λ place. ap (λ o. get (points_of o) place.time) (world_series _)
+        λ place. ap (λ o. get (points_of_series o) place.time) (world_series _)
         ∙ by place (find (is_live_at place.path) state.schemas) refl;
   }
     where
@@ -228,17 +228,17 @@ module _ (told : Told) (state : StoreState) where
       type_of_found None = refl
       type_of_found (Some s) = refl
 
-      by : (place : Place) (o : Option SeriesEntry) → find (is_live_at place.path) state.schemas ≡ o
-          → get (points_of (option_map (λ (s : SeriesEntry). series_of s.schema) o)) place.time
-          ≡ value_of told state place
-      by place None found = get-empty int_cmp place.time ∙ none (value_of told state place) refl
+      by : (place : PointPlace) (o : Option SeriesEntry) → find (is_live_at place.path) state.schemas ≡ o
+          → get (points_of_series (option_map (λ (s : SeriesEntry). series_of s.schema) o)) place.time
+          ≡ value_at_place told state place
+      by place None found = get-empty int_cmp place.time ∙ none (value_at_place told state place) refl
         where
-          none : (o : Option Value) → value_of told state place ≡ o
-              → ◌≡◌ {A = Option Value} None (value_of told state place)
+          none : (o : Option Value) → value_at_place told state place ≡ o
+              → ◌≡◌ {A = Option Value} None (value_at_place told state place)
           none None e = sym e
           none (Some value) e = absurd (let type = live place value e in
               let missing = ap (option_map (λ (s : SeriesEntry). s.schema.data_type)) found in cc)
-      by place (Some s) found = series_value s.schema place.time ∙ (λ i. value_of told state (record {
+      by place (Some s) found = series_value s.schema place.time ∙ (λ i. value_at_place told state (record {
         path = sym (found_path place.path state.schemas s found) i;
         time = place.time;
       }))

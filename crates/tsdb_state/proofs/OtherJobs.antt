@@ -20,7 +20,7 @@ use Rattle.tsdb_marks.specs.declared.marks.Mark.{Mark}
 use Rattle.tsdb_state.proofs.Cutting.{mark_of}
 use Rattle.tsdb_state.specs.Jobs.{AreApart, HasKind, KeepsItsMarks, Stands, job_inputs}
 use Rattle.tsdb_state.specs.Records.{add_mark}
-use Rattle.tsdb_state.specs.State.{Compaction, File, StoreState, Told}
+use Rattle.tsdb_state.specs.State.{Compaction, File, StoreState, ToldContents}
 use Rattle.tsdb_state.specs.Views.{borns_of, file_layers}
 
 -- inputs of a job are listed
@@ -28,7 +28,7 @@ use Rattle.tsdb_state.specs.Views.{borns_of, file_layers}
 run_listed : (run all : List File) → IsRun run all → (file : File) → Among file run → Among file all
 run_listed run all is file among = subst (Among file) (sym is.is) (among_right _ _ _ (among_left _ _ _ among))
 
-pub inputs_listed : (told : Told) (sequence unsequence : List File) (job : Compaction) (space : Space)
+pub inputs_listed : (told : ToldContents) (sequence unsequence : List File) (job : Compaction) (space : Space)
     → HasKind space job → Stands space told sequence unsequence job
     → Each (λ file. Among file (sequence ++ unsequence)) (job_inputs job)
 inputs_listed told sequence unsequence job Sequence kind gap =
@@ -44,7 +44,7 @@ pub born_listed : (state : StoreState) (file : File) → Among file (state.seque
 born_listed state file among = among_left _ _ _ (among_map _ _ _ among)
 
 -- a purge keeps the marks of a job whose inputs are among what it looks at
-pub marked_purge : (told : Told) (stamp : ℕ) (marks : List Mark) (borns : List ℕ) (job : Compaction)
+pub marked_purge : (told : ToldContents) (stamp : ℕ) (marks : List Mark) (borns : List ℕ) (job : Compaction)
     → KeepsItsMarks told stamp marks job → Each (λ file. Among file.born borns) (job_inputs job)
     → KeepsItsMarks told stamp (purge borns marks) job
 marked_purge told stamp marks borns job marked listed = record {
@@ -58,13 +58,13 @@ too_new : (born stamp : ℕ) → born ≤ stamp → nat_le (stamp + 1) born ≡ 
 too_new born stamp h = grind (arith, nat_tests)
 
 -- a raised stamp
-pub marked_up : (told : Told) (stamp : ℕ) (marks : List Mark) (job : Compaction) → KeepsItsMarks told stamp marks job
+pub marked_up : (told : ToldContents) (stamp : ℕ) (marks : List Mark) (job : Compaction) → KeepsItsMarks told stamp marks job
     → KeepsItsMarks told (stamp + 1) marks job
 marked_up told stamp marks job marked =
     record { reached = omega (arith, marked.reached); older = marked.older; same = marked.same }
 
 -- a mark that joins is newer than the job
-pub marked_delete : (told : Told) (stamp : ℕ) (marks : List Mark) (path : List ℕ) (range : Range) (job : Compaction)
+pub marked_delete : (told : ToldContents) (stamp : ℕ) (marks : List Mark) (path : List ℕ) (range : Range) (job : Compaction)
     → KeepsItsMarks told stamp marks job
     → KeepsItsMarks told (stamp + 1) (add_mark path range (stamp + 1) marks) job
 marked_delete told stamp marks path range job marked = record {
@@ -87,7 +87,7 @@ marked_delete told stamp marks path range job marked = record {
 abbrev run_more : (run all more : List File) → IsRun run all → IsRun run (all ++ more)
 run_more run all more is = record { before = is.before; behind = is.behind ++ more; is = rw is.is (simp append_assoc) }
 
-pub stands_more : (told : Told) (sequence unsequence more_sequence more_unsequence : List File) (job : Compaction)
+pub stands_more : (told : ToldContents) (sequence unsequence more_sequence more_unsequence : List File) (job : Compaction)
     (space : Space)
     → IsBeforeInTime (file_layers told unsequence) (file_layers told more_sequence)
     → Stands space told sequence unsequence job
@@ -121,7 +121,7 @@ some_files [] n h = absurd (omega arith)
 some_files (file ∷ files) n h = record { first = file; others = files; are = refl }
 
 -- a sequence output: another job is of late files alone, which stand behind the first ones
-pub stands_crossed : (told : Told) (sequence new_sequence unsequence later : List File) (job other : Compaction)
+pub stands_crossed : (told : ToldContents) (sequence new_sequence unsequence later : List File) (job other : Compaction)
     (space : Space)
     → unsequence ≡ job.unsequence ++ later → job.space ≡ Sequence → other.space ≡ space → AreApart job other
     → HasKind space other → Stands space told sequence unsequence other
@@ -135,7 +135,7 @@ stands_crossed told sequence new_sequence unsequence later job other Unsequence 
     (sym is ∙ run.is ∙ ap (λ files. run.before ++ (files ++ run.behind)) some.are))
 
 -- a late output: another job's late files stand before the run or behind it
-pub stands_merged : (told : Told) (sequence unsequence before behind output : List File) (job other : Compaction)
+pub stands_merged : (told : ToldContents) (sequence unsequence before behind output : List File) (job other : Compaction)
     (space : Space)
     → unsequence ≡ before ++ (job.unsequence ++ behind) → 2 ≤ length job.unsequence → AreApart job other
     → HasKind space other → Stands space told sequence unsequence other

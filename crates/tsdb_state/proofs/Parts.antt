@@ -13,13 +13,13 @@ use Rattle.tsdb_state.proofs.Fresh.{pairs_counted}
 use Rattle.tsdb_state.proofs.Typed.{late_before}
 use Rattle.tsdb_state.specs.Jobs.{NumbersInOrder}
 use Rattle.tsdb_state.specs.Records.{numbers_of}
-use Rattle.tsdb_state.specs.State.{File, FrozenPair, StoreState, Told}
+use Rattle.tsdb_state.specs.State.{File, FrozenContent, StoreState, ToldContents}
 use Rattle.tsdb_state.specs.StoreOrder.{LateIsBelow, LayersInOrder}
 use Rattle.tsdb_state.specs.Views.{file_layers, flushed_layers, layer_of, pairs_of, sequence_layer, sequence_layers}
 use Rattle.tsdb_state.specs.Views.{unsequence_layer, working_pair}
 
 -- what the late layers of the first pairs are below of the pairs behind them
-late_behind : (late : List Layer) (before : List FrozenPair) (pair : FrozenPair) (behind : List FrozenPair)
+late_behind : (late : List Layer) (before : List FrozenContent) (pair : FrozenContent) (behind : List FrozenContent)
     → LateIsBelow late (before ++ pair ∷ behind)
     → IsBeforeInTime (unsequence_layer pair ∷ []) (sequence_layer pair ∷ map sequence_layer behind)
 late_behind late [] pair behind below =
@@ -32,7 +32,7 @@ late_behind late [] pair behind below =
 late_behind late (first ∷ before) pair behind below = late_behind (late ++ unsequence_layer first ∷ []) before pair
     behind below.1
 
-module _ (told : Told) (state : StoreState)
+module _ (told : ToldContents) (state : StoreState)
     (order : LayersInOrder told state.watermarks state.sequence state.unsequence state.frozen state.working) where
   abbrev files : List Layer
   files = file_layers told state.sequence
@@ -67,7 +67,7 @@ module _ (told : Told) (state : StoreState)
       (below_both _ sequences unsequences (below_part _ sequences _ (part_right files sequences) low)
       (below_part _ unsequences _ (part_right late unsequences) order.late_below)) order.working_below)
 
-  pairs_are : (pairs : List FrozenPair)
+  pairs_are : (pairs : List FrozenContent)
       → map sequence_layer (pairs ++ working_pair state ∷ []) ≡ map sequence_layer pairs ++ working
   pairs_are pairs = map-append _ _ _
 
@@ -76,7 +76,7 @@ module _ (told : Told) (state : StoreState)
       subst (IsBeforeInTime late) (sym (pairs_are _)) (before_each _ _ _ (late_before _ _ order.late)
       (below_above _ _ working (below_part _ _ _ (part_left _ _) order.late_below) order.above))
 
-  pub late_pair_below : (before : List FrozenPair) (pair : FrozenPair) (behind : List FrozenPair)
+  pub late_pair_below : (before : List FrozenContent) (pair : FrozenContent) (behind : List FrozenContent)
       → state.frozen ≡ before ++ pair ∷ behind
       → IsBeforeInTime (unsequence_layer pair ∷ []) (sequence_layer pair ∷ map sequence_layer (behind ++ working_pair state ∷
       []))

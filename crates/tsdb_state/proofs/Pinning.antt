@@ -16,12 +16,12 @@ use Rattle.tsdb_state.proofs.LayerLemmas.Places.{path_itself, place_cmp-IsAntisy
 use Rattle.tsdb_state.proofs.LayerLemmas.Values.{no_survivor, or_none, value_append}
 use Rattle.tsdb_state.specs.Layers.{Layer, survivor, value_in}
 use Rattle.tsdb_state.specs.Marks.{survives}
-use Rattle.tsdb_state.specs.Places.{Content, Place, is_within, place_cmp}
+use Rattle.tsdb_state.specs.Places.{Content, PointPlace, is_within, place_cmp}
 use Rattle.tsdb_model.specs.World.{World, is_in, value_at}
 use Rattle.tsdb_marks.specs.declared.marks.Mark.{Mark}
 use Rattle.tsdb_state.specs.Jobs.{Describes, EntriesMatch}
-use Rattle.tsdb_state.specs.State.{Column, EngineState, Entries, File, FromFile, FromPart, FrozenPair, Pin}
-use Rattle.tsdb_state.specs.State.{StoreState, Told}
+use Rattle.tsdb_state.specs.State.{ColumnState, EngineState, KnownFiles, File, FromFile, FromPart, FrozenContent, PinState}
+use Rattle.tsdb_state.specs.State.{StoreState, ToldContents}
 use Rattle.tsdb_state.specs.Steps.{PinStandsFor, TakesPin, file_sources, has_series, part_sources, part_within}
 use Rattle.tsdb_state.specs.Steps.{source_layer, sources_of}
 use Rattle.tsdb_state.specs.Views.{all_layers, file_layer, file_layers, sequence_layer, sequence_layers}
@@ -29,7 +29,7 @@ use Rattle.tsdb_state.specs.Views.{unsequence_layer, unsequence_layers, working_
 use Rattle.tsdb_state.specs.Worlds.{StandsFor}
 
 -- marks that leave the same at a place
-marks_alike : (marks others : List Mark) (place : Place) (layers : List Layer)
+marks_alike : (marks others : List Mark) (place : PointPlace) (layers : List Layer)
     → ((born : ℕ) → survives marks place born ≡ survives others place born)
     → value_in marks place layers ≡ value_in others place layers
 marks_alike marks others place [] alike = refl
@@ -38,7 +38,7 @@ marks_alike marks others place (layer ∷ layers) alike =
     λ i. option_or (rest i) (cond (alike layer.born i) (get layer.content place) None)
 
 -- a first layer without a survivor
-without_first : (marks : List Mark) (place : Place) (layer : Layer) (layers : List Layer)
+without_first : (marks : List Mark) (place : PointPlace) (layer : Layer) (layers : List Layer)
     → get layer.content place ≡ None → value_in marks place (layer ∷ layers) ≡ value_in marks place layers
 without_first marks place layer layers none =
     ap (option_or (value_in marks place layers)) (no_survivor _ _ _ none)
@@ -47,9 +47,9 @@ without_first marks place layer layers none =
 zero_is : (n : ℕ) → nat_lt 0 n ≡ false → n ≡ 0
 zero_is n e = grind (arith, nat_tests)
 
-module _ (told : Told) (known : Entries) (marks : List Mark) (path : List ℕ) (range : Range) (time : ℤ)
+module _ (told : ToldContents) (known : KnownFiles) (marks : List Mark) (path : List ℕ) (range : Range) (time : ℤ)
     (within : is_in range time ≡ true) where
-  abbrev here : Place
+  abbrev here : PointPlace
   here = record { path = path; time = time }
 
   -- files without the series
@@ -115,7 +115,7 @@ module _ (told : Told) (known : Entries) (marks : List Mark) (path : List ℕ) (
       by false e rest = rest ∙ sym (without_first marks here layer layers (no_part layer e))
 
   -- one space
-  row_is : (f : FrozenPair → Layer) (files : List File) (frozen : List FrozenPair) (working : FrozenPair)
+  row_is : (f : FrozenContent → Layer) (files : List File) (frozen : List FrozenContent) (working : FrozenContent)
       → EntriesMatch told known files
       → value_in marks here (map (source_layer told)
       (file_sources known path files ++ part_sources path range (map f (frozen ++ working ∷ []))))
@@ -146,16 +146,16 @@ module _ (told : Told) (known : Entries) (marks : List Mark) (path : List ℕ) (
       match) i))
       ∙ sym (value_append marks here (sequence_layers told state) (unsequence_layers told state))
 
-module _ (told : Told) (known : Entries) (state : EngineState)
+module _ (told : ToldContents) (known : KnownFiles) (state : EngineState)
     (match : EntriesMatch told known (state.store.sequence ++ state.store.unsequence)) (world : World)
     (stands : StandsFor told state.store world) where
   abbrev store : StoreState
   store = state.store
 
-  abbrev At : List ℕ → ℤ → Place
+  abbrev At : List ℕ → ℤ → PointPlace
   At path time = record { path = path; time = time }
 
-  columns_stand : (marks : List Mark) (range : Range) (columns : List Column)
+  columns_stand : (marks : List Mark) (range : Range) (columns : List ColumnState)
       → Each (λ column. (time : ℤ) (born : ℕ) → survives marks (At column.path time) born
       ≡ survives store.marks (At column.path time) born) columns
       → Each (λ column. column.sources ≡ sources_of known store column.path range) columns
@@ -170,5 +170,5 @@ module _ (told : Told) (known : Entries) (state : EngineState)
     columns_stand marks range columns alike.1 are.1,
   )
 
-  pub pin_stands : (pin : Pin) → TakesPin known pin state → PinStandsFor told pin world
+  pub pin_stands : (pin : PinState) → TakesPin known pin state → PinStandsFor told pin world
   pin_stands pin takes = columns_stand _ _ _ takes.marks takes.columns

@@ -15,7 +15,7 @@ use Rattle.tsdb_base.proofs.Lists.{each_among, each_left, each_of_map, each_righ
 use Rattle.tsdb_state.specs.Layers.{HasPoint}
 use Rattle.tsdb_base.specs.Lists.{Among, IsRun}
 use Rattle.tsdb_state.specs.LayerOrder.{IsBeforeInTime}
-use Rattle.tsdb_state.specs.Places.{Place}
+use Rattle.tsdb_state.specs.Places.{PointPlace}
 use Rattle.tsdb_path.specs.Nodes.{device_of}
 use Rattle.tsdb_plan.proofs.Hulls.{to_end, to_start}
 use Rattle.tsdb_plan.proofs.ListFacts.{Any-head, Any-left, Any-right, Any-tail}
@@ -28,7 +28,7 @@ use Rattle.tsdb_plan.specs.declared.entry.Run.{Run}
 use Rattle.tsdb_state.specs.Jobs.{AreApart, Describes, EntriesMatch, HasGap, HasKind, IsHullOver}
 use Rattle.tsdb_state.specs.Plans.{ClaimLate, file_entries, file_entry, IsCrossJob}
 use Rattle.tsdb_state.specs.Plans.{IsInnerSequenceJob, IsInnerUnsequenceJob}
-use Rattle.tsdb_state.specs.State.{Compaction, Entries, File, Told}
+use Rattle.tsdb_state.specs.State.{Compaction, KnownFiles, File, ToldContents}
 use Rattle.tsdb_state.specs.Views.{file_layers}
 
 -- what holds within places holds of the part of the list there
@@ -82,12 +82,12 @@ three_parts (suc first) (suc end) (file ∷ files) h = ap (λ xs. file ∷ xs)
     less a b = omega arith
 
 -- a point of layers of files is in one of them
-record InFile (told : Told) (files : List File) (place : Place) (value : Value) : Type 0 where
+record InFile (told : ToldContents) (files : List File) (place : PointPlace) (value : Value) : Type 0 where
   file : File
   among : Among file files
   has : get (told file.number) place ≡ Some value
 
-in_file : (told : Told) (files : List File) (place : Place) (value : Value)
+in_file : (told : ToldContents) (files : List File) (place : PointPlace) (value : Value)
     → HasPoint (file_layers told files) place value
     → InFile told files place value
 in_file told [] place value has = absurd has
@@ -101,7 +101,7 @@ any_of P [] x among holds = absurd among
 any_of P (y ∷ xs) x (inl is) holds = Any-head P y xs (subst P (sym is) holds)
 any_of P (y ∷ xs) x (inr among) holds = Any-tail P y xs (any_of P xs x among holds)
 
-any_hull : (P : Hull → Type 0) (known : Entries) (claimed : File → Bool) (files : List File) (file : File) (hull : Hull)
+any_hull : (P : Hull → Type 0) (known : KnownFiles) (claimed : File → Bool) (files : List File) (file : File) (hull : Hull)
     → Among file files → Among hull (known file.number).hulls → P hull
     → Any P (hulls_of (file_entries known claimed files))
 any_hull P known claimed [] file hull among of holds = absurd among
@@ -127,9 +127,9 @@ earlier a b not_later = by (int_lt a b) refl
 chain : (a b c d : ℤ) → a ≤ℤ b → b ≤ℤ c → c ≤ℤ d → a ≤ℤ d
 chain a b c d h k l = grind (arith, ints)
 
-module _ (told : Told) (known : Entries) (early_claimed late_claimed : File → Bool) where
+module _ (told : ToldContents) (known : KnownFiles) (early_claimed late_claimed : File → Bool) where
   -- the hulls over two points of one device, the first at or above the second, reach each other
-  reach : (p q : Place) → (h : Hull) → IsHullOver h p → (l : Hull) → IsHullOver l q
+  reach : (p q : PointPlace) → (h : Hull) → IsHullOver h p → (l : Hull) → IsHullOver l q
       → device_of p.path ≡ device_of q.path → q.time ≤ℤ p.time → (h.device ≡ l.device) × (l.from ≤ℤ h.to)
   reach p q h over_p l over_q same later = (
     over_p.device ∙ same ∙ sym over_q.device,
@@ -177,24 +177,24 @@ module _ (told : Told) (known : Entries) (early_claimed late_claimed : File → 
       known late_claimed late f h in_late of_f (any_of (λ (y : Hull). (h.device ≡ y.device) × (y.from ≤ℤ h.to)) _ l of_g
       met))))
 
-length_entries : (known : Entries) (claimed : File → Bool) (files : List File)
+length_entries : (known : KnownFiles) (claimed : File → Bool) (files : List File)
     → length (file_entries known claimed files) ≡ length files
 length_entries known claimed [] = refl
 length_entries known claimed (file ∷ files) = ap suc (length_entries known claimed files)
 
-each_drop_entries : (P : FileEntry → Type 0) (known : Entries) (claimed : File → Bool) (n : ℕ) (files : List File)
+each_drop_entries : (P : FileEntry → Type 0) (known : KnownFiles) (claimed : File → Bool) (n : ℕ) (files : List File)
     → AllWithin P (file_entries known claimed files) n (length (file_entries known claimed files))
     → Each (λ file. P (file_entry known claimed file)) (drop n files)
 each_drop_entries P known claimed n files all =
     each_of_map P _ _ (subst (Each P) (drop-map (file_entry known claimed) n files) (each_drop P _ n all))
 
-each_take_entries : (P : FileEntry → Type 0) (known : Entries) (claimed : File → Bool) (n : ℕ) (files : List File)
+each_take_entries : (P : FileEntry → Type 0) (known : KnownFiles) (claimed : File → Bool) (n : ℕ) (files : List File)
     → AllWithin P (file_entries known claimed files) 0 n → n ≤ length (file_entries known claimed files)
     → Each (λ file. P (file_entry known claimed file)) (take n files)
 each_take_entries P known claimed n files all within =
     each_of_map P _ _ (subst (Each P) (take-map (file_entry known claimed) n files) (each_take P _ n all within))
 
-module _ (told : Told) (known : Entries) (early_claimed late_claimed : File → Bool) (sequence unsequence : List File)
+module _ (told : ToldContents) (known : KnownFiles) (early_claimed late_claimed : File → Bool) (sequence unsequence : List File)
     (match : EntriesMatch told known (sequence ++ unsequence)) where
   abbrev Has : File → Type 0
   Has file = Describes (known file.number) (told file.number)
@@ -268,7 +268,7 @@ module _ (told : Told) (known : Entries) (early_claimed late_claimed : File → 
       ))
 
 -- the run of an inner plan
-inner_run : (known : Entries) (claimed : File → Bool) (files : List File) (run : Run)
+inner_run : (known : KnownFiles) (claimed : File → Bool) (files : List File) (run : Run)
     → IsInnerPlan (file_entries known claimed files) run
     → (files ≡ take run.first files ++ (slice_range files run.first run.end ++ drop run.end files))
     × (length (take run.first files) ≡ run.first) × (2 ≤ length (slice_range files run.first run.end))
@@ -286,7 +286,7 @@ inner_run known claimed files run plan =
       ),
     )
 
-pub inner_sequence : (told : Told) (known : Entries) (claimed : File
+pub inner_sequence : (told : ToldContents) (known : KnownFiles) (claimed : File
     → Bool) (sequence unsequence : List File) (run : Run)
     (job : Compaction) → IsInnerPlan (file_entries known claimed sequence) run → IsInnerSequenceJob run sequence job
     → HasKind Sequence job × HasGap told sequence unsequence job
@@ -307,7 +307,7 @@ inner_sequence told known claimed sequence unsequence run job plan is =
       },
     )
 
-pub inner_unsequence : (known : Entries) (claimed : File → Bool) (unsequence : List File) (run : Run) (job : Compaction)
+pub inner_unsequence : (known : KnownFiles) (claimed : File → Bool) (unsequence : List File) (run : Run) (job : Compaction)
     → IsInnerPlan (file_entries known claimed unsequence) run → IsInnerUnsequenceJob run unsequence job
     → HasKind Unsequence job × IsRun job.unsequence unsequence
 inner_unsequence known claimed unsequence run job plan is =
@@ -321,7 +321,7 @@ other_space e = cc
 
 -- a job of free files is apart from all that are out
 
-free_entries : (known : Entries) (claimed : File → Bool) (files : List File)
+free_entries : (known : KnownFiles) (claimed : File → Bool) (files : List File)
     → All (λ (entry : FileEntry). entry.claimed ≡ false) (file_entries known claimed files)
     → Each (λ file. claimed file ≡ false) files
 free_entries known claimed files free = each_of_map _ _ _ (recursion_from_All
@@ -341,7 +341,7 @@ apart_of_free claimed (other ∷ jobs) job claims free one = (
 
 -- the late files of a plan are free
 
-pub cross_free : (known : Entries) (early_claimed claimed : File
+pub cross_free : (known : KnownFiles) (early_claimed claimed : File
     → Bool) (sequence unsequence : List File) (run : CrossRun)
     (job : Compaction)
     → IsCrossPlan (file_entries known early_claimed sequence) (file_entries known claimed unsequence) run
@@ -350,7 +350,7 @@ cross_free known early_claimed claimed sequence unsequence run job plan is = sub
     (sym is.first_late) (free_entries known _ _ (subst (All (λ (entry : FileEntry). entry.claimed ≡ false))
     (take-map (file_entry known claimed) run.prefix unsequence) plan.eligible.free))
 
-pub inner_free : (known : Entries) (claimed : File → Bool) (unsequence : List File) (run : Run) (job : Compaction)
+pub inner_free : (known : KnownFiles) (claimed : File → Bool) (unsequence : List File) (run : Run) (job : Compaction)
     → IsInnerPlan (file_entries known claimed unsequence) run → IsInnerUnsequenceJob run unsequence job
     → Each (λ file. claimed file ≡ false) job.unsequence
 inner_free known claimed unsequence run job plan is = subst (Each (λ file. claimed file ≡ false)) (sym is.late_run)

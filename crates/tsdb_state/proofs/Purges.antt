@@ -7,15 +7,15 @@ use Rattle.tsdb_state.proofs.LayerLemmas.Moves.{value_purge}
 use Rattle.tsdb_state.specs.Layers.{Layer}
 use Rattle.tsdb_base.specs.Lists.{Among}
 use Rattle.tsdb_state.specs.Marks.{is_any_older, purge}
-use Rattle.tsdb_state.specs.Places.{Place}
+use Rattle.tsdb_state.specs.Places.{PointPlace}
 use Rattle.tsdb_state.proofs.Values.{AreReached, stored, stored_late, value_by_parts}
 use Rattle.tsdb_state.specs.Records.{purged}
-use Rattle.tsdb_state.specs.State.{File, FrozenPair, StoreState, Told}
+use Rattle.tsdb_state.specs.State.{File, FrozenContent, StoreState, ToldContents}
 use Rattle.tsdb_state.specs.StoreOrder.{StampsInOrder}
 use Rattle.tsdb_state.specs.Views.{borns_of, file_layers}
-use Rattle.tsdb_state.specs.Worlds.{value_of}
+use Rattle.tsdb_state.specs.Worlds.{value_at_place}
 
-module _ (told : Told) (state : StoreState) where
+module _ (told : ToldContents) (state : StoreState) where
   abbrev born_of : File → ℕ
   born_of file = file.born
 
@@ -28,7 +28,7 @@ module _ (told : Told) (state : StoreState) where
   files_listed files listed =
       each_map _ _ _ (each_from_among _ _ (λ file among. among_left _ _ _ (among_map _ _ _ (listed file among))))
 
-  pairs_listed : (f : FrozenPair → Layer) → ((pair : FrozenPair) → pair.born ≡ (f pair).born)
+  pairs_listed : (f : FrozenContent → Layer) → ((pair : FrozenContent) → pair.born ≡ (f pair).born)
       → Each Listed (map f state.frozen)
   pairs_listed f same = each_map _ f _ (each_from_among _ _ (λ pair among. subst (λ born. Among born (borns_of state))
       (same pair) (among_right _ _ _ (among_map _ _ _ among))))
@@ -39,8 +39,8 @@ module _ (told : Told) (state : StoreState) where
   pub late_listed : Each Listed (stored_late told state.unsequence state.frozen)
   late_listed = each_append _ _ _ (files_listed _ (λ file. among_right _ _ _)) (pairs_listed _ (λ pair. refl))
 
-  pub value_purged : (place : Place) → AreReached state.marks state.stamp
-      → value_of told (purged state) place ≡ value_of told state place
+  pub value_purged : (place : PointPlace) → AreReached state.marks state.stamp
+      → value_at_place told (purged state) place ≡ value_at_place told state place
   value_purged place reached = value_by_parts told told state (purged state) place reached
       (each_filter _ (is_any_older (borns_of state)) _ reached) refl refl
       (value_purge _ state.marks place _ stored_listed) (value_purge _ state.marks place _ late_listed)

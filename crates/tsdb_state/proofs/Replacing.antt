@@ -11,20 +11,20 @@ use Rattle.tsdb_state.proofs.LayerLemmas.Rising.{rises_left, rises_right}
 use Rattle.tsdb_state.proofs.LayerLemmas.Values.{has_cases, has_left, has_right, or_assoc, or_none, value_append}
 use Rattle.tsdb_state.specs.Layers.{Layer, value_in}
 use Rattle.tsdb_state.specs.LayerOrder.{IsBeforeInTime, Rises}
-use Rattle.tsdb_state.specs.Places.{Place}
+use Rattle.tsdb_state.specs.Places.{PointPlace}
 use Rattle.tsdb_marks.specs.declared.marks.Mark.{Mark}
 use Rattle.tsdb_state.proofs.Arranged.{arranged_in_order, arranged_keeps, regroup, two_parts}
 use Rattle.tsdb_state.proofs.Freezing.{below_above}
 use Rattle.tsdb_state.proofs.Typed.{late_before, late_part}
 use Rattle.tsdb_state.proofs.Values.{stored, stored_late}
 use Rattle.tsdb_state.specs.Records.{purged}
-use Rattle.tsdb_state.specs.State.{File, StoreState, Told}
+use Rattle.tsdb_state.specs.State.{File, StoreState, ToldContents}
 use Rattle.tsdb_state.specs.StoreOrder.{StampsInOrder, StoreInOrder}
 use Rattle.tsdb_state.specs.Views.{file_layers, sequence_layer, unsequence_layer, working_pair}
-use Rattle.tsdb_state.specs.Worlds.{KeepsWorld, value_of}
+use Rattle.tsdb_state.specs.Worlds.{KeepsWorld, value_at_place}
 
 -- late layers join a run below layers that have no value where they have one
-sunk : (marks : List Mark) (place : Place) (before run output above late later : List Layer)
+sunk : (marks : List Mark) (place : PointPlace) (before run output above late later : List Layer)
     → value_in marks place output ≡ value_in marks place (run ++ late)
     → (value_in marks place late ≡ None) ⊎ (value_in marks place above ≡ None)
     → value_in marks place ((before ++ (output ++ above)) ++ later)
@@ -43,10 +43,10 @@ middle_born stamp before run behind output all new =
     each_append _ _ _ (each_left _ _ _ all) (each_append _ _ _ new (each_right _ run _ (each_right _ before _ all)))
 
 -- a sequence run and the first late files become one sequence file
-module _ (told : Told) (state : StoreState) (before run behind first later output : List File)
+module _ (told : ToldContents) (state : StoreState) (before run behind first later output : List File)
     (below : IsBeforeInTime (file_layers told before) (file_layers told first))
     (above : IsBeforeInTime (file_layers told first) (file_layers told behind))
-    (output_value : (place : Place) → value_in state.marks place (file_layers told output)
+    (output_value : (place : PointPlace) → value_in state.marks place (file_layers told output)
     ≡ value_in state.marks place (file_layers told run ++ file_layers told first))
     (output_points : IsPartOf (file_layers told output) (file_layers told run ++ file_layers told first))
     (output_rises : Rises (file_layers told output)) (output_born : Each (IsReached state.stamp) output) where
@@ -94,7 +94,7 @@ module _ (told : Told) (state : StoreState) (before run behind first later outpu
         (below_part _ _ _ (λ p v has. has_left _ unsequences p v (first_points p v has)) order.layers.late_below)
         order.layers.above
 
-    crossed_value : (place : Place) → value_of told crossed place ≡ value_of told before_cross place
+    crossed_value : (place : PointPlace) → value_at_place told crossed place ≡ value_at_place told before_cross place
     crossed_value place = rw (
       regroup told before output behind _,
       regroup told before run behind _,
@@ -147,8 +147,8 @@ module _ (told : Told) (state : StoreState) (before run behind first later outpu
         )
 
 -- a run of late files becomes one late file
-module _ (told : Told) (state : StoreState) (before run behind output : List File)
-    (output_value : (place : Place) → value_in state.marks place (file_layers told output)
+module _ (told : ToldContents) (state : StoreState) (before run behind output : List File)
+    (output_value : (place : PointPlace) → value_in state.marks place (file_layers told output)
     ≡ value_in state.marks place (file_layers told run))
     (output_points : IsPartOf (file_layers told output) (file_layers told run))
     (output_born : Each (IsReached state.stamp) output) where
@@ -159,7 +159,7 @@ module _ (told : Told) (state : StoreState) (before run behind output : List Fil
   merged = record state { unsequence = before ++ (output ++ behind) }
 
   module _ (order : StoreInOrder told before_merge) where
-    merged_value : (place : Place) → value_of told merged place ≡ value_of told before_merge place
+    merged_value : (place : PointPlace) → value_at_place told merged place ≡ value_at_place told before_merge place
     merged_value place = simp (map-append, value_append, output_value place)
 
     late_files : IsPartOf (file_layers told merged.unsequence) (file_layers told before_merge.unsequence)

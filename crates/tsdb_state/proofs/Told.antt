@@ -9,7 +9,7 @@ use Rattle.tsdb_state.specs.Layers.{Layer, survivor, value_in}
 use Rattle.tsdb_base.specs.Lists.{Among}
 use Rattle.tsdb_state.specs.Marks.{marks_up_to}
 use Rattle.tsdb_state.specs.LayerOrder.{IsBelow, Rises}
-use Rattle.tsdb_state.specs.Places.{Content, Place}
+use Rattle.tsdb_state.specs.Places.{Content, PointPlace}
 use Rattle.tsdb_marks.specs.declared.marks.Mark.{Mark}
 use Rattle.tsdb_state.proofs.OtherJobs.{inputs_listed}
 use Rattle.tsdb_state.proofs.Typed.{AreTyped}
@@ -17,13 +17,13 @@ use Rattle.tsdb_state.specs.Jobs.{CompactionsInOrder, Describes, EntriesMatch, H
 use Rattle.tsdb_state.specs.Jobs.{Stands, job_inputs}
 use Rattle.tsdb_state.specs.NewStore.{opened}
 use Rattle.tsdb_state.specs.Order.{DoubtInOrder, IsInOrder}
-use Rattle.tsdb_state.specs.State.{Compaction, EngineState, Entries, File, StoreState, Told}
+use Rattle.tsdb_state.specs.State.{Compaction, EngineState, KnownFiles, File, StoreState, ToldContents}
 use Rattle.tsdb_state.specs.StoreOrder.{LateIsBelow, StoreInOrder}
 use Rattle.tsdb_state.specs.Views.{file_layers, pair_layers, sequence_layer, unsequence_layer}
-use Rattle.tsdb_state.specs.Worlds.{value_of}
+use Rattle.tsdb_state.specs.Worlds.{value_at_place}
 use Rattle.tsdb_state.proofs.EngineRecords.{jobs_moved}
 
-module _ (told other : Told) where
+module _ (told other : ToldContents) where
   abbrev Same : File → Type 0
   Same file = told file.number ≡ other file.number
 
@@ -38,7 +38,7 @@ module _ (told other : Told) where
     late_same : file_layers told state.unsequence ≡ file_layers other state.unsequence
     late_same = layers_same _ unsequence
 
-    pub value_same : (place : Place) → value_of told state place ≡ value_of other state place
+    pub value_same : (place : PointPlace) → value_at_place told state place ≡ value_at_place other state place
     value_same place = λ i. value_in state.marks place ((files_same i ++
         (map sequence_layer state.frozen ++ sequence_layer (record { born = state.stamp; pair = state.working }) ∷ []))
         ++ (late_same i ++ (map unsequence_layer state.frozen ++ unsequence_layer
@@ -115,7 +115,7 @@ module _ (told other : Told) where
       marked_same _ _ _ (listed_same _ (inputs_listed _ _ _ _ _ kind stands)) marked,
     )) order
 
-pub entries_same : (told other : Told) (known entries : Entries) (files : List File)
+pub entries_same : (told other : ToldContents) (known entries : KnownFiles) (files : List File)
     → Each (λ file. told file.number ≡ other file.number) files
     → Each (λ file. known file.number ≡ entries file.number) files
     → EntriesMatch told known files → EntriesMatch other entries files
@@ -125,7 +125,7 @@ entries_same told other known entries (file ∷ files) same kept match = (
   entries_same told other known entries files same.1 kept.1 match.1,
 )
 
-pub order_same : (told other : Told) (known entries : Entries) (named : List ℕ) (state : EngineState)
+pub order_same : (told other : ToldContents) (known entries : KnownFiles) (named : List ℕ) (state : EngineState)
     → IsInOrder told known named state → state.doubt ≡ None
     → Each (λ file. told file.number ≡ other file.number) (state.store.sequence ++ state.store.unsequence)
     → Each (λ file. known file.number ≡ entries file.number) (state.store.sequence ++ state.store.unsequence)
@@ -147,7 +147,7 @@ order_same told other known entries named state order settled same kept =
     }
 
 -- an engine with nothing out
-pub opened_in_order : (told : Told) (known : Entries) (named : List ℕ) (next : ℕ) (state : StoreState)
+pub opened_in_order : (told : ToldContents) (known : KnownFiles) (named : List ℕ) (next : ℕ) (state : StoreState)
     → StoreInOrder told state
     → NumbersInOrder named next ((state.sequence ++ state.unsequence) ++ []) []
     → EntriesMatch told known (state.sequence ++ state.unsequence) → IsInOrder told known named (opened next state)

@@ -5,15 +5,15 @@ use Rattle.tsdb_base.specs.declared.value.Value.{Value}
 use Rattle.tsdb_state.proofs.LayerLemmas.Rising.{IsPartOf, before_each, before_part, part_append, part_itself, part_left}
 use Rattle.tsdb_state.proofs.LayerLemmas.Values.{has_cases, has_left, has_right}
 use Rattle.tsdb_state.specs.Layers.{HasPoint, Layer}
-use Rattle.tsdb_state.specs.Places.{Place}
-use Rattle.tsdb_state.specs.State.{FrozenPair, SeriesEntry}
+use Rattle.tsdb_state.specs.Places.{PointPlace}
+use Rattle.tsdb_state.specs.State.{FrozenContent, SeriesEntry}
 use Rattle.tsdb_state.specs.StoreOrder.{IsOfSeries, LateIsBelow}
 use Rattle.tsdb_state.specs.Views.{sequence_layer, unsequence_layer}
 use Rattle.tsdb_state.specs.LayerOrder.{IsBeforeInTime}
 
 abbrev pub AreTyped : List SeriesEntry → List Layer → Type 0
 AreTyped schemas layers =
-    (place : Place) (value : Value) → HasPoint layers place value → IsOfSeries schemas place.path (type_of value)
+    (place : PointPlace) (value : Value) → HasPoint layers place value → IsOfSeries schemas place.path (type_of value)
 
 pub typed_append : (schemas : List SeriesEntry) (xs ys : List Layer) → AreTyped schemas xs → AreTyped schemas ys
     → AreTyped schemas (xs ++ ys)
@@ -27,7 +27,7 @@ pub typed_right : (schemas : List SeriesEntry) (xs ys : List Layer) → AreTyped
 typed_right schemas xs ys all place value has = all place value (has_right xs ys place value has)
 
 -- fewer late layers
-pub late_part : (xs ys : List Layer) (pairs : List FrozenPair) → IsPartOf xs ys → LateIsBelow ys pairs
+pub late_part : (xs ys : List Layer) (pairs : List FrozenContent) → IsPartOf xs ys → LateIsBelow ys pairs
     → LateIsBelow xs pairs
 late_part xs ys [] part below = tt
 late_part xs ys (pair ∷ pairs) part below =
@@ -38,7 +38,7 @@ late_part xs ys (pair ∷ pairs) part below =
     )
 
 -- late layers are before all frozen sequence parts
-pub late_before : (late : List Layer) (pairs : List FrozenPair) → LateIsBelow late pairs
+pub late_before : (late : List Layer) (pairs : List FrozenContent) → LateIsBelow late pairs
     → IsBeforeInTime late (map sequence_layer pairs)
 late_before late [] below = λ p q v w a b same. absurd b
 late_before late (pair ∷ pairs) below =

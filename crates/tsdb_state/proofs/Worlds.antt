@@ -13,8 +13,8 @@ use Rattle.tsdb_base.specs.declared.value.DataType.{DataType}
 use Rattle.tsdb_base.specs.declared.value.Value.{Value}
 use Rattle.tsdb_state.proofs.LayerLemmas.JobMarks.{none_by}
 use Rattle.tsdb_state.proofs.LayerLemmas.Places.{is_path_same}
-use Rattle.tsdb_state.specs.Places.{Place, is_path, is_within, place_cmp}
-use Rattle.tsdb_model.specs.World.{Series, World, change, change_series, cut, is_in, points_of, put, value_at}
+use Rattle.tsdb_state.specs.Places.{PointPlace, is_path, is_within, place_cmp}
+use Rattle.tsdb_model.specs.World.{Series, World, change, change_series, cut, is_in, points_of_series, put, value_at}
 
 abbrev pub type_in : Option Series → Option DataType
 type_in found = option_map (λ (s : Series). s.data_type) found
@@ -36,7 +36,7 @@ change_type world path q f same = by (get world path) refl
     by (Some s) found = ap type_in (get-insert nat_list_cmp_total world path (f s) q) ∙ at s (is_path q path) found refl
 
 -- whether two places are one, by path and time
-pub place_test : (q place : Place) → eq_by_cmp place_cmp q place
+pub place_test : (q place : PointPlace) → eq_by_cmp place_cmp q place
     ≡ (is_path q.path place.path && eq_by_cmp int_cmp q.time place.time)
 unfolding place_cmp
 place_test q place = by (slice_cmp nat_cmp q.path place.path) (int_cmp q.time place.time)
@@ -47,25 +47,25 @@ place_test q place = by (slice_cmp nat_cmp q.path place.path) (int_cmp q.time pl
     by Greater s = refl
 
 -- a value that is put in a series that is there
-pub put_at : (world : World) (place q : Place) (value : Value) (s : Series) → get world place.path ≡ Some s
+pub put_at : (world : World) (place q : PointPlace) (value : Value) (s : Series) → get world place.path ≡ Some s
     → value_at (insert world place.path (put place.time value s)) q.path q.time
     ≡ cond (eq_by_cmp place_cmp q place) (Some value) (value_at world q.path q.time)
 put_at world place q value s found =
-    ap (λ o. get (points_of o) q.time) (get-insert nat_list_cmp_total world place.path (put place.time value s) q.path)
+    ap (λ o. get (points_of_series o) q.time) (get-insert nat_list_cmp_total world place.path (put place.time value s) q.path)
     ∙ by (is_path q.path place.path) refl
     ∙ ap (λ b. cond b (Some value) (value_at world q.path q.time)) (sym (place_test q _))
   where
     by : (b : Bool) → is_path q.path place.path ≡ b
-        → get (points_of (cond b (Some (put place.time value s)) (get world q.path))) q.time
+        → get (points_of_series (cond b (Some (put place.time value s)) (get world q.path))) q.time
         ≡ cond (b && eq_by_cmp int_cmp q.time place.time) (Some value) (value_at world q.path q.time)
     by true e =
         get-insert int_cmp_total s.points place.time value q.time
-        ∙ ap (λ o. cond (eq_by_cmp int_cmp q.time place.time) (Some value) (get (points_of o) q.time))
+        ∙ ap (λ o. cond (eq_by_cmp int_cmp q.time place.time) (Some value) (get (points_of_series o) q.time))
         (sym found ∙ ap (get world) (sym (is_path_same _ _ e)))
     by false e = refl
 
 -- a range that is cut
-pub cut_at : (world : World) (path : List ℕ) (range : Range) (q : Place)
+pub cut_at : (world : World) (path : List ℕ) (range : Range) (q : PointPlace)
     → value_at (change world path (cut range)) q.path q.time
     ≡ cond (is_within path range q) None (value_at world q.path q.time)
 cut_at world path range q = by (get world path) refl
@@ -80,20 +80,20 @@ cut_at world path range q = by (get world path) refl
     absent : (b : Bool) → get world path ≡ None → is_path path q.path ≡ b
         → value_at world q.path q.time ≡ cond (b && is_in range q.time) None (value_at world q.path q.time)
     absent true found e =
-        let none : value_at world q.path q.time ≡ None = ap (λ o. get (points_of o) q.time)
+        let none : value_at world q.path q.time ≡ None = ap (λ o. get (points_of_series o) q.time)
         (ap (get world) (sym (is_path_same _ _ e)) ∙ found)
         ∙ get-empty int_cmp q.time in
         none ∙ none_by (is_in range q.time) ∙ ap (cond (is_in range q.time) None) (sym none)
     absent false found e = refl
 
     there : (s : Series) (b : Bool) → get world path ≡ Some s → is_path path q.path ≡ b
-        → get (points_of (cond b (Some (cut range s)) (get world q.path))) q.time
+        → get (points_of_series (cond b (Some (cut range s)) (get world q.path))) q.time
         ≡ cond (b && is_in range q.time) None (value_at world q.path q.time)
     there s true found e =
         get-retain_keys s.points (λ time. not (is_in range time)) q.time
         (λ x t. ap (λ time. not (is_in range time)) (sym (int_cmp-IsAntisymmetric q.time x t)))
         ∙ turned (is_in range q.time) (get s.points q.time)
-        ∙ ap (λ o. cond (is_in range q.time) None (get (points_of o) q.time))
+        ∙ ap (λ o. cond (is_in range q.time) None (get (points_of_series o) q.time))
         (sym found ∙ ap (get world) (is_path_same _ _ e))
     there s false found e = refl
 
@@ -102,6 +102,6 @@ cut_at world path range q = by (get world path) refl
         ≡ cond (is_within path range q) None (value_at world q.path q.time)
     by None found = absent (is_path path q.path) found refl
     by (Some s) found =
-        ap (λ o. get (points_of o) q.time) (get-insert nat_list_cmp_total world path (cut range s) q.path)
-        ∙ ap (λ b. get (points_of (cond b (Some (cut range s)) (get world q.path))) q.time) (turn_path q.path path)
+        ap (λ o. get (points_of_series o) q.time) (get-insert nat_list_cmp_total world path (cut range s) q.path)
+        ∙ ap (λ b. get (points_of_series (cond b (Some (cut range s)) (get world q.path))) q.time) (turn_path q.path path)
         ∙ there s (is_path path q.path) found refl

@@ -4,7 +4,7 @@ use Rattle.std.specs.List.{All}
 use Rattle.tsdb_frames.specs.Slots.{BeginsWithPayload, IsPayload, open_records}
 use Rattle.tsdb_log.specs.Spelling.{IsRecord, spelling}
 use Rattle.tsdb_log.specs.declared.record.LogRecord.{LogRecord}
-use Rattle.tsdb_state.specs.Replays.{HasNoReplay, Replays, Steps}
+use Rattle.tsdb_state.specs.Replays.{HasNoReplay, Replays, RecordSteps}
 
 -- no whole record stands behind an open gate
 pub record IsTornRest (rest : List ℕ) : Type 0 where
@@ -13,7 +13,7 @@ pub record IsTornRest (rest : List ℕ) : Type 0 where
   pub broken : (payload after : List ℕ) → ¬ BeginsWithPayload behind payload after
 
 -- behind an open gate stands a whole record that cannot be read, or has no replay in this state
-pub record IsUnreplayable {S : Type 0} (steps : Steps S) (state : S) (rest : List ℕ) : Type 0 where
+pub record IsUnreplayable {S : Type 0} (steps : RecordSteps S) (state : S) (rest : List ℕ) : Type 0 where
   pub behind : List ℕ
   pub payload : List ℕ
   pub after : List ℕ
@@ -22,7 +22,7 @@ pub record IsUnreplayable {S : Type 0} (steps : Steps S) (state : S) (rest : Lis
   pub none : (item : LogRecord) → IsRecord item → payload ≡ spelling item → HasNoReplay steps item state
 
 -- The log is damaged at the gate of the first record that is torn, cannot be read, or has no replay.
-pub record IsDamagedAtGate {S : Type 0} (steps : Steps S) (at : ℕ) (bytes : List ℕ) : Type 0 where
+pub record IsDamagedAtGate {S : Type 0} (steps : RecordSteps S) (at : ℕ) (bytes : List ℕ) : Type 0 where
   pub items : List LogRecord
   pub state : S
   pub rest : List ℕ
@@ -34,5 +34,5 @@ pub record IsDamagedAtGate {S : Type 0} (steps : Steps S) (at : ℕ) (bytes : Li
   pub broken : IsTornRest rest ⊎ IsUnreplayable steps state rest
 
 -- a log is damaged at a gate, or at 0 where the slot is empty
-abbrev pub IsDamaged : {S : Type 0} → Steps S → ℕ → List ℕ → Type 0
+abbrev pub IsDamaged : {S : Type 0} → RecordSteps S → ℕ → List ℕ → Type 0
 IsDamaged steps at bytes = IsDamagedAtGate steps at bytes ⊎ ((at ≡ 0) × (bytes ≡ []))

@@ -3,7 +3,7 @@ use Rattle.std.specs.Prelude.{◌≡◌, ◌⊎◌, ℕ, ◌+◌, ◌≤◌, ℤ
 use Rattle.std.specs.FinMap.{empty, entries, len}
 use Rattle.tsdb_base.specs.declared.value.Value.{Value}
 use Rattle.tsdb_state.specs.Layers.{HasPoint}
-use Rattle.tsdb_state.specs.Places.{Content, Place}
+use Rattle.tsdb_state.specs.Places.{Content, PointPlace}
 use Rattle.tsdb_memtable.specs.Points.{value_bytes}
 use Rattle.tsdb_path.specs.Nodes.{device_of}
 use Rattle.tsdb_base.specs.Limits.{max_pair_bytes, max_pair_points}
@@ -24,21 +24,21 @@ point_count pair = len pair.sequence + len pair.unsequence
 abbrev pub content_bytes : Content → ℕ
 content_bytes content = sum_by (λ entry. 8 + value_bytes entry.1) (entries content)
 
-abbrev pub byte_count : PairContent → ℕ
-byte_count pair = content_bytes pair.sequence + content_bytes pair.unsequence
+abbrev pub content_byte_count : PairContent → ℕ
+content_byte_count pair = content_bytes pair.sequence + content_bytes pair.unsequence
 
 -- the points are what is left of one row, which is of one device, at one time
 pub record IsOneRow (pair : PairContent) : Type 0 where
   pub device : List ℕ
   pub time : ℤ
-  pub points : (place : Place) (value : Value) → HasPoint (pair_layers pair) place value
+  pub points : (place : PointPlace) (value : Value) → HasPoint (pair_layers pair) place value
       → (device_of place.path ≡ device) × (place.time ≡ time)
 
 -- within the limits of a pair of several rows
-pub record IsWithinLimits (pair : PairContent) : Type 0 where
+pub record IsPairWithinLimits (pair : PairContent) : Type 0 where
   pub points : point_count pair ≤ max_pair_points
-  pub bytes : byte_count pair ≤ max_pair_bytes
+  pub bytes : content_byte_count pair ≤ max_pair_bytes
 
 -- the pair has one row at most, or is within the limits
 abbrev pub IsWithinPairLimit : PairContent → Type 0
-IsWithinPairLimit pair = IsEmptyPair pair ⊎ (IsOneRow pair ⊎ IsWithinLimits pair)
+IsWithinPairLimit pair = IsEmptyPair pair ⊎ (IsOneRow pair ⊎ IsPairWithinLimits pair)

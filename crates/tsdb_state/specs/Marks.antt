@@ -2,19 +2,19 @@
 use Rattle.std.specs.Prelude.{ℕ, Bool, true, ◌&&◌, not, int_le, nat_le, nat_lt, List, [], ◌∷◌}
 use Rattle.std.specs.List.{filter, list_any}
 use Rattle.tsdb_marks.specs.declared.marks.Mark.{Mark}
-use Rattle.tsdb_state.specs.Places.{Place, is_path}
+use Rattle.tsdb_state.specs.Places.{PointPlace, is_path}
 
 -- whether the mark is of the place's series, and over its time
-abbrev pub is_over : Mark → Place → Bool
+abbrev pub is_over : Mark → PointPlace → Bool
 is_over mark place = is_path mark.path place.path && (int_le mark.from place.time && int_le place.time mark.to)
 
 -- whether no mark over the place has a version that passes the test
-abbrev pub is_clear : (ℕ → Bool) → List Mark → Place → Bool
+abbrev pub is_clear : (ℕ → Bool) → List Mark → PointPlace → Bool
 is_clear test [] place = true
 is_clear test (mark ∷ marks) place = not (is_over mark place && test mark.version.0) && is_clear test marks place
 
 -- whether a point that was born so survives at the place: no mark over it is newer
-abbrev pub survives : List Mark → Place → ℕ → Bool
+abbrev pub survives : List Mark → PointPlace → ℕ → Bool
 survives marks place born = is_clear (nat_lt born) marks place
 
 -- the marks whose version is at most this

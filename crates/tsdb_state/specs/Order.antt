@@ -7,16 +7,16 @@ use Rattle.tsdb_state.specs.Jobs.{CompactionsInOrder, EntriesMatch, IsFlushOut, 
 use Rattle.tsdb_state.specs.Jobs.{drawn_numbers, held_numbers}
 use Rattle.tsdb_base.specs.Lists.{Among}
 use Rattle.tsdb_state.specs.Records.{CanFollow, after, names, numbers_of}
-use Rattle.tsdb_state.specs.State.{EngineState, Entries, File, StoreState, Told}
+use Rattle.tsdb_state.specs.State.{EngineState, KnownFiles, File, StoreState, ToldContents}
 use Rattle.tsdb_state.specs.StoreOrder.{StoreInOrder}
 use Rattle.tsdb_state.specs.Worlds.{KeepsWorld}
 
 -- all files that are there: those of the two lists, and those on their way out
-abbrev pub files_of : EngineState → List File
-files_of state = (state.store.sequence ++ state.store.unsequence) ++ state.outgoing
+abbrev pub all_files : EngineState → List File
+all_files state = (state.store.sequence ++ state.store.unsequence) ++ state.outgoing
 
 -- a record that is no command keeps the world
-abbrev pub FollowsWorld : Told → LogRecord → StoreState → Type 0
+abbrev pub FollowsWorld : ToldContents → LogRecord → StoreState → Type 0
 FollowsWorld told (Create path data_type encoding) state = ⊤
 FollowsWorld told (Insert time cells) state = ⊤
 FollowsWorld told (Delete path range) state = ⊤
@@ -28,7 +28,8 @@ FollowsWorld told (Replaced born space place output sequence unsequence) state =
 FollowsWorld told (Snapshot snapshot) state = KeepsWorld told state (after (Snapshot snapshot) state)
 
 -- a record in doubt can follow, and leads to a store in order, whose new files are on their way out until it is settled
-pub record DoubtInOrder (told : Told) (named : List ℕ) (state : StoreState) (outgoing : List File) (item : LogRecord)
+pub record DoubtInOrder (told : ToldContents) (named : List ℕ) (state : StoreState) (outgoing : List File)
+    (item : LogRecord)
     : Type 0 where
   pub can : CanFollow named item state
   pub order : StoreInOrder told (after item state)
@@ -37,13 +38,13 @@ pub record DoubtInOrder (told : Told) (named : List ℕ) (state : StoreState) (o
 
 -- a state is in order, where files have what is told, what is kept of them is known, and records have named these
 -- numbers
-pub record IsInOrder (told : Told) (known : Entries) (named : List ℕ) (state : EngineState) : Type 0 where
+pub record IsInOrder (told : ToldContents) (known : KnownFiles) (named : List ℕ) (state : EngineState) : Type 0 where
   pub store : StoreInOrder told state.store
   pub flushes : Each (IsFlushOut state.store.stamp state.store.frozen state.store.working) state.flushes
   pub compactions : CompactionsInOrder told state.store.stamp state.store.marks state.store.sequence
       state.store.unsequence state.compactions
-  pub numbers : NumbersInOrder named state.next_file (files_of state) (drawn_numbers state.flushes state.compactions)
+  pub numbers : NumbersInOrder named state.next_file (all_files state) (drawn_numbers state.flushes state.compactions)
   pub entries : EntriesMatch told known (state.store.sequence ++ state.store.unsequence)
-  pub rights : RightsMatch state.rights (files_of state) (held_numbers state.compactions state.pins)
+  pub rights : RightsMatch state.rights (all_files state) (held_numbers state.compactions state.pins)
   pub room : KeepsRoom state.room state.flushes state.compactions
   pub doubt : IfSome state.doubt (DoubtInOrder told named state.store state.outgoing)

@@ -9,12 +9,12 @@ use Rattle.tsdb_base.specs.declared.value.Value.{Value}
 use Rattle.tsdb_model.specs.World.{is_in}
 
 -- a series, by the bytes of its path, and a time
-pub record Place : Type 0 where
+pub record PointPlace : Type 0 where
   pub path : List ℕ
   pub time : ℤ
 
 -- the order of places: by path, and then by time
-unfoldable pub place_cmp : Place → Place → Ordering
+unfoldable pub place_cmp : PointPlace → PointPlace → Ordering
 place_cmp a b = ordering_then (slice_cmp nat_cmp a.path b.path) (int_cmp a.time b.time)
 
 -- a value at each of some places, of whatever series
@@ -26,13 +26,13 @@ abbrev pub is_path : List ℕ → List ℕ → Bool
 is_path path other = is_eq (slice_cmp nat_cmp path other)
 
 -- the content with this value at the place, instead of one that was there
-abbrev pub put : Place → Value → Content → Content
-put place value content = insert content place value
+abbrev pub put_content : PointPlace → Value → Content → Content
+put_content place value content = insert content place value
 
 -- whether the place is of the series, at a time in the range
-abbrev pub is_within : List ℕ → Range → Place → Bool
+abbrev pub is_within : List ℕ → Range → PointPlace → Bool
 is_within path range place = is_path path place.path && is_in range place.time
 
 -- the content without the points of the series in the range
-abbrev pub cut : List ℕ → Range → Content → Content
-cut path range content = retain_keys content (λ place. not (is_within path range place))
+abbrev pub cut_content : List ℕ → Range → Content → Content
+cut_content path range content = retain_keys content (λ place. not (is_within path range place))

@@ -6,10 +6,10 @@ use Rattle.tsdb_base.specs.Lists.{Among}
 use Rattle.tsdb_plan.specs.declared.entry.CrossRun.{CrossRun}
 use Rattle.tsdb_plan.specs.declared.entry.FileEntry.{FileEntry}
 use Rattle.tsdb_plan.specs.declared.entry.Run.{Run}
-use Rattle.tsdb_state.specs.State.{Compaction, Entries, File}
+use Rattle.tsdb_state.specs.State.{Compaction, KnownFiles, File}
 
 -- the entry of a listed file, for a plan
-abbrev pub file_entry : Entries → (File → Bool) → File → FileEntry
+abbrev pub file_entry : KnownFiles → (File → Bool) → File → FileEntry
 file_entry known claimed file = record {
   number = record { 0 = file.number };
   born = record { 0 = file.born };
@@ -19,7 +19,7 @@ file_entry known claimed file = record {
   claimed = claimed file;
 }
 
-abbrev pub file_entries : Entries → (File → Bool) → List File → List FileEntry
+abbrev pub file_entries : KnownFiles → (File → Bool) → List File → List FileEntry
 file_entries known claimed files = map (file_entry known claimed) files
 
 -- the late inputs of each job that is out are claimed

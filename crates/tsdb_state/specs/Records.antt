@@ -11,8 +11,8 @@ use Rattle.tsdb_base.specs.declared.ids.Space.TheVariants.{Sequence, Unsequence}
 use Rattle.tsdb_base.specs.declared.point.Range.{Range}
 use Rattle.tsdb_base.specs.declared.value.Value.{Value}
 use Rattle.tsdb_state.specs.Marks.{purge}
-use Rattle.tsdb_state.specs.LayerOrder.{Watermarks}
-use Rattle.tsdb_state.specs.Places.{Content, Place, cut, put}
+use Rattle.tsdb_state.specs.LayerOrder.{WatermarkMap}
+use Rattle.tsdb_state.specs.Places.{Content, PointPlace, cut_content, put_content}
 use Rattle.tsdb_log.specs.declared.record.CellRecord.{CellRecord}
 use Rattle.tsdb_log.specs.declared.record.LogRecord.{LogRecord}
 use Rattle.tsdb_log.specs.declared.record.LogRecord.TheVariants.{Create, Delete, Flushed, Freeze, Insert, Replaced, Snapshot}
@@ -24,7 +24,7 @@ use Rattle.tsdb_path.specs.Nodes.{device_of}
 use Rattle.tsdb_state.specs.Limit.{IsEmptyPair, empty_pair, point_count}
 use Rattle.tsdb_base.specs.Limits.{end_of_numbers, max_frozen, max_pair_points}
 use Rattle.tsdb_base.specs.Lists.{EachPair, count}
-use Rattle.tsdb_state.specs.State.{File, FrozenPair, PairContent, SeriesEntry, StoreState}
+use Rattle.tsdb_state.specs.State.{File, FrozenContent, PairContent, SeriesEntry, StoreState}
 use Rattle.tsdb_state.specs.Views.{borns_of, working_pair}
 use Rattle.tsdb_state.specs.Worlds.{type_at}
 
@@ -45,29 +45,29 @@ created schema state = record state {
 abbrev pub path_of : List SeriesEntry → ℕ → List ℕ
 path_of schemas number = unwrap_or (option_map (λ series. series.schema.path) (slice_get schemas number)) []
 
-abbrev pub put_in_space : Space → Place → Value → PairContent → PairContent
-put_in_space Sequence place value pair = record pair { sequence = put place value pair.sequence }
-put_in_space Unsequence place value pair = record pair { unsequence = put place value pair.unsequence }
+abbrev pub put_in_space : Space → PointPlace → Value → PairContent → PairContent
+put_in_space Sequence place value pair = record pair { sequence = put_content place value pair.sequence }
+put_in_space Unsequence place value pair = record pair { unsequence = put_content place value pair.unsequence }
 
 -- the value in the space that the watermark rule names for its place
-abbrev pub put_in_pair : Watermarks → Place → Value → PairContent → PairContent
+abbrev pub put_in_pair : WatermarkMap → PointPlace → Value → PairContent → PairContent
 put_in_pair watermarks place value pair =
     put_in_space (space_by (get watermarks (device_of place.path)) place.time) place value pair
 
-abbrev pub place_of : List SeriesEntry → ℤ → CellRecord → Place
-place_of schemas time cell = record { path = path_of schemas cell.series.0; time = time }
+abbrev pub cell_place : List SeriesEntry → ℤ → CellRecord → PointPlace
+cell_place schemas time cell = record { path = path_of schemas cell.series.0; time = time }
 
 -- each value of a row at its place
-abbrev pub put_cells : List SeriesEntry → Watermarks → ℤ → List CellRecord → PairContent → PairContent
-put_cells schemas watermarks time [] pair = pair
-put_cells schemas watermarks time (cell ∷ cells) pair = put_cells schemas watermarks time cells
-    (put_in_pair watermarks (place_of schemas time cell) cell.value pair)
+abbrev pub put_record_cells : List SeriesEntry → WatermarkMap → ℤ → List CellRecord → PairContent → PairContent
+put_record_cells schemas watermarks time [] pair = pair
+put_record_cells schemas watermarks time (cell ∷ cells) pair = put_record_cells schemas watermarks time cells
+    (put_in_pair watermarks (cell_place schemas time cell) cell.value pair)
 
 -- the row's values in the working pair
 abbrev pub inserted : ℤ → List CellRecord → StoreState → StoreState
 inserted time cells state = record state {
   stamp = state.stamp + 1;
-  working = put_cells state.schemas state.watermarks time cells state.working;
+  working = put_record_cells state.schemas state.watermarks time cells state.working;
 }
 
 -- the value is one of a series that is there, of this device
@@ -100,8 +100,8 @@ pub record CanDelete (path : List ℕ) (state : StoreState) : Type 0 where
 
 abbrev pub cut_pair : List ℕ → Range → PairContent → PairContent
 cut_pair path range pair = record {
-  sequence = cut path range pair.sequence;
-  unsequence = cut path range pair.unsequence;
+  sequence = cut_content path range pair.sequence;
+  unsequence = cut_content path range pair.unsequence;
 }
 
 -- the points in the range leave the working pair, and a mark covers those of files and frozen pairs
@@ -113,12 +113,12 @@ deleted path range state = purged (record state {
 })
 
 -- the watermark of the place's device, raised to its time
-abbrev pub raise_to : Place → Watermarks → Watermarks
+abbrev pub raise_to : PointPlace → WatermarkMap → WatermarkMap
 raise_to place watermarks =
     insert watermarks (device_of place.path)
     (unwrap_or (later_time (get watermarks (device_of place.path)) place.time) place.time)
 
-abbrev pub raise_all : List (Place × Value) → Watermarks → Watermarks
+abbrev pub raise_all : List (PointPlace × Value) → WatermarkMap → WatermarkMap
 raise_all [] watermarks = watermarks
 raise_all (point ∷ points) watermarks = raise_all points (raise_to point.0 watermarks)
 
@@ -156,15 +156,15 @@ IsNumberOf number content = (number ≡ 0 → content ≡ empty) × (number ≢ 
 
 -- FLUSHED: the oldest frozen pair
 pub record CanFlush (named : List ℕ) (sequence unsequence : ℕ) (state : StoreState) : Type 0 where
-  pub oldest : FrozenPair
-  pub newer : List FrozenPair
+  pub oldest : FrozenContent
+  pub newer : List FrozenContent
   pub are : state.frozen ≡ oldest ∷ newer
   pub sequence_part : IsNumberOf sequence oldest.pair.sequence
   pub unsequence_part : IsNumberOf unsequence oldest.pair.unsequence
   pub fresh : AreNew named (new_numbers (sequence ∷ unsequence ∷ []))
 
 -- its files go to the ends of their lists
-abbrev pub flush_oldest : ℕ → ℕ → List FrozenPair → StoreState → StoreState
+abbrev pub flush_oldest : ℕ → ℕ → List FrozenContent → StoreState → StoreState
 flush_oldest sequence unsequence [] state = state
 flush_oldest sequence unsequence (oldest ∷ newer) state = purged (record state {
   frozen = newer;

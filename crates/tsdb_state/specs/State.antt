@@ -4,7 +4,7 @@ use Rattle.std.specs.Prelude.{ℕ, Bool, List, Option}
 use Rattle.tsdb_base.specs.declared.ids.Space.{Space}
 use Rattle.tsdb_base.specs.declared.point.Range.{Range}
 use Rattle.tsdb_state.specs.Layers.{Layer}
-use Rattle.tsdb_state.specs.LayerOrder.{Watermarks}
+use Rattle.tsdb_state.specs.LayerOrder.{WatermarkMap}
 use Rattle.tsdb_state.specs.Places.{Content}
 use Rattle.tsdb_log.specs.declared.record.LogRecord.{LogRecord}
 use Rattle.tsdb_model.specs.declared.command.Schema.{Schema}
@@ -22,7 +22,7 @@ pub record PairContent : Type 0 where
   pub unsequence : Content
 
 -- a pair, and the stamp at its freeze
-pub record FrozenPair : Type 0 where
+pub record FrozenContent : Type 0 where
   pub born : ℕ
   pub pair : PairContent
 
@@ -32,34 +32,34 @@ pub record File : Type 0 where
   pub born : ℕ
 
 -- what the file of each number has
-abbrev pub Told : Type 0
-Told = ℕ → Content
+abbrev pub ToldContents : Type 0
+ToldContents = ℕ → Content
 
 -- what records give: the series by their numbers, the number of commands that were accepted, the watermarks, the marks
 -- by their versions, the frozen pairs from the oldest on, the pair that rows are put into, and the two lists of files
 pub record StoreState : Type 0 where
   pub schemas : List SeriesEntry
   pub stamp : ℕ
-  pub watermarks : Watermarks
+  pub watermarks : WatermarkMap
   pub marks : List Mark
-  pub frozen : List FrozenPair
+  pub frozen : List FrozenContent
   pub working : PairContent
   pub sequence : List File
   pub unsequence : List File
 
 -- what is kept of a file in memory: its length, its number of points, a hull for each device, and its series
-pub record Entry : Type 0 where
+pub record KnownFile : Type 0 where
   pub size : ℕ
   pub points : ℕ
   pub hulls : List Hull
   pub series : List (List ℕ)
 
 -- what is kept of the file of each number
-abbrev pub Entries : Type 0
-Entries = ℕ → Entry
+abbrev pub KnownFiles : Type 0
+KnownFiles = ℕ → KnownFile
 
 -- a flush that is out: the frozen pair that it writes, and the numbers drawn for its files
-pub record FlushJob : Type 0 where
+pub record FlushState : Type 0 where
   pub born : ℕ
   pub pair : PairContent
   pub sequence : Option ℕ
@@ -78,21 +78,21 @@ pub record Compaction : Type 0 where
   pub output : ℕ
 
 -- what a pin reads: a listed file, or a copy of points in memory
-pub data Source : Type 0 where
-  FromFile : File → Source
-  FromPart : Layer → Source
+pub data SourceState : Type 0 where
+  FromFile : File → SourceState
+  FromPart : Layer → SourceState
 
 -- a series of a pin, with its sources in the order of their priority
-pub record Column : Type 0 where
+pub record ColumnState : Type 0 where
   pub path : List ℕ
-  pub sources : List Source
+  pub sources : List SourceState
 
 -- a pin that is out: its stamp, its range, the marks of its series, and its columns
-pub record Pin : Type 0 where
+pub record PinState : Type 0 where
   pub stamp : ℕ
   pub range : Range
   pub marks : List Mark
-  pub columns : List Column
+  pub columns : List ColumnState
 
 -- the room kept for the ends of jobs: places in the two lists and among the files on their way out, and the bytes of
 -- the longest record
@@ -108,9 +108,9 @@ pub record EngineState : Type 0 where
   pub store : StoreState
   pub outgoing : List File
   pub next_file : ℕ
-  pub flushes : List FlushJob
+  pub flushes : List FlushState
   pub compactions : List Compaction
-  pub pins : List Pin
+  pub pins : List PinState
   pub rights : ℕ → ℕ
   pub room : Room
   pub doubt : Option LogRecord

@@ -16,7 +16,7 @@ use Rattle.tsdb_base.specs.declared.ids.FileNumber.{FileNumber}
 use Rattle.tsdb_base.specs.declared.ids.Space.TheVariants.{Sequence, Unsequence}
 use Rattle.tsdb_base.specs.declared.ids.Space.{Space}
 use Rattle.tsdb_state.specs.Layers.{survivor, value_in}
-use Rattle.tsdb_state.specs.Places.{Content, Place}
+use Rattle.tsdb_state.specs.Places.{Content, PointPlace}
 use Rattle.tsdb_log.specs.declared.record.LogRecord.{LogRecord}
 use Rattle.tsdb_log.specs.declared.record.LogRecord.TheVariants.{Flushed, Replaced}
 use Rattle.tsdb_model.specs.World.{World, is_in, value_at}
@@ -25,8 +25,8 @@ use Rattle.tsdb_state.specs.Jobs.{outgoing_places, output_places, pin_numbers, r
 use Rattle.tsdb_base.specs.Limits.{end_of_numbers}
 use Rattle.tsdb_base.specs.Lists.{Among, IsWithOne, count, if_some}
 use Rattle.tsdb_state.specs.Records.{after, names, numbers_of}
-use Rattle.tsdb_state.specs.State.{Compaction, EngineState, Entries, File, FlushJob, FrozenPair, Pin, Room}
-use Rattle.tsdb_state.specs.State.{Source, FromFile, FromPart, Told}
+use Rattle.tsdb_state.specs.State.{Compaction, EngineState, KnownFiles, File, FlushState, FrozenContent, PinState, Room}
+use Rattle.tsdb_state.specs.State.{SourceState, FromFile, FromPart, ToldContents}
 use Rattle.tsdb_state.specs.Views.{file_layer, file_layers}
 
 -- a record took effect
@@ -42,9 +42,9 @@ abbrev pub settled : EngineState → EngineState
 settled state = record state { doubt = None }
 
 -- TAKE A FLUSH: the oldest frozen pair, with the next numbers for its parts that have a point
-pub record TakesFlush (flush : FlushJob) (state : EngineState) : Type 0 where
-  pub oldest : FrozenPair
-  pub newer : List FrozenPair
+pub record TakesFlush (flush : FlushState) (state : EngineState) : Type 0 where
+  pub oldest : FrozenContent
+  pub newer : List FrozenContent
   pub are : state.store.frozen ≡ oldest ∷ newer
   pub born : flush.born ≡ oldest.born
   pub pair : flush.pair ≡ oldest.pair
@@ -53,31 +53,31 @@ pub record TakesFlush (flush : FlushJob) (state : EngineState) : Type 0 where
   pub numbers : drawn_by flush ≡ range_with_len state.next_file (length (drawn_by flush))
   pub left : state.next_file + 2 ≤ end_of_numbers
 
-abbrev pub flush_room : (ℕ → ℕ → ℕ) → FlushJob → Room → Room
-flush_room change flush room = record {
+abbrev pub room_for_flush : (ℕ → ℕ → ℕ) → FlushState → Room → Room
+room_for_flush change flush room = record {
   sequence = change room.sequence (length (if_some flush.sequence));
   unsequence = change room.unsequence (length (if_some flush.unsequence));
   outgoing = change room.outgoing (length (drawn_by flush));
   record_bytes = max flushed_bytes room.record_bytes;
 }
 
-abbrev pub took_flush : FlushJob → EngineState → EngineState
+abbrev pub took_flush : FlushState → EngineState → EngineState
 took_flush flush state = record state {
   flushes = flush ∷ state.flushes;
   next_file = state.next_file + length (drawn_by flush);
-  room = flush_room (λ a b. a + b) flush state.room;
+  room = room_for_flush (λ a b. a + b) flush state.room;
 }
 
 -- the flush ends, and these files of its numbers go out
-abbrev pub ended_flush : FlushJob → List FlushJob → List File → EngineState → EngineState
+abbrev pub ended_flush : FlushState → List FlushState → List File → EngineState → EngineState
 ended_flush flush others built state = record state {
   flushes = others;
   outgoing = state.outgoing ++ built;
-  room = flush_room (λ a b. a - b) flush state.room;
+  room = room_for_flush (λ a b. a - b) flush state.room;
 }
 
 -- END A FLUSH without its record: it was given up, its pair is frozen no longer, or its append failed
-pub record EndsFlush (flush : FlushJob) (others : List FlushJob) (built : List File) (state : EngineState)
+pub record EndsFlush (flush : FlushState) (others : List FlushState) (built : List File) (state : EngineState)
     : Type 0 where
   pub out : IsWithOne flush others state.flushes
   pub files : (number : ℕ) → count number (numbers_of built) ≤ count number (drawn_by flush)
@@ -87,43 +87,43 @@ abbrev pub number_or_none : Option ℕ → FileNumber
 number_or_none None = record { 0 = 0 }
 number_or_none (Some number) = record { 0 = number }
 
-abbrev pub flush_record : FlushJob → LogRecord
+abbrev pub flush_record : FlushState → LogRecord
 flush_record flush = Flushed (number_or_none flush.sequence) (number_or_none flush.unsequence)
 
 -- the files of these numbers have the content, and what is kept of them says so
-abbrev pub IsBuilt : Told → Entries → Option ℕ → Content → Type 0
+abbrev pub IsBuilt : ToldContents → KnownFiles → Option ℕ → Content → Type 0
 IsBuilt told entries number content =
     IfSome number (λ number. (told number ≡ content) × Describes (entries number) content)
 
 -- COMMIT A FLUSH: its pair is the oldest frozen one, and the files of its numbers have the pair's parts
-pub record CommitsFlush (told : Told) (entries : Entries) (flush : FlushJob) (others : List FlushJob)
+pub record CommitsFlush (told : ToldContents) (entries : KnownFiles) (flush : FlushState) (others : List FlushState)
     (state : EngineState)
     : Type 0 where
   pub out : IsWithOne flush others state.flushes
-  pub oldest : FrozenPair
-  pub newer : List FrozenPair
+  pub oldest : FrozenContent
+  pub newer : List FrozenContent
   pub are : state.store.frozen ≡ oldest ∷ newer
   pub born : oldest.born ≡ flush.born
   pub sequence : IsBuilt told entries flush.sequence flush.pair.sequence
   pub unsequence : IsBuilt told entries flush.unsequence flush.pair.unsequence
 
-abbrev pub committed_flush : FlushJob → List FlushJob → EngineState → EngineState
+abbrev pub committed_flush : FlushState → List FlushState → EngineState → EngineState
 committed_flush flush others state = wrote (flush_record flush) (ended_flush flush others [] state)
 
 -- BEGIN A COMPACTION: its inputs stand as its kind asks, no other job has them, and its marks are those of now wherever
 -- an input has a point
-pub record Begins (told : Told) (job : Compaction) (state : EngineState) : Type 0 where
+pub record Begins (told : ToldContents) (job : Compaction) (state : EngineState) : Type 0 where
   pub kind : HasKind job.space job
   pub stand : Stands job.space told state.store.sequence state.store.unsequence job
   pub apart : Each (AreApart job) state.compactions
   pub born : job.born ≡ state.store.stamp
-  pub marks : (place : Place) → Each (λ file. survivor job.marks place (file_layer told file)
+  pub marks : (place : PointPlace) → Each (λ file. survivor job.marks place (file_layer told file)
       ≡ survivor state.store.marks place (file_layer told file)) (job_inputs job)
   pub output : job.output ≡ state.next_file
   pub left : state.next_file + 2 ≤ end_of_numbers
 
-abbrev pub compaction_room : (ℕ → ℕ → ℕ) → Compaction → Room → Room
-compaction_room change job room = record {
+abbrev pub room_for_compaction : (ℕ → ℕ → ℕ) → Compaction → Room → Room
+room_for_compaction change job room = record {
   sequence = change room.sequence (output_places Sequence job.space);
   unsequence = change room.unsequence (output_places Unsequence job.space);
   outgoing = change room.outgoing (outgoing_places job);
@@ -142,7 +142,7 @@ began job state = record state {
   compactions = job ∷ state.compactions;
   next_file = state.next_file + 1;
   rights = with_rights (numbers_of (job_inputs job)) state.rights;
-  room = compaction_room (λ a b. a + b) job state.room;
+  room = room_for_compaction (λ a b. a + b) job state.room;
 }
 
 -- the job ends, its rights are given back, and these files go out
@@ -151,7 +151,7 @@ ended job others files state = record state {
   compactions = others;
   outgoing = state.outgoing ++ files;
   rights = without_rights (numbers_of (job_inputs job)) state.rights;
-  room = compaction_room (λ a b. a - b) job state.room;
+  room = room_for_compaction (λ a b. a - b) job state.room;
 }
 
 -- END A COMPACTION without its record: it was given up, or its append failed; its output goes out, where there is one
@@ -161,8 +161,8 @@ pub record EndsCompaction (job : Compaction) (others : List Compaction) (built :
   pub files : (number : ℕ) → count number (numbers_of built) ≤ count number (job.output ∷ [])
 
 -- the output of a job: at each place the value of the last input with a point that survives the marks at the beginning
-abbrev pub IsOutput : Told → Compaction → List File → Type 0
-IsOutput told job output = (place : Place)
+abbrev pub IsOutput : ToldContents → Compaction → List File → Type 0
+IsOutput told job output = (place : PointPlace)
     → value_in [] place (file_layers told output) ≡ value_in job.marks place (file_layers told (job_inputs job))
 
 -- the place of an output in its list: of a sequence output the job's, of another one that of the first input
@@ -172,7 +172,7 @@ IsOutputPlace Unsequence job state place =
     (run : IsRun job.unsequence state.unsequence) × (place ≡ length run.before)
 
 -- COMMIT A COMPACTION: its output is a file of its number, or none where there is no point
-pub record CommitsCompaction (told : Told) (entries : Entries) (job : Compaction) (others : List Compaction)
+pub record CommitsCompaction (told : ToldContents) (entries : KnownFiles) (job : Compaction) (others : List Compaction)
     (output : List File) (place : ℕ) (state : EngineState)
     : Type 0 where
   pub out : IsWithOne job others state.compactions
@@ -209,23 +209,23 @@ committed job others output place state =
     wrote (compaction_record job output place) (ended job others (job_inputs job) state)
 
 -- the file has points of the series
-abbrev pub has_series : Entries → List ℕ → File → Bool
+abbrev pub has_series : KnownFiles → List ℕ → File → Bool
 has_series entries path file = list_any (is_path path) (entries file.number).series
 
 -- what a pin reads of files, and of parts in memory: copies of the points of a series in a range, where there are some
-abbrev pub file_sources : Entries → List ℕ → List File → List Source
+abbrev pub file_sources : KnownFiles → List ℕ → List File → List SourceState
 file_sources entries path files = map FromFile (filter (has_series entries path) files)
 
 abbrev pub part_within : List ℕ → Range → Layer → Layer
 part_within path range layer = record layer { content = retain_keys layer.content (is_within path range) }
 
-abbrev pub part_sources : List ℕ → Range → List Layer → List Source
+abbrev pub part_sources : List ℕ → Range → List Layer → List SourceState
 part_sources path range layers =
     map (λ layer. FromPart (part_within path range layer))
     (filter (λ layer. nat_lt 0 (len (retain_keys layer.content (is_within path range)))) layers)
 
 -- the sources of a series in the range, in the order of their priority
-abbrev pub sources_of : Entries → StoreState → List ℕ → Range → List Source
+abbrev pub sources_of : KnownFiles → StoreState → List ℕ → Range → List SourceState
 sources_of entries state path range =
     (file_sources entries path state.sequence
     ++ part_sources path range (map sequence_layer (state.frozen ++ working_pair state ∷ [])))
@@ -233,33 +233,33 @@ sources_of entries state path range =
     ++ part_sources path range (map unsequence_layer (state.frozen ++ working_pair state ∷ [])))
 
 -- PIN: all sources of each column, and the marks of their series
-pub record TakesPin (entries : Entries) (pin : Pin) (state : EngineState) : Type 0 where
+pub record TakesPin (entries : KnownFiles) (pin : PinState) (state : EngineState) : Type 0 where
   pub stamp : pin.stamp ≡ state.store.stamp
   pub marks : Each (λ column. (time : ℤ) (born : ℕ)
       → survives pin.marks (record { path = column.path; time = time }) born
       ≡ survives state.store.marks (record { path = column.path; time = time }) born) pin.columns
   pub columns : Each (λ column. column.sources ≡ sources_of entries state.store column.path pin.range) pin.columns
 
-abbrev pub pinned : Pin → EngineState → EngineState
+abbrev pub pinned : PinState → EngineState → EngineState
 pinned pin state = record state {
   pins = pin ∷ state.pins;
   rights = with_rights (pin_numbers pin) state.rights;
 }
 
 -- the layer that a source reads
-abbrev pub source_layer : Told → Source → Layer
+abbrev pub source_layer : ToldContents → SourceState → Layer
 source_layer told (FromFile file) = file_layer told file
 source_layer told (FromPart layer) = layer
 
 -- the pin has the world's value at each time of its range, whatever has become of the state
-abbrev pub PinStandsFor : Told → Pin → World → Type 0
+abbrev pub PinStandsFor : ToldContents → PinState → World → Type 0
 PinStandsFor told pin world = Each (λ column. (time : ℤ) → is_in pin.range time ≡ true
     → value_at world column.path time
     ≡ value_in pin.marks (record { path = column.path; time = time }) (map (source_layer told) column.sources))
     pin.columns
 
 -- UNPIN: its rights are given back
-abbrev pub unpinned : Pin → List Pin → EngineState → EngineState
+abbrev pub unpinned : PinState → List PinState → EngineState → EngineState
 unpinned pin others state = record state {
   pins = others;
   rights = without_rights (pin_numbers pin) state.rights;

@@ -10,35 +10,35 @@ use Rattle.tsdb_outside.specs.Disk.{Image, in_slot}
 use Rattle.tsdb_outside.specs.Files.{StoredFile}
 use Rattle.tsdb_outside.specs.declared.disk.Slot.{Slot}
 use Rattle.tsdb_state.specs.Replays.{Replays}
-use Rattle.tsdb_state.specs.Stores.{Files, HoldsKept, IsStateOf, IsWhole, StandsForOneOf, store_steps}
+use Rattle.tsdb_state.specs.Stores.{BytesByNumber, HoldsKept, IsStateOf, IsWhole, StandsForOneOf, store_steps}
 use Rattle.tsdb_state.specs.Jobs.{drawn_by}
-use Rattle.tsdb_state.specs.Order.{IsInOrder, files_of}
+use Rattle.tsdb_state.specs.Order.{IsInOrder, all_files}
 use Rattle.tsdb_state.specs.Records.{after, numbers_of}
-use Rattle.tsdb_state.specs.State.{EngineState, Entries, File, FlushJob, StoreState, Told}
+use Rattle.tsdb_state.specs.State.{EngineState, KnownFiles, File, FlushState, StoreState, ToldContents}
 
 -- the bytes of the kept file of each number
-abbrev pub kept_bytes : List StoredFile → Files
+abbrev pub kept_bytes : List StoredFile → BytesByNumber
 kept_bytes kept number =
     option_map (λ (file : StoredFile). file.bytes) (find (λ (file : StoredFile). nat_eq file.number number) kept)
 
 -- the file is kept, and its bytes are those of a tree with the points that are told
-abbrev pub IsKeptWhole : List StoredFile → Told → File → Type 0
+abbrev pub IsKeptWhole : List StoredFile → ToldContents → File → Type 0
 IsKeptWhole kept told file = IsWhole (kept_bytes kept) told file
 
 -- The engine is stored: the acknowledged records lead to its store, it is in order, and each of its files is kept, those
 -- on their way out too.
-pub record IsStored (items : List LogRecord) (kept : List StoredFile) (told : Told) (known : Entries)
+pub record IsStored (items : List LogRecord) (kept : List StoredFile) (told : ToldContents) (known : KnownFiles)
     (state : EngineState)
     : Type 0 where
   pub named : List ℕ
   pub good : All IsRecord items
   pub replayed : Replays store_steps store_steps.new_store items (record { named = named; store = state.store })
   pub order : IsInOrder told known named state
-  pub whole : Each (IsKeptWhole kept told) (files_of state)
+  pub whole : Each (IsKeptWhole kept told) (all_files state)
   pub doubt : IfSome state.doubt IsRecord
 
 -- the store after the record in doubt, if there is one, is in the next state
-abbrev pub LeadsTo : Told → StoreState → Option LogRecord → Option plain.State → Type 0
+abbrev pub LeadsTo : ToldContents → StoreState → Option LogRecord → Option plain.State → Type 0
 LeadsTo told store None None = ⊤
 LeadsTo told store None (Some next) = ⊥
 LeadsTo told store (Some item) None = ⊥
@@ -48,10 +48,10 @@ LeadsTo told store (Some item) (Some next) = IsStateOf told (after item store) n
 -- next one, if there is one.
 abbrev pub LeavesOneOf : List StoredFile → Slot → plain.State → Option plain.State → Image → Type 0
 LeavesOneOf kept slot at next image =
-    (files : Files) → HoldsKept kept files → StandsForOneOf files (in_slot slot image) at next
+    (files : BytesByNumber) → HoldsKept kept files → StandsForOneOf files (in_slot slot image) at next
 
 -- the files that a flush has built, one for each number that it has drawn
-abbrev pub built_files : FlushJob → List File
+abbrev pub built_files : FlushState → List File
 built_files flush = map (λ number. record { number = number; born = flush.born }) (drawn_by flush)
 
 -- the kept files but those of these numbers

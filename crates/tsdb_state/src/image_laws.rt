@@ -14,12 +14,12 @@ ghost use Rattle.tsdb_outside.specs.Disk.{Image, in_slot};
 ghost use Rattle.tsdb_outside.specs.Files.{StoredFile};
 ghost use Rattle.tsdb_outside.specs.declared.disk.Slot.{Slot};
 ghost use Rattle.tsdb_state.specs.Replays.{Replays};
-ghost use Rattle.tsdb_state.specs.Stores.{Files, HoldsKept, IsSound, IsStateOf, Recorded, store_steps};
+ghost use Rattle.tsdb_state.specs.Stores.{BytesByNumber, HoldsKept, IsSound, IsStateOf, Recorded, store_steps};
 ghost use Rattle.tsdb_state.specs.Jobs.{EntriesMatch, NumbersInOrder};
 ghost use Rattle.tsdb_base.specs.Limits.{end_of_numbers};
 ghost use Rattle.tsdb_state.specs.NewStore.{opened};
-ghost use Rattle.tsdb_state.specs.Order.{files_of};
-ghost use Rattle.tsdb_state.specs.State.{EngineState, Entries, Told};
+ghost use Rattle.tsdb_state.specs.Order.{all_files};
+ghost use Rattle.tsdb_state.specs.State.{EngineState, KnownFiles, ToldContents};
 ghost use Rattle.tsdb_state.specs.StoreOrder.{StoreInOrder};
 ghost use Rattle.tsdb_state.specs.Steps.{failed};
 
@@ -28,7 +28,8 @@ use tsdb_outside::Disk;
 /// Whatever a stop leaves of a stored engine stands for its state, or for that of the record in doubt, with whatever
 /// files hold the kept ones.
 pub fn a_stop_leaves_one_of_two_states<D: Disk>(_disk: &D)
-    ensures { (items : List LogRecord) (kept : List StoredFile) (told : Told) (known : Entries) (state : EngineState)
+    ensures { (items : List LogRecord) (kept : List StoredFile) (told : ToldContents) (known : KnownFiles)
+        (state : EngineState)
         (at : plain.State) (next : Option plain.State) (slot : Slot) (gate : ℕ) (image : Image)
         → IsStored items kept told known state → IsStateOf told state.store at
         → LeadsTo told state.store state.doubt next
@@ -39,7 +40,7 @@ pub fn a_stop_leaves_one_of_two_states<D: Disk>(_disk: &D)
 /// At each moment of an append a stop leaves the state, or that of the record that was in doubt, or that of the record
 /// that is appended. `state` is the engine before it, `doubtful` the one that a failed append leaves.
 pub fn an_append_leaves_the_old_state_or_the_next<D: Disk>(_old: &D, _new: &D)
-    ensures { (items : List LogRecord) (kept : List StoredFile) (told : Told) (known : Entries)
+    ensures { (items : List LogRecord) (kept : List StoredFile) (told : ToldContents) (known : KnownFiles)
         (state doubtful : EngineState) (item : LogRecord) (at after : plain.State) (next : Option plain.State)
         (slot : Slot)
         → IsStored items kept told known state → IsStored items kept told known (failed item doubtful)
@@ -54,20 +55,20 @@ pub fn an_append_leaves_the_old_state_or_the_next<D: Disk>(_old: &D, _new: &D)
 
 /// What is kept besides the files of an engine is free: files that a caller has built, or that were swept.
 pub fn files_kept_besides_are_free()
-    ensures others { (items : List LogRecord) (kept others : List StoredFile) (told : Told) (known : Entries)
+    ensures others { (items : List LogRecord) (kept others : List StoredFile) (told : ToldContents) (known : KnownFiles)
         (state : EngineState) → IsStored items kept told known state
-        → AllByRecursion (λ file. kept_bytes others file.number ≡ kept_bytes kept file.number) (files_of state)
+        → AllByRecursion (λ file. kept_bytes others file.number ≡ kept_bytes kept file.number) (all_files state)
         → IsStored items others told known state }
-    ensures more { (items : List LogRecord) (kept more : List StoredFile) (told : Told) (known : Entries)
+    ensures more { (items : List LogRecord) (kept more : List StoredFile) (told : ToldContents) (known : KnownFiles)
         (state : EngineState) → IsStored items kept told known state → IsStored items (kept ++ more) told known state }
 {}
 
 /// What is told of a file that the engine does not have, and what is kept of it in memory, is free. Nothing may be in
 /// doubt then.
 pub fn what_is_told_of_other_files_is_free()
-    ensures { (items : List LogRecord) (kept : List StoredFile) (told other : Told) (known entries : Entries)
+    ensures { (items : List LogRecord) (kept : List StoredFile) (told other : ToldContents) (known entries : KnownFiles)
         (state : EngineState) → IsStored items kept told known state → state.doubt ≡ None
-        → AllByRecursion (λ file. told file.number ≡ other file.number) (files_of state)
+        → AllByRecursion (λ file. told file.number ≡ other file.number) (all_files state)
         → AllByRecursion (λ file. known file.number ≡ entries file.number)
         (state.store.sequence ++ state.store.unsequence)
         → IsStored items kept other entries state }
@@ -84,7 +85,8 @@ pub fn a_replay_has_its_numbers_in_order()
 
 /// An engine that was just opened over the replay of a log, in order and with its listed files kept, is stored.
 pub fn an_opened_engine_is_stored()
-    ensures { (items : List LogRecord) (kept : List StoredFile) (told : Told) (known : Entries) (recorded : Recorded)
+    ensures { (items : List LogRecord) (kept : List StoredFile) (told : ToldContents) (known : KnownFiles)
+        (recorded : Recorded)
         (next : ℕ) → All IsRecord items → Replays store_steps store_steps.new_store items recorded
         → StoreInOrder told recorded.store
         → AllByRecursion (IsKeptWhole kept told) (recorded.store.sequence ++ recorded.store.unsequence)
@@ -95,8 +97,9 @@ pub fn an_opened_engine_is_stored()
 
 /// A stored engine with nothing in doubt leaves a sound store, where its slot is settled.
 pub fn a_settled_engine_leaves_a_sound_store<D: Disk>(_disk: &D)
-    ensures { (items : List LogRecord) (kept : List StoredFile) (told : Told) (known : Entries) (state : EngineState)
-        (at : plain.State) (slot : Slot) (gate : ℕ) (files : Files)
+    ensures { (items : List LogRecord) (kept : List StoredFile) (told : ToldContents) (known : KnownFiles)
+        (state : EngineState)
+        (at : plain.State) (slot : Slot) (gate : ℕ) (files : BytesByNumber)
         → IsStored items kept told known state → state.doubt ≡ None → IsStateOf told state.store at
         → IsLogOn (D.state _disk.now) slot gate (map spelling items) None → IsSettled slot (D.state _disk.now)
         → HoldsKept kept files → IsSound slot (D.state _disk.now) files at }

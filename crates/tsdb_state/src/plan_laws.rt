@@ -10,18 +10,18 @@ ghost use Rattle.tsdb_plan.specs.declared.entry.Run.{Run};
 ghost use Rattle.tsdb_state.specs.Jobs.{AreApart, EntriesMatch, HasKind, Stands};
 ghost use Rattle.tsdb_state.specs.Plans.{ClaimLate, IsCrossJob, IsInnerSequenceJob, IsInnerUnsequenceJob};
 ghost use Rattle.tsdb_state.specs.Plans.{IsSequenceFree, file_entries};
-ghost use Rattle.tsdb_state.specs.State.{Compaction, Entries, File, Told};
+ghost use Rattle.tsdb_state.specs.State.{Compaction, KnownFiles, File, ToldContents};
 
 /// The files of a cross plan stand as a cross job asks: sequence files before the run have only times below those of
 /// the late files, and files behind it only times above them, by the hulls that are kept of them.
 pub fn a_cross_plan_has_its_gap()
-    ensures stands { (told : Told) (known : Entries) (early_claimed late_claimed : File → Bool)
+    ensures stands { (told : ToldContents) (known : KnownFiles) (early_claimed late_claimed : File → Bool)
         (sequence unsequence : List File) (run : CrossRun) (job : Compaction)
         → EntriesMatch told known (sequence ++ unsequence)
         → IsCrossPlan (file_entries known early_claimed sequence) (file_entries known late_claimed unsequence) run
         → IsCrossJob run sequence unsequence job
         → HasKind Space.Sequence job × Stands Space.Sequence told sequence unsequence job }
-    ensures apart { (known : Entries) (early_claimed late_claimed : File → Bool) (sequence unsequence : List File)
+    ensures apart { (known : KnownFiles) (early_claimed late_claimed : File → Bool) (sequence unsequence : List File)
         (run : CrossRun) (job : Compaction) (jobs : List Compaction)
         → IsCrossPlan (file_entries known early_claimed sequence) (file_entries known late_claimed unsequence) run
         → IsCrossJob run sequence unsequence job → ClaimLate late_claimed jobs → IsSequenceFree jobs
@@ -30,7 +30,8 @@ pub fn a_cross_plan_has_its_gap()
 
 /// The files of an inner plan of the sequence list stand as its job asks.
 pub fn an_inner_sequence_plan_stands()
-    ensures stands { (told : Told) (known : Entries) (claimed : File → Bool) (sequence unsequence : List File)
+    ensures stands { (told : ToldContents) (known : KnownFiles) (claimed : File → Bool)
+        (sequence unsequence : List File)
         (run : Run) (job : Compaction)
         → IsInnerPlan (file_entries known claimed sequence) run → IsInnerSequenceJob run sequence job
         → HasKind Space.Sequence job × Stands Space.Sequence told sequence unsequence job }
@@ -42,11 +43,12 @@ pub fn an_inner_sequence_plan_stands()
 
 /// The files of an inner plan of the unsequence list stand as its job asks.
 pub fn an_inner_unsequence_plan_stands()
-    ensures stands { (told : Told) (known : Entries) (claimed : File → Bool) (sequence unsequence : List File)
+    ensures stands { (told : ToldContents) (known : KnownFiles) (claimed : File → Bool)
+        (sequence unsequence : List File)
         (run : Run) (job : Compaction)
         → IsInnerPlan (file_entries known claimed unsequence) run → IsInnerUnsequenceJob run unsequence job
         → HasKind Space.Unsequence job × Stands Space.Unsequence told sequence unsequence job }
-    ensures apart { (known : Entries) (claimed : File → Bool) (unsequence : List File) (run : Run) (job : Compaction)
+    ensures apart { (known : KnownFiles) (claimed : File → Bool) (unsequence : List File) (run : Run) (job : Compaction)
         (jobs : List Compaction)
         → IsInnerPlan (file_entries known claimed unsequence) run → IsInnerUnsequenceJob run unsequence job
         → ClaimLate claimed jobs → AllByRecursion (AreApart job) jobs }

@@ -11,8 +11,8 @@ ghost use Rattle.tsdb_model.specs.State as plain;
 ghost use Rattle.tsdb_outside.specs.Disk.{Image, in_slot};
 ghost use Rattle.tsdb_outside.specs.declared.disk.Slot.{Slot};
 ghost use Rattle.tsdb_state.specs.Damage.{IsDamaged};
-ghost use Rattle.tsdb_state.specs.Replays.{CanFollow, IsDeterminate, IsReplayOf, IsReplayOfOneOf, Replays, Steps};
-ghost use Rattle.tsdb_state.specs.Stores.{Files, IsSound, IsStoreOf, LeadsToState, Recorded, StandsFor};
+ghost use Rattle.tsdb_state.specs.Replays.{HasReplay, IsDeterminate, IsReplayOf, IsReplayOfOneOf, Replays, RecordSteps};
+ghost use Rattle.tsdb_state.specs.Stores.{BytesByNumber, IsSound, IsStoreOf, LeadsToState, Recorded, StoreStandsFor};
 ghost use Rattle.tsdb_state.specs.Stores.{StandsForOneOf, no_changes, store_steps, store_steps_determinate};
 
 use tsdb_outside::Disk;
@@ -23,7 +23,7 @@ pub trait Replayed {
     ghost state: { Type 0 };
 
     /// What records do to them.
-    ghost steps: { Steps state };
+    ghost steps: { RecordSteps state };
 
     /// A record leads from a state to one state at most.
     ghost determinate: { IsDeterminate steps };
@@ -54,7 +54,7 @@ pub fn replay_goes_on<R: Replayed>()
 /// record in doubt.
 pub fn record_in_doubt_leads_on<R: Replayed>()
     ensures { (items : List LogRecord) (doubt : Option LogRecord) (state : R.state) (bytes : List ℕ)
-        → All IsRecord items → Replays R.steps R.steps.new_store items state → IfSome doubt (CanFollow R.steps state)
+        → All IsRecord items → Replays R.steps R.steps.new_store items state → IfSome doubt (HasReplay R.steps state)
         → HasRecordsOrOneMore (map spelling items) (option_map spelling doubt) bytes
         → IsReplayOfOneOf R.steps doubt bytes state }
 {}
@@ -72,21 +72,21 @@ impl Replayed for StoreRecords {
 
 /// A log stands for one state at most with the files that are there.
 pub fn store_stands_for_one_state()
-    ensures { (files : Files) (bytes : List ℕ) (one other : plain.State)
-        → StandsFor files bytes one → StandsFor files bytes other → one ≡ other }
+    ensures { (files : BytesByNumber) (bytes : List ℕ) (one other : plain.State)
+        → StoreStandsFor files bytes one → StoreStandsFor files bytes other → one ≡ other }
 {}
 
 /// Files that the log does not list say nothing.
 pub fn strays_say_nothing()
-    ensures { (files more : Files) (bytes : List ℕ) (at : plain.State)
+    ensures { (files more : BytesByNumber) (bytes : List ℕ) (at : plain.State)
         → ((number : ℕ) (file : List ℕ) → files number ≡ Some file → more number ≡ Some file)
-        → StandsFor files bytes at → StandsFor more bytes at }
+        → StoreStandsFor files bytes at → StoreStandsFor more bytes at }
 {}
 
 /// A slot with the records of a store, or with these and the one in doubt, stands for the state of the store, or for
 /// the one that the record in doubt leads to.
 pub fn store_in_doubt_stands_for_one_of_two_states()
-    ensures { (files : Files) (items : List LogRecord) (doubt : Option LogRecord) (recorded : Recorded)
+    ensures { (files : BytesByNumber) (items : List LogRecord) (doubt : Option LogRecord) (recorded : Recorded)
         (at : plain.State) (next : Option plain.State) (bytes : List ℕ) → All IsRecord items
         → Replays store_steps store_steps.new_store items recorded → IsStoreOf files recorded.store at
         → LeadsToState files recorded doubt next
@@ -96,12 +96,12 @@ pub fn store_in_doubt_stands_for_one_of_two_states()
 
 /// Whatever a stop leaves of a sound store stands for its state.
 pub fn a_stop_leaves_the_state_of_a_sound_store<D: Disk>(_disk: &D)
-    ensures { (slot : Slot) (files : Files) (at : plain.State) (image : Image)
+    ensures { (slot : Slot) (files : BytesByNumber) (at : plain.State) (image : Image)
         → IsSound slot (D.state _disk.now) files at → (D.state _disk.now).may_leave image
-        → StandsFor files (in_slot slot image) at }
+        → StoreStandsFor files (in_slot slot image) at }
 {}
 
 /// The log of a new store, which is one closed gate, stands for the world without series.
 pub fn a_new_log_stands_for_no_series()
-    ensures { (files : Files) → StandsFor files (0 ∷ []) no_changes }
+    ensures { (files : BytesByNumber) → StoreStandsFor files (0 ∷ []) no_changes }
 {}

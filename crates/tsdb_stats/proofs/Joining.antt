@@ -10,7 +10,7 @@ use Rattle.tsdb_base.specs.declared.point.Point.{Point}
 use Rattle.tsdb_base.specs.declared.point.Stats.{Stats}
 use Rattle.tsdb_base.specs.declared.value.Value.{Value}
 use Rattle.tsdb_base.specs.declared.value.Value.TheVariants as value
-use Rattle.tsdb_model.specs.Folds.{is_less, lesser, greater, number_of, numbers}
+use Rattle.tsdb_model.specs.Folds.{is_less, lesser_value, greater, as_number, numbers}
 use Rattle.tsdb_stats.specs.Statistics.{AreStatsOf}
 use Rattle.tsdb_stats.specs.Steps.{join_options, number_in}
 
@@ -18,7 +18,7 @@ use Rattle.tsdb_stats.specs.Steps.{join_options, number_in}
 
 record IsNumber (v : Value) : Type 0 where
   n : ℤ
-  is : number_of v ≡ Some n
+  is : as_number v ≡ Some n
 
 number_in-self : (v : Value) → IsNumber v → number_in v ≡ Some v
 number_in-self v p = rw p.is refl
@@ -144,7 +144,7 @@ last-append read before (p ∷ behind) y e =
 -- the statistics of both lists
 pub stats-append : (before behind : List Point) (l r s : Stats) → AreStatsOf before l → AreStatsOf behind r
     → s.count ≡ l.count + r.count → s.start ≡ l.start → s.end ≡ r.end → s.first ≡ l.first → s.last ≡ r.last
-    → s.least ≡ join_options lesser (option_and_then number_in l.least) (option_and_then number_in r.least)
+    → s.least ≡ join_options lesser_value (option_and_then number_in l.least) (option_and_then number_in r.least)
     → s.greatest ≡ join_options greater (option_and_then number_in l.greatest) (option_and_then number_in r.greatest)
     → AreStatsOf (before ++ behind) s
 stats-append before behind l r s p q count start end first last least greatest = record {

@@ -2,13 +2,13 @@
 use Rattle.std.specs.Prelude.{Option, None, Some}
 use Rattle.tsdb_base.specs.declared.value.Value.{Value}
 use Rattle.tsdb_base.specs.declared.value.Value.TheVariants as value
-use Rattle.tsdb_model.specs.Folds.{if_number, number_of}
+use Rattle.tsdb_model.specs.Folds.{if_number, as_number}
 use Rattle.tsdb_stats.specs.declared.extreme.Number.{Number}
 use Rattle.tsdb_stats.specs.declared.extreme.Number.TheVariants as number
 
 -- a value that is a number
 abbrev pub number_in : Value → Option Value
-number_in value = if_number (number_of value) value
+number_in value = if_number (as_number value) value
 
 -- f of two, where both are there, and else the one that is
 abbrev pub join_options : {A : Type 0} → (A → A → A) → Option A → Option A → Option A

@@ -1,7 +1,7 @@
 //! The least and the greatest of the values that are numbers.
 ghost use Rattle.std.specs.Prelude.{◌≡◌, option_map};
 ghost use Rattle.std.specs.List.{reduce};
-ghost use Rattle.tsdb_model.specs.Folds.{is_less, lesser, greater, numbers};
+ghost use Rattle.tsdb_model.specs.Folds.{is_less, lesser_value, greater, numbers};
 ghost use Rattle.tsdb_stats.specs.Steps.{as_value, join_options, number_in};
 
 use tsdb_base::{Point, Value};
@@ -50,7 +50,7 @@ impl Number {
 
 /// The lesser of two, where both are there, and else the one that is. Of equal ones it is the first.
 pub fn lesser_of(a: Option<Number>, b: Option<Number>) -> Option<Number>
-    ensures { option_map as_value result ≡ join_options lesser (option_map as_value a) (option_map as_value b) }
+    ensures { option_map as_value result ≡ join_options lesser_value (option_map as_value a) (option_map as_value b) }
 {
     match (a, b) {
         (Some(a), Some(b)) => Some(if b.is_less(a) { b } else { a }),
@@ -70,7 +70,7 @@ pub fn greater_of(a: Option<Number>, b: Option<Number>) -> Option<Number>
 
 /// The least of the values that are numbers.
 pub fn least_of(points: &[Point]) -> Option<Number>
-    ensures { option_map as_value result ≡ reduce lesser (numbers points.now) }
+    ensures { option_map as_value result ≡ reduce lesser_value (numbers points.now) }
 {
     let mut least = None;
     for point in points {

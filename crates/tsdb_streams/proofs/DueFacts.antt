@@ -15,13 +15,13 @@ use Rattle.tsdb_streams.proofs.LaneViews.{ArePages, IsPage, pages_by_number}
 use Rattle.tsdb_streams.specs.Clean.{count_read, hull_of, is_clean, others, source_hulls, source_read}
 use Rattle.tsdb_streams.specs.Cleaning.{IsCleaned, is_clean_page, lane_hulls, page_times}
 use Rattle.tsdb_streams.specs.Files.{FilePages, HasEntryPages}
-use Rattle.tsdb_streams.specs.Kept.{times_of}
+use Rattle.tsdb_streams.specs.Kept.{stats_range}
 use Rattle.tsdb_streams.specs.Lanes.{IsTrueSource, OpensAs, count_due, is_due, lane_due, source_all}
 use Rattle.tsdb_streams.specs.declared.kept.Kept.{Kept}
 use Rattle.tsdb_streams.specs.declared.lane.Lane.{Lane}
 use Rattle.tsdb_streams.specs.declared.lane.Lane.TheVariants.{Pages, Part}
-use Rattle.tsdb_streams.specs.declared.source.Source.{Source}
-use Rattle.tsdb_streams.specs.declared.source.Source.TheVariants as source
+use Rattle.tsdb_streams.specs.declared.source.StreamSource.{StreamSource}
+use Rattle.tsdb_streams.specs.declared.source.StreamSource.TheVariants as source
 use Rattle.tsdb_index.specs.declared.index.PageEntry.{PageEntry}
 use Rattle.tsdb_outside.specs.Files.{NamedFile}
 use Rattle.tsdb_streams.specs.Pieces.{joined}
@@ -54,7 +54,7 @@ last_time None start end e = absurd (none_some e)
 last_time (Some p) start end e = let same : p.time ≡ end = cc in same
 
 -- statistics of points have their times
-pub stats_hull : (stats : Stats) (points : List Point) → AreStatsOf points stats → times_of stats ∷ [] ≡ hull_of points
+pub stats_hull : (stats : Stats) (points : List Point) → AreStatsOf points stats → stats_range stats ∷ [] ≡ hull_of points
 stats_hull stats [] are = absurd (none_some are.start)
   where
     none_some : ◌≡◌ {A = Option Value} None (Some (I64 stats.start)) → ⊥
@@ -112,7 +112,7 @@ module _ {R : Type 0} (file : R → NamedFile) (pages : FilePages) where
   told_list (Some list) points e = refl
 
   -- the times of a source that was opened are those of its points
-  pub hulls_are : (names : List ℕ × List ℕ) (from : Source R) (lane : Lane R) (points : List Point) → OpensAs file names from lane → IsTrueSource file names pages from → source_all file pages from ≡ Some points
+  pub hulls_are : (names : List ℕ × List ℕ) (from : StreamSource R) (lane : Lane R) (points : List Point) → OpensAs file names from lane → IsTrueSource file names pages from → source_all file pages from ≡ Some points
       → lane_hulls lane ≡ source_hulls file pages from
   hulls_are names (source.File right born) (Pages lane) points opens truth all =
       let list = unwrap_or (pages (file right.now).number) [] in
@@ -129,7 +129,7 @@ module _ {R : Type 0} (file : R → NamedFile) (pages : FilePages) where
   hulls_are names (source.Part parts born) (Pages lane) points opens truth all = absurd opens.new
   hulls_are names (source.Part parts born) (Part lane) points opens truth all = ap (λ r. hull_of r.now) opens.new.0
 
-  pub all_hulls_are : (names : List ℕ × List ℕ) (sources : List (Source R)) (lanes : List (Lane R)) (lists : List (List Point)) → AllZip (OpensAs file names) sources lanes → All (IsTrueSource file names pages) sources
+  pub all_hulls_are : (names : List ℕ × List ℕ) (sources : List (StreamSource R)) (lanes : List (Lane R)) (lists : List (List Point)) → AllZip (OpensAs file names) sources lanes → All (IsTrueSource file names pages) sources
       → map (source_all file pages) sources ≡ map Some lists → map lane_hulls lanes ≡ map (source_hulls file pages) sources
   all_hulls_are names [] [] lists zip truth all = refl
   all_hulls_are names [] (lane ∷ lanes) lists zip truth all = absurd zip
@@ -145,7 +145,7 @@ module _ {R : Type 0} (file : R → NamedFile) (pages : FilePages) where
       ∙ ap (λ l. source_hulls file pages from ∷ l) (all_hulls_are names sources lanes lists zip.1 (All-tail (IsTrueSource file names pages) from sources truth) rest)
 
   -- as many pages of a source are due as meet the range and are not clean
-  pub one_due : (kept : Kept) (names : List ℕ × List ℕ) (hulls : List (List Range)) (number : ℕ) (from : Source R) (old new : Lane R) → OpensAs file names from old → lane_hulls old ≡ source_hulls file pages from
+  pub one_due : (kept : Kept) (names : List ℕ × List ℕ) (hulls : List (List Range)) (number : ℕ) (from : StreamSource R) (old new : Lane R) → OpensAs file names from old → lane_hulls old ≡ source_hulls file pages from
       → IsCleaned kept (others number hulls) old new → lane_due kept.range new ≡ source_read file pages kept.series.now kept.range kept.marks.now.marks hulls number from
   one_due kept names hulls number (source.File right born) (Pages old) (Pages new) opens same flagged =
       ap (λ flags. count_due kept.range flags new.entry.pages) flagged.0

@@ -8,7 +8,7 @@ use Rattle.tsdb_base.specs.declared.point.Range.{Range}
 use Rattle.tsdb_streams.proofs.KeptLemmas.{none_kept}
 use Rattle.tsdb_streams.proofs.PageFacts.{there}
 use Rattle.tsdb_streams.specs.Files.{HasEntryPages}
-use Rattle.tsdb_streams.specs.Kept.{is_kept, kept, times_of}
+use Rattle.tsdb_streams.specs.Kept.{is_kept, kept, stats_range}
 use Rattle.tsdb_streams.specs.Lanes.{Gives, is_due, is_passed, left_pages}
 use Rattle.tsdb_index.specs.declared.index.IndexEntry.{IndexEntry}
 use Rattle.tsdb_index.specs.declared.index.PageEntry.{PageEntry}
@@ -90,7 +90,7 @@ gives_skipped (Some list) flags path range marks born next now entry name said o
     ∙ ap (λ ps. ps ++ filter (is_kept path range marks born) (joined (drop (suc next) (left_pages flags list)))) none
     ∙ ap (λ n. filter (is_kept path range marks born) (joined (drop n (left_pages flags list)))) (sym step)
   where
-    by : (page : List Point) (passed : Bool) → is_due range passed said ≡ false → (overlap range (times_of said.stats) ≡ false → kept path range marks born page ≡ []) → kept path range marks born (cond passed [] page) ≡ []
+    by : (page : List Point) (passed : Bool) → is_due range passed said ≡ false → (overlap range (stats_range said.stats) ≡ false → kept path range marks born page ≡ []) → kept path range marks born (cond passed [] page) ≡ []
     by page true due none = refl
     by page false due none = none due
 

@@ -5,11 +5,11 @@ use Rattle.std.specs.List.{AllZip}
 use Rattle.std.proofs.lemmas.List.{map-append, take_more}
 use Rattle.tsdb_streams.proofs.OpenFacts.{pages_of_store, part_of_store}
 use Rattle.tsdb_streams.proofs.Trees.{among_of, contains_of}
-use Rattle.tsdb_streams.specs.Lanes.{IsLaneOf, IsSourceOf, OpensAs}
+use Rattle.tsdb_streams.specs.Lanes.{IsLaneOfStore, IsSourceOfStore, OpensAs}
 use Rattle.tsdb_streams.specs.declared.lane.Lane.{Lane}
 use Rattle.tsdb_streams.specs.declared.lane.Lane.TheVariants.{Pages, Part}
-use Rattle.tsdb_streams.specs.declared.source.Source.{Source}
-use Rattle.tsdb_streams.specs.declared.source.Source.TheVariants as source
+use Rattle.tsdb_streams.specs.declared.source.StreamSource.{StreamSource}
+use Rattle.tsdb_streams.specs.declared.source.StreamSource.TheVariants as source
 use Rattle.tsdb_index.specs.Entries.{AreInOrder, names_of}
 use Rattle.tsdb_path.specs.Order.{AreNamesBefore}
 use Rattle.tsdb_index.specs.Finding.{IsEntryFor}
@@ -141,8 +141,8 @@ zip_more f R xs i x ys more y below at zip one push =
 
 -- ---- what is opened is of the store of its file
 
-pub opened_of : {R : Type 0} (file : R → NamedFile) (names : Names) (store : Store) (from : Source R) (lane : Lane R)
-    → OpensAs file names from lane → IsSourceOf file store from → IsLaneOf file store lane
+pub opened_of : {R : Type 0} (file : R → NamedFile) (names : Names) (store : Store) (from : StreamSource R) (lane : Lane R)
+    → OpensAs file names from lane → IsSourceOfStore file store from → IsLaneOfStore file store lane
 opened_of file names store (source.File right born) (Pages lane) opens of =
     pages_of_store file store lane (ap (λ r. (file r.now).store) opens.new.0 ∙ of)
 opened_of file names store (source.File right born) (Part lane) opens of = part_of_store file store lane

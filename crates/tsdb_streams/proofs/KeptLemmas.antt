@@ -8,7 +8,7 @@ use Rattle.tsdb_aggregate.specs.Pieces.{overlap}
 use Rattle.tsdb_base.specs.declared.point.Point.{Point}
 use Rattle.tsdb_base.specs.declared.point.Range.{Range}
 use Rattle.tsdb_base.specs.declared.point.Stats.{Stats}
-use Rattle.tsdb_streams.specs.Kept.{is_kept, kept, times_of}
+use Rattle.tsdb_streams.specs.Kept.{is_kept, kept, stats_range}
 use Rattle.tsdb_model.specs.World.{is_in}
 use Rattle.tsdb_marks.specs.declared.marks.Mark.{Mark}
 use Rattle.tsfile_reader.specs.Page.{LieIn}
@@ -36,12 +36,12 @@ pub common_time : (a b : Range) (time : ℤ) → is_in a time ≡ true → is_in
 common_time a b time in_a in_b = grind (arith, ints)
 
 -- none is kept of points whose times do not meet the range
-pub none_kept : (path : List ℕ) (range : Range) (marks : List Mark) (born : ℕ) (stats : Stats) (points : List Point) → LieIn stats points → overlap range (times_of stats) ≡ false → kept path range marks born points ≡ []
+pub none_kept : (path : List ℕ) (range : Range) (marks : List Mark) (born : ℕ) (stats : Stats) (points : List Point) → LieIn stats points → overlap range (stats_range stats) ≡ false → kept path range marks born points ≡ []
 none_kept path range marks born stats [] lie apart = refl
 none_kept path range marks born stats (point ∷ points) lie apart =
     let P : Point → Type 0 = λ point. (stats.start ≤ℤ point.time) × (point.time ≤ℤ stats.end) in
     let here = All-head P point points lie in
-    let out = outside path range marks born point (λ from to. false≢true (sym apart ∙ common_time range (times_of stats) point.time (inside range point.time from to) (inside (times_of stats) point.time here.0 here.1))) in
+    let out = outside path range marks born point (λ from to. false≢true (sym apart ∙ common_time range (stats_range stats) point.time (inside range point.time from to) (inside (stats_range stats) point.time here.0 here.1))) in
     rw out (none_kept path range marks born stats points (All-tail P point points lie) apart)
 
 one_fewer : (b : Bool) {X : Type 0} (x : X) (kept xs : List X) → length kept ≤ length xs → length (cond b (x ∷ kept) kept) ≤ length (x ∷ xs)

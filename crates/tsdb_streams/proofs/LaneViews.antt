@@ -20,7 +20,7 @@ use Rattle.tsdb_streams.proofs.Views.{AreApart, IsFit, Seen}
 use Rattle.tsdb_streams.proofs.ViewMerges.{left_part, points_of, right_part, rising_back}
 use Rattle.tsdb_streams.specs.Clean.{any_meets, hull_of, is_clean, is_marked}
 use Rattle.tsdb_streams.specs.Cleaning.{page_times, picked}
-use Rattle.tsdb_streams.specs.Kept.{at, is_kept, times_of}
+use Rattle.tsdb_streams.specs.Kept.{at, is_kept, stats_range}
 use Rattle.tsdb_streams.specs.Lanes.{left_pages}
 use Rattle.tsdb_index.specs.declared.index.PageEntry.{PageEntry}
 use Rattle.tsdb_base.specs.Lists.{EachPair, if_some}
@@ -215,11 +215,11 @@ kept_clean path range marks hulls born times p clean here =
     let c = inside times p.time here in
     both_true (is_in range p.time) (survives marks (at path p.time) born) (inside_test range p.time (omega (arith, ints, a.0, c.0)) (omega (arith, ints, b.1, c.1))) (survives_clean path marks born times p.time clean.unmarked here)
 
-pub all_inside : (stats : Stats) (points : List Point) → LieIn stats points → All (λ p. is_in (times_of stats) p.time ≡ true) points
-all_inside stats [] lie = All-nil (λ (p : Point). is_in (times_of stats) p.time ≡ true)
+pub all_inside : (stats : Stats) (points : List Point) → LieIn stats points → All (λ p. is_in (stats_range stats) p.time ≡ true) points
+all_inside stats [] lie = All-nil (λ (p : Point). is_in (stats_range stats) p.time ≡ true)
 all_inside stats (p ∷ ps) lie =
     let here = All-head (λ (p : Point). (stats.start ≤ℤ p.time) × (p.time ≤ℤ stats.end)) p ps lie in
-    All-cons (λ (p : Point). is_in (times_of stats) p.time ≡ true) p ps (inside_test (times_of stats) p.time here.0 here.1) (all_inside stats ps (All-tail (λ (p : Point). (stats.start ≤ℤ p.time) × (p.time ≤ℤ stats.end)) p ps lie))
+    All-cons (λ (p : Point). is_in (stats_range stats) p.time ≡ true) p ps (inside_test (stats_range stats) p.time here.0 here.1) (all_inside stats ps (All-tail (λ (p : Point). (stats.start ≤ℤ p.time) × (p.time ≤ℤ stats.end)) p ps lie))
 
 pub all_kept : (keep : Point → Bool) (times : Range) (points : List Point) → All (λ p. is_in times p.time ≡ true) points → ((p : Point) → is_in times p.time ≡ true → keep p ≡ true) → All (λ p. keep p ≡ true) points
 all_kept keep times [] all f = All-nil (λ (p : Point). keep p ≡ true)
@@ -228,7 +228,7 @@ all_kept keep times (p ∷ ps) all f = All-cons (λ (p : Point). keep p ≡ true
 pub fit_one : (keep : Point → Bool) (b : Bool) (page : PageEntry) (points : List Point) → IsPage page points → (b ≡ true → (p : Point) → is_in (page_times page) p.time ≡ true → keep p ≡ true) → IsFit keep (seen_page b page points)
 fit_one keep b page points is kept = record {
   inside = all_inside page.stats points is.within;
-  times = λ stats e. ap times_of (sym (which b stats e).1);
+  times = λ stats e. ap stats_range (sym (which b stats e).1);
   are = λ stats e. subst (AreStatsOf points) (which b stats e).1 is.stats;
   kept = λ stats e. all_kept keep (page_times page) points (all_inside page.stats points is.within) (kept (which b stats e).0);
 }

@@ -5,7 +5,7 @@ use Rattle.std.proofs.lemmas.List.Elements.{All-cons, All-nil}
 use Rattle.tsdb_base.specs.declared.point.Point.{Point}
 use Rattle.tsdb_streams.proofs.Reasons.{reason_ok, reason_then, same_reason}
 use Rattle.tsdb_streams.specs.Lanes.{IsTrueLane}
-use Rattle.tsdb_streams.specs.Walking.{AreLanesOf, AreToldLanes, AreTrueLanes, Leaves}
+use Rattle.tsdb_streams.specs.Walking.{AreLanesOfStore, AreToldLanes, AreTrueLanes, LeavesLanes}
 use Rattle.tsdb_streams.specs.declared.lane.Lane.{Lane}
 use Rattle.tsdb_outside.specs.Files.{NamedFile, Store}
 use Rattle.tsdb_outside.specs.declared.faults.StoreFault.{StoreFault}
@@ -20,7 +20,7 @@ nothing_true file (lane ∷ lanes) = All-cons (IsTrueLane file (λ _. None)) lan
 
 module _ {R : Type 0} (file : R → NamedFile) where
   -- there was no call
-  pub leaves_none : {T : Type 0} (s : Store) (a : ℕ) (lanes : List (Lane R)) (x : T) → AreLanesOf file s lanes → Leaves file s s a a lanes lanes (Ok x)
+  pub leaves_none : {T : Type 0} (s : Store) (a : ℕ) (lanes : List (Lane R)) (x : T) → AreLanesOfStore file s lanes → LeavesLanes file s s a a lanes lanes (Ok x)
   leaves_none s a lanes x of = record {
     of = of;
     truth = λ pages all. all;
@@ -32,7 +32,7 @@ module _ {R : Type 0} (file : R → NamedFile) where
   }
 
   -- what went well, whatever it returns
-  pub leaves_ok : {S T : Type 0} (s s_now : Store) (a b : ℕ) (lanes lanes_now : List (Lane R)) (x : S) (y : T) → Leaves file s s_now a b lanes lanes_now (Ok x) → Leaves file s s_now a b lanes lanes_now (Ok y)
+  pub leaves_ok : {S T : Type 0} (s s_now : Store) (a b : ℕ) (lanes lanes_now : List (Lane R)) (x : S) (y : T) → LeavesLanes file s s_now a b lanes lanes_now (Ok x) → LeavesLanes file s s_now a b lanes lanes_now (Ok y)
   leaves_ok s s_now a b lanes lanes_now x y h = record {
     of = h.of;
     truth = h.truth;
@@ -44,7 +44,7 @@ module _ {R : Type 0} (file : R → NamedFile) where
   }
 
   -- the same fault
-  pub leaves_fault : {S T : Type 0} (s s_now : Store) (a b : ℕ) (lanes lanes_now : List (Lane R)) (fault : StoreFault) → Leaves file {T = S} s s_now a b lanes lanes_now (Err fault) → Leaves file {T = T} s s_now a b lanes lanes_now (Err fault)
+  pub leaves_fault : {S T : Type 0} (s s_now : Store) (a b : ℕ) (lanes lanes_now : List (Lane R)) (fault : StoreFault) → LeavesLanes file {T = S} s s_now a b lanes lanes_now (Err fault) → LeavesLanes file {T = T} s s_now a b lanes lanes_now (Err fault)
   leaves_fault s s_now a b lanes lanes_now fault h = record {
     of = h.of;
     truth = h.truth;
@@ -56,8 +56,8 @@ module _ {R : Type 0} (file : R → NamedFile) where
   }
 
   -- one call went well, and then another
-  pub leaves_then : {S T : Type 0} (s s_one s_two : Store) (a b c : ℕ) (lanes one two : List (Lane R)) (x : S) (result : Result T StoreFault) → Leaves file s s_one a b lanes one (Ok x) → Leaves file s_one s_two b c one two result
-      → Leaves file s s_two a c lanes two result
+  pub leaves_then : {S T : Type 0} (s s_one s_two : Store) (a b c : ℕ) (lanes one two : List (Lane R)) (x : S) (result : Result T StoreFault) → LeavesLanes file s s_one a b lanes one (Ok x) → LeavesLanes file s_one s_two b c one two result
+      → LeavesLanes file s s_two a c lanes two result
   leaves_then s s_one s_two a b c lanes one two x result first second = record {
     of = second.of;
     truth = λ pages all. second.truth pages (first.truth pages all);

@@ -8,8 +8,8 @@ use Rattle.tsdb_base.specs.declared.value.Encoding.{Encoding}
 use Rattle.std.proofs.lemmas.Option.{get_or_from_slice_get, slice_get_within}
 use Rattle.tsdb_streams.proofs.PageFacts.{at_some, some_same, there}
 use Rattle.tsdb_stats.specs.Statistics.{AreStatsOf}
-use Rattle.tsdb_streams.specs.Files.{FilePages, HasEntryPages, HasPages, IsChunkOf, IsTold, IsTruth}
-use Rattle.tsdb_streams.specs.Lanes.{ArePagesOf, IsLaneOf, IsTrueLane}
+use Rattle.tsdb_streams.specs.Files.{FilePages, HasEntryPages, HasPages, IsSeriesChunk, IsTold, IsTruth}
+use Rattle.tsdb_streams.specs.Lanes.{ArePagesOf, IsLaneOfStore, IsTrueLane}
 use Rattle.tsdb_streams.specs.declared.lane.Lane.TheVariants.{Pages, Part}
 use Rattle.tsdb_streams.specs.declared.lane.PageLane.{PageLane}
 use Rattle.tsdb_streams.specs.declared.lane.PartLane.{PartLane}
@@ -17,10 +17,10 @@ use Rattle.tsdb_index.specs.Entries.{names_of}
 use Rattle.tsdb_index.specs.declared.index.IndexEntry.{IndexEntry}
 use Rattle.tsdb_index.specs.declared.index.PageEntry.{PageEntry}
 use Rattle.tsdb_outside.specs.Files.{NamedFile, Store}
-use Rattle.tsdb_pages.specs.File.{ArePageEntries, IsEntry, page_field}
+use Rattle.tsdb_pages.specs.File.{ArePageEntries, IsChunkEntry, page_field}
 use Rattle.tsdb_pages.specs.File.{IsFile}
 use Rattle.tsdb_pages.specs.Places.{HasPlaces}
-use Rattle.tsdb_pages.specs.Trees.{IsMade, IsTree, points_of}
+use Rattle.tsdb_pages.specs.Trees.{IsMade, IsTree, page_points}
 use Rattle.tsdb_pages.specs.declared.tree.Chunk.{Chunk}
 use Rattle.tsdb_pages.specs.declared.tree.Group.{Group}
 use Rattle.tsdb_pages.specs.declared.tree.Page.{Page}
@@ -46,8 +46,8 @@ got_map f (y ∷ xs) zero x e = let same : y ≡ x = cc in ap (λ z. Some (f z))
 got_map f (y ∷ xs) (suc k) x e = got_map f xs k x e
 
 -- the chunk that an entry of these names speaks of is the series'
-chunk_of : (tree : Tree) (names : List ℕ × List ℕ) (entry : IndexEntry) (group : Group) (chunk : Chunk) → names_of entry ≡ names → Contains tree.groups group → Contains group.chunks chunk → IsEntry group.device entry.place chunk entry
-    → IsChunkOf tree names chunk
+chunk_of : (tree : Tree) (names : List ℕ × List ℕ) (entry : IndexEntry) (group : Group) (chunk : Chunk) → names_of entry ≡ names → Contains tree.groups group → Contains group.chunks chunk → IsChunkEntry group.device entry.place chunk entry
+    → IsSeriesChunk tree names chunk
 chunk_of tree names entry group chunk named in_tree in_group says = record {
   group = group;
   in_tree = in_tree;
@@ -81,11 +81,11 @@ entry_pages names name entry list h of named = (
     place : HasPlaces h.tree h.bytes entry
     place = All-contains (HasPlaces h.tree h.bytes) of.entries entry (entries_stand h.tree h.bytes of.entries h.file of.say) of.there
 
-    joined_points : (pages : List Page) → joined (map (λ (page : Page). page.points) pages) ≡ points_of pages
+    joined_points : (pages : List Page) → joined (map (λ (page : Page). page.points) pages) ≡ page_points pages
     joined_points [] = refl
     joined_points (page ∷ pages) = ap (λ l. page.points ++ l) (joined_points pages)
 
-    all_points : joined list ≡ points_of place.chunk.pages
+    all_points : joined list ≡ page_points place.chunk.pages
     all_points =
         ap joined (h.pages_are.of_chunk place.chunk (chunk_of h.tree names entry place.group place.chunk named place.in_tree place.in_group place.says))
         ∙ joined_points place.chunk.pages
@@ -139,11 +139,11 @@ module _ (pages : FilePages) (names : List ℕ × List ℕ) (name : NamedFile) (
 pub pages_true : {R : Type 0} (file : R → NamedFile) (pages : FilePages) (lane : PageLane R) → ArePagesOf file pages lane → IsTrueLane file pages (Pages lane)
 pages_true file pages lane are page e = let same : lane ≡ page = cc in subst (λ l. ArePagesOf file pages l) same are
 
-pub pages_of_store : {R : Type 0} (file : R → NamedFile) (store : Store) (lane : PageLane R) → (file lane.right.now).store ≡ store → IsLaneOf file store (Pages lane)
+pub pages_of_store : {R : Type 0} (file : R → NamedFile) (store : Store) (lane : PageLane R) → (file lane.right.now).store ≡ store → IsLaneOfStore file store (Pages lane)
 pages_of_store file store lane of page e = let same : lane ≡ page = cc in subst (λ (l : PageLane _). (file l.right.now).store ≡ store) same of
 
 -- a part has no file
-pub part_of_store : {R : Type 0} (file : R → NamedFile) (store : Store) (part : PartLane) → IsLaneOf file store (Part part)
+pub part_of_store : {R : Type 0} (file : R → NamedFile) (store : Store) (part : PartLane) → IsLaneOfStore file store (Part part)
 part_of_store file store part page e = absurd cc
 
 pub part_true : {R : Type 0} (file : R → NamedFile) (pages : FilePages) (part : PartLane) → IsTrueLane file pages (Part part)

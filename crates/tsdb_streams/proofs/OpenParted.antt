@@ -22,16 +22,16 @@ use Rattle.tsdb_streams.proofs.CleanFacts.{both}
 use Rattle.tsdb_streams.specs.Clean.{any_meets, others, source_hulls, source_read, sources_read}
 use Rattle.tsdb_streams.specs.Cleaning.{AreCleaned, IsCleaned, IsFlagged, all_set, flags_of, is_clean_page, lane_hulls, lane_passed}
 use Rattle.tsdb_streams.specs.Files.{FilePages, HasEntryPages}
-use Rattle.tsdb_streams.specs.Kept.{times_of}
-use Rattle.tsdb_streams.specs.Lanes.{IsLaneOf, IsToldLane, IsTrueLane, IsTrueSource, OpensAs, keep_of, lane_due, lane_left, left_pages, source_all, source_left}
+use Rattle.tsdb_streams.specs.Kept.{stats_range}
+use Rattle.tsdb_streams.specs.Lanes.{IsLaneOfStore, IsToldLane, IsTrueLane, IsTrueSource, OpensAs, keep_of, lane_due, lane_points_left, left_pages, source_all, source_left}
 use Rattle.tsdb_streams.specs.Parted.{IsParted}
 use Rattle.tsdb_streams.specs.declared.kept.Kept.{Kept}
 use Rattle.tsdb_streams.specs.declared.lane.Lane.{Lane}
 use Rattle.tsdb_streams.specs.declared.lane.Lane.TheVariants.{Pages, Part}
 use Rattle.tsdb_streams.specs.declared.lane.PageLane.{PageLane}
 use Rattle.tsdb_streams.specs.declared.lane.PartLane.{PartLane}
-use Rattle.tsdb_streams.specs.declared.source.Source.{Source}
-use Rattle.tsdb_streams.specs.declared.source.Source.TheVariants as source
+use Rattle.tsdb_streams.specs.declared.source.StreamSource.{StreamSource}
+use Rattle.tsdb_streams.specs.declared.source.StreamSource.TheVariants as source
 use Rattle.tsdb_index.specs.declared.index.IndexEntry.{IndexEntry}
 use Rattle.tsdb_base.proofs.Lists.{each_among}
 use Rattle.tsdb_base.specs.Lists.{Among}
@@ -50,14 +50,14 @@ some_same x y e = cc
 
 module _ {R : Type 0} (file : R → NamedFile) (pages : FilePages) (kept : Kept) where
   -- the pages that are told of a source
-  abbrev pub told_of : Source R → List (List Point)
+  abbrev pub told_of : StreamSource R → List (List Point)
   told_of (source.File right born) = unwrap_or (pages (file right.now).number) []
   told_of (source.Part points born) = []
 
   -- a source that is open, what is left of it, and what it has
-  pub record IsSeen (hulls : List (List Range)) (from : Source R) (lane : Lane R) : Type 0 where
+  pub record IsSeen (hulls : List (List Range)) (from : StreamSource R) (lane : Lane R) : Type 0 where
     pub opened : IsOpen kept hulls lane (told_of from)
-    pub left : lane_left file pages (keep_of kept) lane ≡ Some (kept_left (view kept lane (told_of from)))
+    pub left : lane_points_left file pages (keep_of kept) lane ≡ Some (kept_left (view kept lane (told_of from)))
     pub all : source_left file pages (keep_of kept) from ≡ Some (kept_all (view kept lane (told_of from)))
     pub passed : lane_passed lane ≡ passed_of (view kept lane (told_of from))
 
@@ -81,11 +81,11 @@ module _ {R : Type 0} (file : R → NamedFile) (pages : FilePages) (kept : Kept)
       let flags_are : new.passed.items ≡ map (is_clean_page kept hulls new.born.0) new.entry.pages = flagged.0 ∙ ap (λ b. map (is_clean_page kept hulls b) old.entry.pages) (ap (λ s. s.0) (sym flagged.2)) ∙ ap (λ (e : IndexEntry). map (is_clean_page kept hulls new.born.0) e.pages) (sym flagged.3) in
       let long : length new.passed.items ≡ length new.entry.pages = ap length flags_are ∙ length-map new.entry.pages (is_clean_page kept hulls new.born.0) in
       let piece : new.whole ≡ true → IsOnePiece hulls new list = λ e.
-      let parts = both (all_set (flags_of kept hulls (Pages old))) (not (list_any (any_meets (times_of old.entry.stats)) hulls)) (sym flagged.5 ∙ e) in
+      let parts = both (all_set (flags_of kept hulls (Pages old))) (not (list_any (any_meets (stats_range old.entry.stats)) hulls)) (sym flagged.5 ∙ e) in
       record {
         all = ap all_set flagged.0 ∙ parts.0;
-        clear = ap (λ (n : IndexEntry). list_any (any_meets (times_of n.stats)) hulls) flagged.3
-            ∙ not_true (list_any (any_meets (times_of old.entry.stats)) hulls) parts.1;
+        clear = ap (λ (n : IndexEntry). list_any (any_meets (stats_range n.stats)) hulls) flagged.3
+            ∙ not_true (list_any (any_meets (stats_range old.entry.stats)) hulls) parts.1;
         stats = subst (λ (n : IndexEntry). AreStatsOf (joined list) n.stats) (sym flagged.3) entry_pages.3;
       } in
       record {
@@ -106,7 +106,7 @@ module _ {R : Type 0} (file : R → NamedFile) (pages : FilePages) (kept : Kept)
         passed = sym (passed_seens new list are new.whole);
       }
 
-  one_seen : (hulls : List (List Range)) (names : List ℕ × List ℕ) (from : Source R) (old new : Lane R) (points : List Point) → OpensAs file names from old → IsTrueSource file names pages from → IsCleaned kept hulls old new
+  one_seen : (hulls : List (List Range)) (names : List ℕ × List ℕ) (from : StreamSource R) (old new : Lane R) (points : List Point) → OpensAs file names from old → IsTrueSource file names pages from → IsCleaned kept hulls old new
       → source_all file pages from ≡ Some points → IsRising points → IsSeen hulls from new
   one_seen hulls names (source.File right born) (Pages old) (Pages new) points opens truth flagged all rising = seen_file hulls names right born old new points opens truth flagged all rising
   one_seen hulls names (source.File right born) (Pages old) (Part new) points opens truth flagged all rising = absurd flagged
@@ -169,7 +169,7 @@ module _ {R : Type 0} (file : R → NamedFile) (pages : FilePages) (kept : Kept)
   got_at (x ∷ xs) (suc k) d low = got_at xs k d (omega (arith, low))
 
   -- as many pages are due as meet the range and are not clean
-  pub as_many_due : (names : List ℕ × List ℕ) (sources : List (Source R)) (olds news : List (Lane R)) (lists : List (List Point)) → AllZip (OpensAs file names) sources olds → All (IsTrueSource file names pages) sources → AreCleaned kept olds news
+  pub as_many_due : (names : List ℕ × List ℕ) (sources : List (StreamSource R)) (olds news : List (Lane R)) (lists : List (List Point)) → AllZip (OpensAs file names) sources olds → All (IsTrueSource file names pages) sources → AreCleaned kept olds news
       → map (source_all file pages) sources ≡ map Some lists → sum_by (lane_due kept.range) news ≡ sources_read file pages kept.series.now kept.range kept.marks.now.marks sources
   as_many_due names sources olds news lists opens truth cleaned told =
       sums (lane_due kept.range) (source_read file pages kept.series.now kept.range kept.marks.now.marks (map (source_hulls file pages) sources)) news sources 0 (cleaned.long ∙ sym (zip_long (OpensAs file names) sources olds opens))
@@ -178,7 +178,7 @@ module _ {R : Type 0} (file : R → NamedFile) (pages : FilePages) (kept : Kept)
       hulls : map lane_hulls olds ≡ map (source_hulls file pages) sources
       hulls = all_hulls_are file pages names sources olds lists opens truth told
 
-      here : (k : ℕ) (lane : Lane R) (from : Source R) → slice_get news k ≡ Some lane → slice_get sources k ≡ Some from
+      here : (k : ℕ) (lane : Lane R) (from : StreamSource R) → slice_get news k ≡ Some lane → slice_get sources k ≡ Some from
           → lane_due kept.range lane ≡ source_read file pages kept.series.now kept.range kept.marks.now.marks (map (source_hulls file pages) sources) k from
       here k lane from b a =
           let old = zip_at (OpensAs file names) sources olds k from opens a in
@@ -192,9 +192,9 @@ module _ {R : Type 0} (file : R → NamedFile) (pages : FilePages) (kept : Kept)
           (subst (λ z. IsCleaned kept (others k (map lane_hulls olds)) z (get_or news k lane)) old_is (cleaned.each k lane low))) in
           one_due file pages kept names (map (source_hulls file pages) sources) k from old.0 lane old.2 (hulls_are file pages names from old.0 list.0 old.2 (all_at (IsTrueSource file names pages) sources k from truth a) list.1) flagged
 
-  module _ (names : List ℕ × List ℕ) (sources : List (Source R)) (olds news : List (Lane R)) (lists : List (List Point)) (opens : AllZip (OpensAs file names) sources olds) (truth : All (IsTrueSource file names pages) sources)
+  module _ (names : List ℕ × List ℕ) (sources : List (StreamSource R)) (olds news : List (Lane R)) (lists : List (List Point)) (opens : AllZip (OpensAs file names) sources olds) (truth : All (IsTrueSource file names pages) sources)
       (cleaned : AreCleaned kept olds news) (told : map (source_all file pages) sources ≡ map Some lists) (rising : All IsRising lists) where
-    seen_at : (k : ℕ) (from : Source R) (lane : Lane R) → slice_get sources k ≡ Some from → slice_get news k ≡ Some lane → IsSeen (others k (map lane_hulls news)) from lane
+    seen_at : (k : ℕ) (from : StreamSource R) (lane : Lane R) → slice_get sources k ≡ Some from → slice_get news k ≡ Some lane → IsSeen (others k (map lane_hulls news)) from lane
     seen_at k from lane a b =
         let old = zip_at (OpensAs file names) sources olds k from opens a in
         let low : k < length olds = slice_get_within olds k old.0 old.1 in
@@ -213,21 +213,21 @@ module _ {R : Type 0} (file : R → NamedFile) (pages : FilePages) (kept : Kept)
     abbrev all_views : List View
     all_views = views kept news (map told_of sources)
 
-    map_left : (ss : List (Source R)) (ls : List (Lane R)) → length ss ≡ length ls → ((k : ℕ) (from : Source R) (lane : Lane R) → slice_get ss k ≡ Some from → slice_get ls k ≡ Some lane → lane_left file pages (keep_of kept) lane ≡ Some (kept_left (view kept lane (told_of from))))
-        → map (lane_left file pages (keep_of kept)) ls ≡ map Some (map kept_left (views kept ls (map told_of ss)))
+    map_left : (ss : List (StreamSource R)) (ls : List (Lane R)) → length ss ≡ length ls → ((k : ℕ) (from : StreamSource R) (lane : Lane R) → slice_get ss k ≡ Some from → slice_get ls k ≡ Some lane → lane_points_left file pages (keep_of kept) lane ≡ Some (kept_left (view kept lane (told_of from))))
+        → map (lane_points_left file pages (keep_of kept)) ls ≡ map Some (map kept_left (views kept ls (map told_of ss)))
     map_left [] [] long f = refl
     map_left [] (l ∷ ls) long f = absurd (omega (arith, long))
     map_left (s ∷ ss) [] long f = absurd (omega (arith, long))
-    map_left (s ∷ ss) (l ∷ ls) long f = ap (λ o. o ∷ map (lane_left file pages (keep_of kept)) ls) (f 0 s l refl refl) ∙ ap (λ os. Some (kept_left (view kept l (told_of s))) ∷ os) (map_left ss ls (omega (arith, long)) (λ k a b x y. f (suc k) a b x y))
+    map_left (s ∷ ss) (l ∷ ls) long f = ap (λ o. o ∷ map (lane_points_left file pages (keep_of kept)) ls) (f 0 s l refl refl) ∙ ap (λ os. Some (kept_left (view kept l (told_of s))) ∷ os) (map_left ss ls (omega (arith, long)) (λ k a b x y. f (suc k) a b x y))
 
-    map_all : (ss : List (Source R)) (ls : List (Lane R)) → length ss ≡ length ls → ((k : ℕ) (from : Source R) (lane : Lane R) → slice_get ss k ≡ Some from → slice_get ls k ≡ Some lane → source_left file pages (keep_of kept) from ≡ Some (kept_all (view kept lane (told_of from))))
+    map_all : (ss : List (StreamSource R)) (ls : List (Lane R)) → length ss ≡ length ls → ((k : ℕ) (from : StreamSource R) (lane : Lane R) → slice_get ss k ≡ Some from → slice_get ls k ≡ Some lane → source_left file pages (keep_of kept) from ≡ Some (kept_all (view kept lane (told_of from))))
         → map (source_left file pages (keep_of kept)) ss ≡ map Some (map kept_all (views kept ls (map told_of ss)))
     map_all [] [] long f = refl
     map_all [] (l ∷ ls) long f = absurd (omega (arith, long))
     map_all (s ∷ ss) [] long f = absurd (omega (arith, long))
     map_all (s ∷ ss) (l ∷ ls) long f = ap (λ o. o ∷ map (source_left file pages (keep_of kept)) ss) (f 0 s l refl refl) ∙ ap (λ os. Some (kept_all (view kept l (told_of s))) ∷ os) (map_all ss ls (omega (arith, long)) (λ k a b x y. f (suc k) a b x y))
 
-    map_passed : (ss : List (Source R)) (ls : List (Lane R)) → length ss ≡ length ls → ((k : ℕ) (from : Source R) (lane : Lane R) → slice_get ss k ≡ Some from → slice_get ls k ≡ Some lane → lane_passed lane ≡ passed_of (view kept lane (told_of from)))
+    map_passed : (ss : List (StreamSource R)) (ls : List (Lane R)) → length ss ≡ length ls → ((k : ℕ) (from : StreamSource R) (lane : Lane R) → slice_get ss k ≡ Some from → slice_get ls k ≡ Some lane → lane_passed lane ≡ passed_of (view kept lane (told_of from)))
         → flat_map lane_passed ls ≡ gathered (views kept ls (map told_of ss))
     map_passed [] [] long f = refl
     map_passed [] (l ∷ ls) long f = absurd (omega (arith, long))
@@ -241,7 +241,7 @@ module _ {R : Type 0} (file : R → NamedFile) (pages : FilePages) (kept : Kept)
         let is : list ≡ told_of from.0 = some_same list (told_of from.0) (sym y ∙ got_map told_of sources k from.0 from.1) in
         subst (IsOpen kept (others k (map lane_hulls news)) lane) (sym is) (seen_at k from.0 lane from.1 x).opened
       where
-        from_at : (ss : List (Source R)) (k : ℕ) → k < length ss → (s : Source R) × (slice_get ss k ≡ Some s)
+        from_at : (ss : List (StreamSource R)) (k : ℕ) → k < length ss → (s : StreamSource R) × (slice_get ss k ≡ Some s)
         from_at [] k low = absurd (omega (arith, low))
         from_at (s ∷ ss) zero low = (s, refl)
         from_at (s ∷ ss) (suc k) low = from_at ss k (omega (arith, low))
@@ -269,7 +269,7 @@ module _ {R : Type 0} (file : R → NamedFile) (pages : FilePages) (kept : Kept)
     told_merge ls None merge = absurd merge
     told_merge ls (Some points) merge = (points, refl, merge)
 
-    long_views : (ss : List (Source R)) (ls : List (Lane R)) → length ss ≡ length ls → length (views kept ls (map told_of ss)) ≡ length ls
+    long_views : (ss : List (StreamSource R)) (ls : List (Lane R)) → length ss ≡ length ls → length (views kept ls (map told_of ss)) ≡ length ls
     long_views [] [] long = refl
     long_views [] (l ∷ ls) long = absurd (omega (arith, long))
     long_views (s ∷ ss) [] long = absurd (omega (arith, long))
@@ -277,7 +277,7 @@ module _ {R : Type 0} (file : R → NamedFile) (pages : FilePages) (kept : Kept)
 
     pub is_parted : (clean : List Stats) (kept_lists : List (List Point)) (left_of : List (Option (List Point)) → Option (List Point)) → IsPermutation (flat_map lane_passed news) clean → AllPairs (λ a b. a.start ≤ℤ b.start) clean
         → map (source_left file pages (keep_of kept)) sources ≡ map Some kept_lists → ((ls : List (List Point)) → length ls ≡ length news → All IsRising ls → IsToldMergeOf ls (left_of (map Some ls)))
-        → IsParted kept_lists clean (left_of (map (lane_left file pages (keep_of kept)) news))
+        → IsParted kept_lists clean (left_of (map (lane_points_left file pages (keep_of kept)) news))
     is_parted clean kept_lists left_of perm starts is merged =
         let all_sound = sound kept news (map told_of sources) are_open in
         let rises : (v : View) → Among v all_views → IsRising (all_of v) = λ v m. each_among (λ (v : View). IsRising (all_of v)) all_views v all_sound.rising m in
@@ -311,7 +311,7 @@ module _ {R : Type 0} (file : R → NamedFile) where
   flagged_told pages flags whole (Part old) (Pages new) is told = absurd is
   flagged_told pages flags whole (Part old) (Part new) is told = tt
 
-  pub flagged_of : (store : Store) (flags : List Bool) (whole : Bool) (old new : Lane R) → IsFlagged flags whole old new → IsLaneOf file store old → IsLaneOf file store new
+  pub flagged_of : (store : Store) (flags : List Bool) (whole : Bool) (old new : Lane R) → IsFlagged flags whole old new → IsLaneOfStore file store old → IsLaneOfStore file store new
   flagged_of store flags whole (Pages old) (Pages new) is of = pages_of_store file store new (ap (λ r. (file r.now).store) is.1 ∙ of old refl)
   flagged_of store flags whole (Pages old) (Part new) is of = absurd is
   flagged_of store flags whole (Part old) (Pages new) is of = absurd is

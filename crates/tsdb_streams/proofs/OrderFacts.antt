@@ -11,7 +11,7 @@ use Rattle.tsdb_aggregate.specs.Pieces.{overlap}
 use Rattle.tsdb_base.specs.declared.point.Range.{Range}
 use Rattle.tsdb_streams.specs.Clean.{any_meets}
 use Rattle.tsdb_streams.specs.Cleaning.{page_times}
-use Rattle.tsdb_streams.specs.Order.{AreInOrder, IsNextPage}
+use Rattle.tsdb_streams.specs.Order.{ArePagesInOrder, IsNextPage}
 use Rattle.tsdb_index.specs.declared.index.PageEntry.{PageEntry}
 use Rattle.tsdb_merge.proofs.MergeLemmas.{AllPairs-head, AllPairs-tail}
 
@@ -57,7 +57,7 @@ passing : (first : PageEntry) (pages : List PageEntry) (times : Range) → ends_
 passing first pages times e = rw (before_apart (page_times first) times e) refl
 
 -- the page at a place says whether one meets the times, where those before it end before these, and it does not
-pub one_meets : (pages : List PageEntry) (times : Range) (place : ℕ) (page : PageEntry) → AreInOrder pages → place < length pages → page ≡ get_or pages place page → ((k : ℕ) (d : PageEntry) → k < place → ends_before times (get_or pages k d) ≡ true)
+pub one_meets : (pages : List PageEntry) (times : Range) (place : ℕ) (page : PageEntry) → ArePagesInOrder pages → place < length pages → page ≡ get_or pages place page → ((k : ℕ) (d : PageEntry) → k < place → ends_before times (get_or pages k d) ≡ true)
     → ends_before times (get_or pages place page) ≡ false → overlap (page_times page) times ≡ any_meets times (map page_times pages)
 one_meets [] times place page order low is early late = absurd (omega (arith, low))
 one_meets (first ∷ pages) times zero page order low is early late =
@@ -74,7 +74,7 @@ none_meets (first ∷ pages) times early = passing first pages times (early 0 fi
 ends_sooner : (a b : PageEntry) (times : Range) → Ends a b → Starts b → ends_before times b ≡ true → ends_before times a ≡ true
 ends_sooner a b times ends starts e = let low = lt_of b.stats.end times.from e in lt_test a.stats.end times.from (omega (arith, ints, low, ends, starts))
 
-pub parted : (times : Range) (pages : List PageEntry) → AreInOrder pages → IsPartitionedBy (ends_before times) pages
+pub parted : (times : Range) (pages : List PageEntry) → ArePagesInOrder pages → IsPartitionedBy (ends_before times) pages
 parted times pages order = λ i j d le within e.
     let P : ℕ → Type 0 = λ k. ends_before times (get_or pages k d) ≡ true in
     ⊎_elim (λ (lt : i < j). ends_sooner (get_or pages i d) (get_or pages j d) times (order.1 i j d lt within) (order.0 j d within) e)
@@ -82,13 +82,13 @@ parted times pages order = λ i j d le within e.
 
 -- ---- the test of the order, page by page
 
-pub order_none : (pages : List PageEntry) → AreInOrder (take 0 pages)
+pub order_none : (pages : List PageEntry) → ArePagesInOrder (take 0 pages)
 order_none pages = (All-nil Starts, λ i j d lt within. absurd (omega (arith, within)))
 
 -- one page more
-order_push : (pages : List PageEntry) (i : ℕ) (first : PageEntry) → i < length pages → AreInOrder (take i pages) → IsNextPage pages i → AreInOrder (take (i + 1) pages)
+order_push : (pages : List PageEntry) (i : ℕ) (first : PageEntry) → i < length pages → ArePagesInOrder (take i pages) → IsNextPage pages i → ArePagesInOrder (take (i + 1) pages)
 order_push pages i first low order next =
-    subst AreInOrder (sym (take_more pages i first low)) (All-push Starts (take i pages) (get_or pages i first) order.0 (next first).0, all_pairs_push Ends (take i pages) (get_or pages i first) order.1 (λ k d below. by k d (let long = long_is in omega (arith, below, long)) (cases_lt k (i - 1))))
+    subst ArePagesInOrder (sym (take_more pages i first low)) (All-push Starts (take i pages) (get_or pages i first) order.0 (next first).0, all_pairs_push Ends (take i pages) (get_or pages i first) order.1 (λ k d below. by k d (let long = long_is in omega (arith, below, long)) (cases_lt k (i - 1))))
   where
     long_is : length (take i pages) ≡ i
     long_is = length-take-le i pages (omega (arith, low))
@@ -109,9 +109,9 @@ order_push pages i first low order next =
         let same : k ≡ i - 1 = omega (arith, below, ge) in
         subst (λ n. Ends (get_or (take i pages) n d) (get_or pages i first)) (sym same) (last d (omega (arith, below)))
 
-pub order_more : (pages : List PageEntry) (i : ℕ) → i < length pages → AreInOrder (take i pages) → IsNextPage pages i → AreInOrder (take (i + 1) pages)
+pub order_more : (pages : List PageEntry) (i : ℕ) → i < length pages → ArePagesInOrder (take i pages) → IsNextPage pages i → ArePagesInOrder (take (i + 1) pages)
 order_more [] i low order next = absurd (omega (arith, low))
 order_more (first ∷ rest) i low order next = order_push (first ∷ rest) i first low order next
 
-pub order_all : (pages : List PageEntry) (i : ℕ) → length pages ≤ i → AreInOrder (take i pages) → AreInOrder pages
-order_all pages i past order = subst AreInOrder (take_all i pages past) order
+pub order_all : (pages : List PageEntry) (i : ℕ) → length pages ≤ i → ArePagesInOrder (take i pages) → ArePagesInOrder pages
+order_all pages i past order = subst ArePagesInOrder (take_all i pages past) order

@@ -1,7 +1,7 @@
 -- When a call that reads a file may fail.
 use Rattle.std.proofs.Common.{◌≡◌, ℕ, ◌≤◌, List, Result, Ok, Err, refl, arith}
 use Rattle.std.specs.Prelude.{IfErr, Option, None, Some}
-use Rattle.tsdb_streams.specs.Files.{HasReason, IsCounted}
+use Rattle.tsdb_streams.specs.Files.{HasReason, IsCountedFault}
 use Rattle.tsdb_base.specs.Causes.{Rose}
 use Rattle.tsdb_outside.specs.declared.faults.StoreFault.{StoreFault}
 use Rattle.tsdb_outside.specs.declared.faults.StoreFault.TheVariants as store
@@ -26,7 +26,7 @@ pub ok_failed : {T : Type 0} (x : T) (fault : StoreFault) → ◌≡◌ {A = Res
 ok_failed x fault e = cc
 
 -- a read failed, and the fault was counted
-pub reason_of : {S T : Type 0} (whole : Type 0) (told : Option (List ℕ)) (a b c : ℕ) (fault : ReadFault) (answer : StoreFault) → HasReadCause {T = S} a b (Err fault) → b ≤ c → IsCounted told b c fault answer
+pub reason_of : {S T : Type 0} (whole : Type 0) (told : Option (List ℕ)) (a b c : ℕ) (fault : ReadFault) (answer : StoreFault) → HasReadCause {T = S} a b (Err fault) → b ≤ c → IsCountedFault told b c fault answer
     → (whole → (bytes : List ℕ) → told ≡ Some bytes → IsNotDamaged {T = S} (Err fault)) → HasReason {T = T} whole a c (Err answer)
 reason_of whole told a b c Failed answer cause later counted sound = record {
   later = omega (arith, cause.later, later);

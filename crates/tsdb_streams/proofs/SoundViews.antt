@@ -23,7 +23,7 @@ use Rattle.tsdb_streams.proofs.Views.{AreApart, AreSound, IsFit, Seen, View, Vie
 use Rattle.tsdb_streams.proofs.ViewMerges.{points_of}
 use Rattle.tsdb_streams.specs.Clean.{any_meets, hull_of, others}
 use Rattle.tsdb_streams.specs.Cleaning.{all_set, is_clean_page, lane_hulls, page_times, picked}
-use Rattle.tsdb_streams.specs.Kept.{times_of}
+use Rattle.tsdb_streams.specs.Kept.{stats_range}
 use Rattle.tsdb_streams.specs.Lanes.{keep_of, left_pages}
 use Rattle.tsdb_streams.specs.declared.kept.Kept.{Kept}
 use Rattle.tsdb_streams.specs.declared.lane.Lane.{Lane}
@@ -117,7 +117,7 @@ each_all P (x ∷ xs) f = (f x (inl refl), each_all P xs (λ y m. f y (inr m)))
 -- ---- a chunk that is one piece
 
 abbrev pub whole_seen : Stats → List Point → Seen
-whole_seen stats points = record { hull = times_of stats; passed = Some stats; points = points }
+whole_seen stats points = record { hull = stats_range stats; passed = Some stats; points = points }
 
 -- it is passed over, and begins with a page that has these times
 pub record BeginsAs (t : Seen) (r : Range) : Type 0 where
@@ -156,7 +156,7 @@ all_kept_pages keep test (page ∷ pages) (points ∷ list) are kept all =
 fit_whole : (keep : Point → Bool) (stats : Stats) (points : List Point) → AreStatsOf points stats → IsRising points → All (λ p. keep p ≡ true) points → IsFit keep (whole_seen stats points)
 fit_whole keep stats points are rising kept = record {
   inside = within points rising (stats_hull stats points are);
-  times = λ s e. ap times_of (sym (same s e));
+  times = λ s e. ap stats_range (sym (same s e));
   are = λ s e. subst (AreStatsOf points) (same s e) are;
   kept = λ s e. kept;
 }
@@ -167,10 +167,10 @@ fit_whole keep stats points are rising kept = record {
     one_alike : (a b : Range) → a ∷ [] ≡ b ∷ [] → a ≡ b
     one_alike a b e = cc
 
-    within : (points : List Point) → IsRising points → times_of stats ∷ [] ≡ hull_of points → All (λ p. is_in (times_of stats) p.time ≡ true) points
-    within [] rising hull = All-nil (λ (p : Point). is_in (times_of stats) p.time ≡ true)
+    within : (points : List Point) → IsRising points → stats_range stats ∷ [] ≡ hull_of points → All (λ p. is_in (stats_range stats) p.time ≡ true) points
+    within [] rising hull = All-nil (λ (p : Point). is_in (stats_range stats) p.time ≡ true)
     within (p ∷ ps) rising hull =
-        subst (λ (r : Range). All (λ q. is_in r q.time ≡ true) (p ∷ ps)) (sym (one_alike (times_of stats) _ hull)) (part_fit (λ q. true) (p ∷ ps) rising).0.inside
+        subst (λ (r : Range). All (λ q. is_in r q.time ≡ true) (p ∷ ps)) (sym (one_alike (stats_range stats) _ hull)) (part_fit (λ q. true) (p ∷ ps) rising).0.inside
 
 -- it begins with its first page, which has a point
 first_page : (pages : List PageEntry) (list : List (List Point)) (stats : Stats) → ArePages pages list → AreStatsOf (joined list) stats
@@ -222,7 +222,7 @@ module _ {R : Type 0} where
   -- all pages are passed over, nothing of another source meets the times of the chunk, whose statistics are of all points
   pub record IsOnePiece (hulls : List (List Range)) (lane : PageLane R) (list : List (List Point)) : Type 0 where
     pub all : all_set lane.passed.items ≡ true
-    pub clear : list_any (any_meets (times_of lane.entry.stats)) hulls ≡ false
+    pub clear : list_any (any_meets (stats_range lane.entry.stats)) hulls ≡ false
     pub stats : AreStatsOf (joined list) lane.entry.stats
 
   -- a source that was opened, whose clean pages are passed over, with what is told of it

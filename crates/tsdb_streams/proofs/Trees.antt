@@ -5,7 +5,7 @@ use Rattle.std.specs.Prelude.{◌⊎◌, AllPairs, Contains}
 use Rattle.std.proofs.lemmas.Bool.{false≢true}
 use Rattle.std.proofs.lemmas.List.Elements.{recursion_from_All}
 use Rattle.tsdb_base.specs.declared.point.Point.{Point}
-use Rattle.tsdb_streams.specs.Files.{ArePagesIn, IsChunkOf}
+use Rattle.tsdb_streams.specs.Files.{ArePagesIn, IsSeriesChunk}
 use Rattle.tsdb_path.proofs.Order.{not_itself}
 use Rattle.tsdb_base.proofs.Lists.{each_among}
 use Rattle.tsdb_state.proofs.LayerLemmas.Places.{is_path_same, path_itself}
@@ -140,7 +140,7 @@ one_chunk tree names is a b =
     good : IsGroup b.group
     good = each_among IsGroup tree.groups b.group (recursion_from_All IsGroup tree.groups is.groups) b.in_tree
 
-pub at_chunk : (tree : Tree) (names : Names) (chunk : Chunk) → IsChunkOf tree names chunk → At tree.groups names
+pub at_chunk : (tree : Tree) (names : Names) (chunk : Chunk) → IsSeriesChunk tree names chunk → At tree.groups names
 at_chunk tree names chunk of = record {
   group = of.group;
   chunk = chunk;
@@ -150,7 +150,7 @@ at_chunk tree names chunk of = record {
   measurement = of.measurement;
 }
 
-pub chunk_at : (tree : Tree) (names : Names) (found : At tree.groups names) → IsChunkOf tree names found.chunk
+pub chunk_at : (tree : Tree) (names : Names) (found : At tree.groups names) → IsSeriesChunk tree names found.chunk
 chunk_at tree names found = record {
   group = found.group;
   in_tree = contains_of found.group tree.groups found.in_tree;

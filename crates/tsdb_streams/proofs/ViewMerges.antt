@@ -19,8 +19,8 @@ use Rattle.tsdb_base.specs.declared.value.Value.TheVariants.{I64}
 use Rattle.tsdb_streams.proofs.CleanFacts.{inside}
 use Rattle.tsdb_streams.proofs.KeptLemmas.{common_time}
 use Rattle.tsdb_streams.proofs.Views.{AreApart, AreSound, IsFit, Seen, View, ViewsApart, all_of, covered, fit_of, gathered, kept_all, kept_left, lists_left, overlap_swap, passed_of, separate}
-use Rattle.tsdb_streams.specs.Kept.{times_of}
-use Rattle.tsdb_streams.specs.Parted.{AreTaken, is_between, within}
+use Rattle.tsdb_streams.specs.Kept.{stats_range}
+use Rattle.tsdb_streams.specs.Parted.{AreStatsInOrder, is_between, points_within}
 use Rattle.tsdb_base.specs.Lists.{Among, EachPair, if_some}
 use Rattle.tsdb_base.proofs.Lists.{each_among}
 use Rattle.tsdb_model.specs.Folds.{aggregate_of}
@@ -212,7 +212,7 @@ module _ (views : List View) (sound : AreSound views) where
     }
 
     -- the statistics are those of the merge's points within their times
-    pub stats_within : (points : List Point) → IsMergeOf (map kept_all views) points → AreStatsOf (within stats points) stats
+    pub stats_within : (points : List Point) → IsMergeOf (map kept_all views) points → AreStatsOf (points_within stats points) stats
     stats_within points merge =
         let fit = fit_of views sound v a mv ma in
         let part = merge_filter (is_in a.hull) (map kept_all views) points merge in
@@ -249,10 +249,10 @@ pairs_all R [] pairs = λ i j d l m. absurd (omega (arith, m))
 pairs_all R (x ∷ xs) pairs = AllPairs-cons R x xs (All-from_recursion (R x) xs pairs.0) (pairs_all R xs pairs.1)
 
 abbrev Disjoint : Stats → Stats → Type 0
-Disjoint s t = overlap (times_of s) (times_of t) ≡ false
+Disjoint s t = overlap (stats_range s) (stats_range t) ≡ false
 
 disjoint_swap : (s t : Stats) → Disjoint s t → Disjoint t s
-disjoint_swap s t e = overlap_swap (times_of t) (times_of s) ∙ e
+disjoint_swap s t e = overlap_swap (stats_range t) (stats_range s) ∙ e
 
 is_proper : (keep : Point → Bool) (a : Seen) (stats : Stats) → IsFit keep a → a.passed ≡ Some stats → stats.start ≤ℤ stats.end
 is_proper keep a stats fit is = by a.points (fit.are stats is).start fit.inside
@@ -264,7 +264,7 @@ is_proper keep a stats fit is = by a.points (fit.are stats is).start fit.inside
     by [] e all = absurd (none_some e)
     by (p ∷ ps) e all =
         let at = inside a.hull p.time (All-head (λ (p : Point). is_in a.hull p.time ≡ true) p ps all) in
-        let times : times_of stats ≡ a.hull = fit.times stats is in
+        let times : stats_range stats ≡ a.hull = fit.times stats is in
         subst (λ (r : Range). r.from ≤ℤ r.to) (sym times) (omega (arith, ints, at.0, at.1))
 
 ends_first : (a b : Range) → a.from ≤ℤ a.to → b.from ≤ℤ b.to → a.from ≤ℤ b.from → overlap a b ≡ false → a.to <ℤ b.from
@@ -282,7 +282,7 @@ module _ (views : List View) (sound : AreSound views) where
   disjoint_two v w a b None q mv mw ma mb apart ep eq = tt
   disjoint_two v w a b (Some s) None mv mw ma mb apart ep eq = (tt, tt)
   disjoint_two v w a b (Some s) (Some t) mv mw ma mb apart ep eq =
-      ((ap (λ r. overlap r (times_of t)) ((fit_of views sound v a mv ma).times s ep) ∙ ap (overlap a.hull) ((fit_of views sound w b mw mb).times t eq) ∙ apart.first (ap is_some ep), tt), tt)
+      ((ap (λ r. overlap r (stats_range t)) ((fit_of views sound v a mv ma).times s ep) ∙ ap (overlap a.hull) ((fit_of views sound w b mw mb).times t eq) ∙ apart.first (ap is_some ep), tt), tt)
 
   cross_two : (v w : View) (a b : Seen) → Among v views → Among w views → Among a v.seens → Among b w.seens → AreApart a b → Each (λ s. Each (Disjoint s) (if_some b.passed)) (if_some a.passed)
   cross_two v w a b mv mw ma mb apart = disjoint_two v w a b a.passed b.passed mv mw ma mb apart refl refl
@@ -304,12 +304,12 @@ module _ (views : List View) (sound : AreSound views) where
 
   -- the merge is parted
   pub parted : (clean : List Stats) (points left : List Point) → IsPermutation (gathered views) clean → AllPairs (λ a b. a.start ≤ℤ b.start) clean → IsMergeOf (map kept_all views) points → IsMergeOf (map kept_left views) left
-      → AreTaken clean points × (left ≡ filter (is_between clean) points)
+      → AreStatsInOrder clean points × (left ≡ filter (is_between clean) points)
   parted clean points left perm starts merge rest = (
     record {
-      statistics = All-permutation (λ stats. AreStatsOf (within stats points) stats) (gathered views) clean perm
-          (All-from_recursion (λ stats. AreStatsOf (within stats points) stats) (gathered views) (passed_is (λ stats. AreStatsOf (within stats points) stats) (λ v a stats mv ma is. stats_within views sound v a mv ma stats is points merge)));
-      order = λ i j d l m. ends_first (times_of (get_or clean i d)) (times_of (get_or clean j d)) (proper i d (omega (arith, l, m))) (proper j d m) (starts i j d l m) (apart i j d l m);
+      statistics = All-permutation (λ stats. AreStatsOf (points_within stats points) stats) (gathered views) clean perm
+          (All-from_recursion (λ stats. AreStatsOf (points_within stats points) stats) (gathered views) (passed_is (λ stats. AreStatsOf (points_within stats points) stats) (λ v a stats mv ma is. stats_within views sound v a mv ma stats is points merge)));
+      order = λ i j d l m. ends_first (stats_range (get_or clean i d)) (stats_range (get_or clean j d)) (proper i d (omega (arith, l, m))) (proper j d m) (starts i j d l m) (apart i j d l m);
     },
     same,
   )
@@ -331,7 +331,7 @@ module _ (views : List View) (sound : AreSound views) where
       all_left = lists_left views sound views (λ v m. m)
 
       same_cover : (t : ℤ) → covered (gathered views) t ≡ covered clean t
-      same_cover t = list_any-IsPermutation (λ s. is_in (times_of s) t) (gathered views) clean perm
+      same_cover t = list_any-IsPermutation (λ s. is_in (stats_range s) t) (gathered views) clean perm
 
       same : left ≡ filter (is_between clean) points
       same = one_merge (map kept_left views) left (filter (λ (p : Point). test p.time) points) rest (subst (λ ls. IsMergeOf ls (filter (λ (p : Point). test p.time) points)) (sym all_left) (merge_filter test (map kept_all views) points merge))

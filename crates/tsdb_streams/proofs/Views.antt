@@ -10,7 +10,7 @@ use Rattle.tsdb_base.specs.declared.point.Point.{Point}
 use Rattle.tsdb_base.specs.declared.point.Range.{Range}
 use Rattle.tsdb_base.specs.declared.point.Stats.{Stats}
 use Rattle.tsdb_streams.proofs.KeptLemmas.{common_time}
-use Rattle.tsdb_streams.specs.Kept.{times_of}
+use Rattle.tsdb_streams.specs.Kept.{stats_range}
 use Rattle.tsdb_base.specs.Lists.{Among, EachPair, if_some}
 use Rattle.tsdb_base.proofs.Lists.{each_among}
 use Rattle.tsdb_model.specs.World.{is_in}
@@ -51,12 +51,12 @@ gathered views = flat_map passed_of views
 
 -- one of these covers the time
 abbrev pub covered : List Stats → ℤ → Bool
-covered stats time = list_any (λ s. is_in (times_of s) time) stats
+covered stats time = list_any (λ s. is_in (stats_range s) time) stats
 
 -- the points lie within the times, and statistics are those of the points, all of which are kept
 pub record IsFit (keep : Point → Bool) (s : Seen) : Type 0 where
   pub inside : All (λ p. is_in s.hull p.time ≡ true) s.points
-  pub times : (stats : Stats) → s.passed ≡ Some stats → times_of stats ≡ s.hull
+  pub times : (stats : Stats) → s.passed ≡ Some stats → stats_range stats ≡ s.hull
   pub are : (stats : Stats) → s.passed ≡ Some stats → AreStatsOf s.points stats
   pub kept : (stats : Stats) → s.passed ≡ Some stats → All (λ p. keep p ≡ true) s.points
 
@@ -147,11 +147,11 @@ module _ (views : List View) (sound : AreSound views) where
   covered_one : (v : View) (a : Seen) (p : Point) (passed : Option Stats) → Among v views → Among a v.seens → a.passed ≡ passed → Contains a.points p → covered (gathered views) p.time ≡ is_some passed
   covered_one v a p (Some stats) mv ma is has =
       let fit = fit_of views sound v a mv ma in
-      let here : is_in (times_of stats) p.time ≡ true = ap (λ r. is_in r p.time) (fit.times stats is) ∙ All-contains (λ (p : Point). is_in a.hull p.time ≡ true) a.points p fit.inside has in
-      any_flat (λ s. is_in (times_of s) p.time) passed_of views v mv (any_flat (λ s. is_in (times_of s) p.time) (λ (s : Seen). if_some s.passed) v.seens a ma
-      (ap (λ o. list_any (λ s. is_in (times_of s) p.time) (if_some o)) is ∙ or_left (is_in (times_of stats) p.time) false here))
+      let here : is_in (stats_range stats) p.time ≡ true = ap (λ r. is_in r p.time) (fit.times stats is) ∙ All-contains (λ (p : Point). is_in a.hull p.time ≡ true) a.points p fit.inside has in
+      any_flat (λ s. is_in (stats_range s) p.time) passed_of views v mv (any_flat (λ s. is_in (stats_range s) p.time) (λ (s : Seen). if_some s.passed) v.seens a ma
+      (ap (λ o. list_any (λ s. is_in (stats_range s) p.time) (if_some o)) is ∙ or_left (is_in (stats_range stats) p.time) false here))
   covered_one v a p None mv ma is has =
-      none_flat (λ s. is_in (times_of s) p.time) passed_of views (λ w mw. none_flat (λ s. is_in (times_of s) p.time) (λ (s : Seen). if_some s.passed) w.seens (λ b mb. other w b b.passed mw mb refl))
+      none_flat (λ s. is_in (stats_range s) p.time) passed_of views (λ w mw. none_flat (λ s. is_in (stats_range s) p.time) (λ (s : Seen). if_some s.passed) w.seens (λ b mb. other w b b.passed mw mb refl))
     where
       clash : (stats : Stats) (b : Seen) → b.passed ≡ Some stats → (a ≡ b) ⊎ AreApart a b → is_in b.hull p.time ≡ true → ⊥
       clash stats b some (inl same) e = none_some (sym is ∙ ap (λ (s : Seen). s.passed) same ∙ some)
@@ -161,12 +161,12 @@ module _ (views : List View) (sound : AreSound views) where
       clash stats b some (inr apart) e =
           not_in a.hull b.hull p.time (apart.second (ap is_some some)) (All-contains (λ (p : Point). is_in a.hull p.time ≡ true) a.points p (fit_of views sound v a mv ma).inside has) e
 
-      other : (w : View) (b : Seen) (passed : Option Stats) → Among w views → Among b w.seens → b.passed ≡ passed → list_any (λ s. is_in (times_of s) p.time) (if_some b.passed) ≡ false
-      other w b None mw mb some = ap (λ o. list_any (λ s. is_in (times_of s) p.time) (if_some o)) some
+      other : (w : View) (b : Seen) (passed : Option Stats) → Among w views → Among b w.seens → b.passed ≡ passed → list_any (λ s. is_in (stats_range s) p.time) (if_some b.passed) ≡ false
+      other w b None mw mb some = ap (λ o. list_any (λ s. is_in (stats_range s) p.time) (if_some o)) some
       other w b (Some stats) mw mb some =
-          ap (λ o. list_any (λ s. is_in (times_of s) p.time) (if_some o)) some
-          ∙ or_none (is_in (times_of stats) p.time) false
-          (is_false (is_in (times_of stats) p.time) (λ e. clash stats b some (separate views sound v w a b mv ma mw mb) (ap (λ r. is_in r p.time) (sym ((fit_of views sound w b mw mb).times stats some)) ∙ e))) refl
+          ap (λ o. list_any (λ s. is_in (stats_range s) p.time) (if_some o)) some
+          ∙ or_none (is_in (stats_range stats) p.time) false
+          (is_false (is_in (stats_range stats) p.time) (λ e. clash stats b some (separate views sound v w a b mv ma mw mb) (ap (λ r. is_in r p.time) (sym ((fit_of views sound w b mw mb).times stats some)) ∙ e))) refl
 
 -- ---- what is left of one source
 

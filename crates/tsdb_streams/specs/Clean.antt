@@ -7,8 +7,8 @@ use Rattle.tsdb_aggregate.specs.Pieces.{overlap}
 use Rattle.tsdb_base.specs.declared.point.Point.{Point}
 use Rattle.tsdb_base.specs.declared.point.Range.{Range}
 use Rattle.tsdb_streams.specs.Files.{FilePages}
-use Rattle.tsdb_streams.specs.declared.source.Source.{Source}
-use Rattle.tsdb_streams.specs.declared.source.Source.TheVariants as source
+use Rattle.tsdb_streams.specs.declared.source.StreamSource.{StreamSource}
+use Rattle.tsdb_streams.specs.declared.source.StreamSource.TheVariants as source
 use Rattle.tsdb_state.specs.Places.{is_path}
 use Rattle.tsdb_model.specs.World.{is_in}
 use Rattle.tsdb_marks.specs.declared.marks.Mark.{Mark}
@@ -48,17 +48,17 @@ count_read path range marks hulls born pages =
 
 module _ {R : Type 0} (file : R → NamedFile) (pages : FilePages) where
   -- the times of each page of a source, as its points are told, or of the part
-  abbrev pub source_hulls : Source R → List Range
+  abbrev pub source_hulls : StreamSource R → List Range
   source_hulls (source.File right born) = flat_map hull_of (unwrap_or (pages (file right.now).number) [])
   source_hulls (source.Part points born) = hull_of points.now
 
   -- how many pages of the source with this number meet the range and are not clean; `hulls` has the times of each
-  abbrev pub source_read : List ℕ → Range → List Mark → List (List Range) → ℕ → Source R → ℕ
+  abbrev pub source_read : List ℕ → Range → List Mark → List (List Range) → ℕ → StreamSource R → ℕ
   source_read path range marks hulls number (source.File right born) =
       count_read path range marks (others number hulls) born.0 (source_hulls (source.File right born))
   source_read path range marks hulls number (source.Part points born) = 0
 
   -- how many pages of the sources meet the range and are not clean
-  abbrev pub sources_read : List ℕ → Range → List Mark → List (Source R) → ℕ
+  abbrev pub sources_read : List ℕ → Range → List Mark → List (StreamSource R) → ℕ
   sources_read path range marks sources = sum_by
       (λ entry. source_read path range marks (map source_hulls sources) entry.0 entry.1) (enumerate_from 0 sources)

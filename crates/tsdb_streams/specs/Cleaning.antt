@@ -4,14 +4,14 @@ use Rattle.std.specs.List.{list_any}
 use Rattle.tsdb_base.specs.declared.point.Range.{Range}
 use Rattle.tsdb_base.specs.declared.point.Stats.{Stats}
 use Rattle.tsdb_streams.specs.Clean.{any_meets, hull_of, is_clean, others}
-use Rattle.tsdb_streams.specs.Kept.{times_of}
+use Rattle.tsdb_streams.specs.Kept.{stats_range}
 use Rattle.tsdb_streams.specs.declared.kept.Kept.{Kept}
 use Rattle.tsdb_streams.specs.declared.lane.Lane.{Lane}
 use Rattle.tsdb_streams.specs.declared.lane.Lane.TheVariants.{Pages, Part}
 use Rattle.tsdb_index.specs.declared.index.PageEntry.{PageEntry}
 
 abbrev pub page_times : PageEntry → Range
-page_times page = times_of page.stats
+page_times page = stats_range page.stats
 
 -- a page of a source that was born so is clean
 abbrev pub is_clean_page : Kept → List (List Range) → ℕ → PageEntry → Bool
@@ -48,7 +48,7 @@ module _ {R : Type 0} where
 
   -- the pages with these flags are one piece: all are set, and nothing of another source meets the times of the chunk
   abbrev pub whole_of : List (List Range) → List Bool → Lane R → Bool
-  whole_of hulls flags (Pages lane) = all_set flags && not (list_any (any_meets (times_of lane.entry.stats)) hulls)
+  whole_of hulls flags (Pages lane) = all_set flags && not (list_any (any_meets (stats_range lane.entry.stats)) hulls)
   whole_of hulls flags (Part lane) = false
 
   -- the same source with these flags, as one piece or not

@@ -21,7 +21,7 @@ use Rattle.tsfile_reader.specs.declared.fault.ReadFault.{ReadFault}
 use Rattle.tsfile_reader.specs.declared.fault.ReadFault.TheVariants.{Failed, Damaged, Memory}
 
 -- the chunk is one of the tree, of the series with these names
-pub record IsChunkOf (tree : Tree) (names : List ℕ × List ℕ) (chunk : Chunk) : Type 0 where
+pub record IsSeriesChunk (tree : Tree) (names : List ℕ × List ℕ) (chunk : Chunk) : Type 0 where
   pub group : Group
   pub in_tree : Contains tree.groups group
   pub in_group : Contains group.chunks chunk
@@ -30,8 +30,9 @@ pub record IsChunkOf (tree : Tree) (names : List ℕ × List ℕ) (chunk : Chunk
 
 -- these are the points of each page of the series in the tree, of which there is none where the tree has no chunk of it
 pub record ArePagesIn (tree : Tree) (names : List ℕ × List ℕ) (pages : List (List Point)) : Type 0 where
-  pub of_chunk : (chunk : Chunk) → IsChunkOf tree names chunk → pages ≡ map (λ (page : Page). page.points) chunk.pages
-  pub none : ((chunk : Chunk) → IsChunkOf tree names chunk → ⊥) → pages ≡ []
+  pub of_chunk : (chunk : Chunk) → IsSeriesChunk tree names chunk
+      → pages ≡ map (λ (page : Page). page.points) chunk.pages
+  pub none : ((chunk : Chunk) → IsSeriesChunk tree names chunk → ⊥) → pages ≡ []
 
 -- the file tells its bytes, they are those of a tree, and these are the series' pages in it
 pub record HasPages (names : List ℕ × List ℕ) (name : NamedFile) (pages : List (List Point)) : Type 0 where
@@ -78,7 +79,7 @@ pub record HasReason {T : Type 0} (whole : Type 0) (before now : ℕ) (result : 
   pub failed : IsErrOf result store.Failed → whole → Rose before now
 
 -- damage is a fault of the port, which counts it where the file does not tell its bytes
-abbrev pub IsCounted : Option (List ℕ) → ℕ → ℕ → ReadFault → StoreFault → Type 0
-IsCounted told before now Failed fault = fault ≡ store.Failed
-IsCounted told before now (Damaged at) fault = (fault ≡ store.Failed) × (told ≡ None → Rose before now)
-IsCounted told before now Memory fault = fault ≡ store.Memory
+abbrev pub IsCountedFault : Option (List ℕ) → ℕ → ℕ → ReadFault → StoreFault → Type 0
+IsCountedFault told before now Failed fault = fault ≡ store.Failed
+IsCountedFault told before now (Damaged at) fault = (fault ≡ store.Failed) × (told ≡ None → Rose before now)
+IsCountedFault told before now Memory fault = fault ≡ store.Memory

@@ -4,12 +4,12 @@ use Rattle.tsdb_base.specs.declared.point.Point.{Point}
 use Rattle.tsdb_base.specs.declared.point.Range.{Range}
 use Rattle.tsdb_base.specs.declared.point.Stats.{Stats}
 use Rattle.tsdb_state.specs.Marks.{survives}
-use Rattle.tsdb_state.specs.Places.{Place}
+use Rattle.tsdb_state.specs.Places.{PointPlace}
 use Rattle.tsdb_model.specs.World.{is_in}
 use Rattle.tsdb_marks.specs.declared.marks.Mark.{Mark}
 
 -- the place of a series at a time
-abbrev pub at : List ℕ → ℤ → Place
+abbrev pub at : List ℕ → ℤ → PointPlace
 at path time = record { path = path; time = time }
 
 -- whether a point of a source that was born so is kept: it is in the range, and no mark deletes it
@@ -21,5 +21,5 @@ abbrev pub kept : List ℕ → Range → List Mark → ℕ → List Point → Li
 kept path range marks born points = filter (is_kept path range marks born) points
 
 -- the times from the start to the end of statistics
-abbrev pub times_of : Stats → Range
-times_of stats = record { from = stats.start; to = stats.end }
+abbrev pub stats_range : Stats → Range
+stats_range stats = record { from = stats.start; to = stats.end }

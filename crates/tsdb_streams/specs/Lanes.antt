@@ -6,14 +6,14 @@ use Rattle.tsdb_aggregate.specs.Pieces.{overlap}
 use Rattle.tsdb_base.specs.declared.point.Point.{Point}
 use Rattle.tsdb_base.specs.declared.point.Range.{Range}
 use Rattle.tsdb_streams.specs.Files.{FilePages, HasEntryPages, IsTold, IsTruth}
-use Rattle.tsdb_streams.specs.Kept.{is_kept, times_of}
+use Rattle.tsdb_streams.specs.Kept.{is_kept, stats_range}
 use Rattle.tsdb_streams.specs.declared.kept.Kept.{Kept}
 use Rattle.tsdb_streams.specs.declared.lane.Lane.{Lane}
 use Rattle.tsdb_streams.specs.declared.lane.Lane.TheVariants.{Pages, Part}
 use Rattle.tsdb_streams.specs.declared.lane.PageLane.{PageLane}
 use Rattle.tsdb_streams.specs.declared.lane.PartLane.{PartLane}
-use Rattle.tsdb_streams.specs.declared.source.Source.{Source}
-use Rattle.tsdb_streams.specs.declared.source.Source.TheVariants as source
+use Rattle.tsdb_streams.specs.declared.source.StreamSource.{StreamSource}
+use Rattle.tsdb_streams.specs.declared.source.StreamSource.TheVariants as source
 use Rattle.tsdb_index.specs.declared.index.PageEntry.{PageEntry}
 use Rattle.tsdb_outside.specs.Files.{NamedFile, Store}
 use Rattle.tsdb_streams.specs.Pieces.{joined}
@@ -40,7 +40,7 @@ left_pages (passed ∷ flags) (page ∷ list) = (if passed then [] else page) �
 
 -- a page that is not passed over meets the range
 abbrev pub is_due : Range → Bool → PageEntry → Bool
-is_due range passed page = not passed && overlap range (times_of page.stats)
+is_due range passed page = not passed && overlap range (stats_range page.stats)
 
 -- how many pages are due
 abbrev pub count_due : Range → List Bool → List PageEntry → ℕ
@@ -55,28 +55,28 @@ part_left keep lane = filter (keep lane.born.0) lane.rest.now
 
 module _ {R : Type 0} (file : R → NamedFile) where
   -- the points of the source that are kept, where they are told
-  abbrev pub source_left : FilePages → (ℕ → Point → Bool) → Source R → Option (List Point)
+  abbrev pub source_left : FilePages → (ℕ → Point → Bool) → StreamSource R → Option (List Point)
   source_left pages keep (source.File right born) =
       option_map (λ list. filter (keep born.0) (joined list)) (pages (file right.now).number)
   source_left pages keep (source.Part points born) = Some (filter (keep born.0) points.now)
 
   -- all points of the source, where they are told
-  abbrev pub source_all : FilePages → Source R → Option (List Point)
+  abbrev pub source_all : FilePages → StreamSource R → Option (List Point)
   source_all pages (source.File right born) = option_map joined (pages (file right.now).number)
   source_all pages (source.Part points born) = Some points.now
 
   -- a file is of the store
-  abbrev pub IsSourceOf : Store → Source R → Type 0
-  IsSourceOf store (source.File right born) = (file right.now).store ≡ store
-  IsSourceOf store (source.Part points born) = Unit {0}
+  abbrev pub IsSourceOfStore : Store → StreamSource R → Type 0
+  IsSourceOfStore store (source.File right born) = (file right.now).store ≡ store
+  IsSourceOfStore store (source.Part points born) = Unit {0}
 
   -- what is told of a file is so
-  abbrev pub IsTrueSource : List ℕ × List ℕ → FilePages → Source R → Type 0
+  abbrev pub IsTrueSource : List ℕ × List ℕ → FilePages → StreamSource R → Type 0
   IsTrueSource names pages (source.File right born) = IsTruth names pages (file right.now)
   IsTrueSource names pages (source.Part points born) = Unit {0}
 
   -- the pages of a file are told, where it tells its bytes
-  abbrev pub IsToldSource : FilePages → Source R → Type 0
+  abbrev pub IsToldSource : FilePages → StreamSource R → Type 0
   IsToldSource pages (source.File right born) = IsTold pages (file right.now)
   IsToldSource pages (source.Part points born) = Unit {0}
 
@@ -91,13 +91,13 @@ module _ {R : Type 0} (file : R → NamedFile) where
       → HasEntryPages lane.entry (file lane.right.now) list
 
   -- what is left of a source, where it is told
-  abbrev pub lane_left : FilePages → (ℕ → Point → Bool) → Lane R → Option (List Point)
-  lane_left pages keep (Pages lane) = pages_left pages keep lane
-  lane_left pages keep (Part lane) = Some (part_left keep lane)
+  abbrev pub lane_points_left : FilePages → (ℕ → Point → Bool) → Lane R → Option (List Point)
+  lane_points_left pages keep (Pages lane) = pages_left pages keep lane
+  lane_points_left pages keep (Part lane) = Some (part_left keep lane)
 
   -- a file is of the store
-  abbrev pub IsLaneOf : Store → Lane R → Type 0
-  IsLaneOf store lane = (pages : PageLane R) → lane ≡ Pages pages → (file pages.right.now).store ≡ store
+  abbrev pub IsLaneOfStore : Store → Lane R → Type 0
+  IsLaneOfStore store lane = (pages : PageLane R) → lane ≡ Pages pages → (file pages.right.now).store ≡ store
 
   -- what is told of a file is so
   abbrev pub IsTrueLane : FilePages → Lane R → Type 0
@@ -109,7 +109,7 @@ module _ {R : Type 0} (file : R → NamedFile) where
   IsToldLane pages (Part lane) = Unit {0}
 
   -- a source and its lane before a page was read; the lane of a file without the series is a part
-  abbrev pub IsNewLane : Source R → Lane R → Type 0
+  abbrev pub IsNewLane : StreamSource R → Lane R → Type 0
   IsNewLane (source.File right born) (Pages lane) =
       (lane.right ≡ right) × (lane.born ≡ born) × (lane.passed.items ≡ []) × (lane.next ≡ 0)
   IsNewLane (source.File right born) (Part lane) = (lane.rest.now ≡ []) × (lane.born ≡ born)
@@ -117,17 +117,17 @@ module _ {R : Type 0} (file : R → NamedFile) where
   IsNewLane (source.Part points born) (Part lane) = (lane.rest ≡ points) × (lane.born ≡ born)
 
   -- a source as it is opened: whatever is told of it truly is told of the lane, and all of its points are left
-  pub record OpensAs (names : List ℕ × List ℕ) (source : Source R) (lane : Lane R) : Type 0 where
+  pub record OpensAs (names : List ℕ × List ℕ) (source : StreamSource R) (lane : Lane R) : Type 0 where
     pub left : (pages : FilePages) → IsTrueSource names pages source → (keep : ℕ → Point → Bool) (points : List Point)
-        → source_left pages keep source ≡ Some points → lane_left pages keep lane ≡ Some points
+        → source_left pages keep source ≡ Some points → lane_points_left pages keep lane ≡ Some points
     pub truth : (pages : FilePages) → IsTrueSource names pages source → IsTrueLane pages lane
     pub told : (pages : FilePages) → IsToldSource pages source → IsToldLane pages lane
     pub new : IsNewLane source lane
 
 -- the most points that a source still has: a list has fewer than 2^64
-abbrev pub lane_most : {R : Type 0} → Lane R → ℕ
-lane_most (Pages lane) = 2 ^ 64 * (length lane.entry.pages - lane.next)
-lane_most (Part lane) = length lane.rest.now
+abbrev pub lane_points_most : {R : Type 0} → Lane R → ℕ
+lane_points_most (Pages lane) = 2 ^ 64 * (length lane.entry.pages - lane.next)
+lane_points_most (Part lane) = length lane.rest.now
 
 -- the same file, of which another page is next
 pub record IsSameFile {R : Type 0} (old new : PageLane R) : Type 0 where

@@ -3,11 +3,11 @@ use Rattle.std.specs.Prelude.{◌≡◌, ◌↔◌, ℕ, ℤ, List, Contains, So
 use Rattle.tsdb_base.specs.declared.point.Point.{Point}
 use Rattle.tsdb_base.specs.declared.value.Value.{Value}
 use Rattle.tsdb_state.specs.Layers.{Layer, survivor}
-use Rattle.tsdb_state.specs.Places.{Place}
+use Rattle.tsdb_state.specs.Places.{PointPlace}
 use Rattle.tsdb_marks.specs.declared.marks.Mark.{Mark}
 
 -- the place of a series at a time
-abbrev pub place_at : List ℕ → ℤ → Place
+abbrev pub place_at : List ℕ → ℤ → PointPlace
 place_at path time = record { path = path; time = time }
 
 -- the list has the points of the series that the marks leave of the layer, and nothing else

@@ -1,6 +1,6 @@
 //! Reading a page of a file, with damage as a fault of the port. Depends on tsfile_reader and tsdb_outside.
 ghost use Rattle.std.specs.Prelude.{◌≡◌, ◌≤◌, ◌<◌, IfOk, IfSome, Some, length, slice_get};
-ghost use Rattle.tsdb_streams.specs.Files.{FilePages, HasReason, IsCounted, IsTold};
+ghost use Rattle.tsdb_streams.specs.Files.{FilePages, HasReason, IsCountedFault, IsTold};
 ghost use Rattle.tsdb_streams.specs.Lanes.{ArePagesOf};
 
 use crate::lane::PageLane;
@@ -11,7 +11,8 @@ use tsfile_reader::{ReadFault, read_points};
 
 /// The fault of a call that could not read a file. Damage is counted by the port.
 pub(crate) fn fault_of<P: Port>(port: &mut P, right: &P::Right, fault: ReadFault) -> StoreFault
-    ensures counted { IsCounted (P.Right.file right.now).bytes (P.faults port.old) (P.faults port.new) fault result }
+    ensures counted { IsCountedFault (P.Right.file right.now).bytes (P.faults port.old)
+        (P.faults port.new) fault result }
     ensures same_store { P.store port.new ≡ P.store port.old }
     ensures later { P.faults port.old ≤ P.faults port.new }
 {

@@ -3,9 +3,10 @@ ghost use Rattle.std.specs.Prelude.{◌≡◌, ◌+◌, ◌≤◌, ◌<◌, [], 
 ghost use Rattle.tsdb_outside.specs.declared.faults.StoreFault.TheVariants as fault;
 ghost use Rattle.tsdb_merge.specs.Supplies.{IsFilled, Moves};
 ghost use Rattle.tsdb_streams.specs.Files.{FilePages, HasReason, IsTold};
-ghost use Rattle.tsdb_streams.specs.Lanes.{ArePagesOf, Gives, IsLaneOf, IsSameFile, IsToldLane, IsTrueLane};
+ghost use Rattle.tsdb_streams.specs.Lanes.{ArePagesOf, Gives, IsLaneOfStore, IsSameFile, IsToldLane, IsTrueLane};
 ghost use Rattle.tsdb_base.specs.declared.point.Range.{Range as RangeModel};
-ghost use Rattle.tsdb_streams.specs.Lanes.{is_due, is_passed, keep_of, lane_due, lane_left, lane_most, pages_left, part_left};
+ghost use Rattle.tsdb_streams.specs.Lanes.{is_due, is_passed, keep_of, lane_due, lane_points_left, lane_points_most};
+ghost use Rattle.tsdb_streams.specs.Lanes.{pages_left, part_left};
 
 use crate::file::load_page;
 use crate::kept::{Kept, times_of};
@@ -89,8 +90,8 @@ fn fill_pages<P: Port>(
         → IfOk result (λ more. Moves (pages_left P.Right.file pages (keep_of kept.now) lane.old) more
         into.new.items (pages_left P.Right.file pages (keep_of kept.now) lane.new)) }
     ensures filled { IfOk result (λ more. IsFilled more into.new.items) }
-    ensures most { IfOk result (λ _. length into.new.items + lane_most (Lane.Pages lane.new)
-        ≤ lane_most (Lane.Pages lane.old)) }
+    ensures most { IfOk result (λ _. length into.new.items + lane_points_most (Lane.Pages lane.new)
+        ≤ lane_points_most (Lane.Pages lane.old)) }
     ensures same_file { IsSameFile lane.old lane.new }
     ensures reason { (pages : FilePages) → ArePagesOf P.Right.file pages lane.old
         → HasReason (IsTold pages (P.Right.file lane.old.right.now)) (P.faults port.old) (P.faults port.new) result }
@@ -151,13 +152,13 @@ pub(crate) fn fill_lane<P: Port>(
     port: &mut P,
 ) -> Result<bool, StoreFault>
     requires empty { into.old.items ≡ [] }
-    requires store { IsLaneOf P.Right.file (P.store port.old) lane.old }
+    requires store { IsLaneOfStore P.Right.file (P.store port.old) lane.old }
     ensures moved { (pages : FilePages) → IsTrueLane P.Right.file pages lane.old
-        → IfOk result (λ more. Moves (lane_left P.Right.file pages (keep_of kept.now) lane.old) more
-        into.new.items (lane_left P.Right.file pages (keep_of kept.now) lane.new)) }
+        → IfOk result (λ more. Moves (lane_points_left P.Right.file pages (keep_of kept.now) lane.old) more
+        into.new.items (lane_points_left P.Right.file pages (keep_of kept.now) lane.new)) }
     ensures filled { IfOk result (λ more. IsFilled more into.new.items) }
-    ensures most { IfOk result (λ _. length into.new.items + lane_most lane.new ≤ lane_most lane.old) }
-    ensures store { IsLaneOf P.Right.file (P.store port.old) lane.new }
+    ensures most { IfOk result (λ _. length into.new.items + lane_points_most lane.new ≤ lane_points_most lane.old) }
+    ensures store { IsLaneOfStore P.Right.file (P.store port.old) lane.new }
     ensures truth { (pages : FilePages) → IsTrueLane P.Right.file pages lane.old
         → IsTrueLane P.Right.file pages lane.new }
     ensures told { (pages : FilePages) → IsToldLane P.Right.file pages lane.old

@@ -7,7 +7,7 @@ ghost use Rattle.tsdb_base.specs.Points.{IsRising};
 ghost use Rattle.tsdb_streams.specs.Files.{FilePages, HasReason};
 ghost use Rattle.tsdb_streams.specs.Indexed.{IsIndexed, IsWholeFile, source_of};
 ghost use Rattle.tsdb_streams.specs.Kept.{is_kept};
-ghost use Rattle.tsdb_streams.specs.Lanes.{IsSourceOf, OpensAs, source_left};
+ghost use Rattle.tsdb_streams.specs.Lanes.{IsSourceOfStore, OpensAs, source_left};
 ghost use Rattle.tsdb_streams.specs.Streams.{AreToldSources, AreTrueSources, IsStreamOfStore, IsToldStream};
 ghost use Rattle.tsdb_streams.specs.Streams.{IsTrueStream, stream_held, stream_left};
 ghost use Rattle.tsdb_index.specs.Entries.{AreInOrder, names_of};
@@ -164,7 +164,7 @@ pub fn open_indexed<'a, R: ReadRight>(
         → IfOk result (λ stream. (lists : List (List PointModel)) →
         map (source_left R.file pages (is_kept series.now range.now marks.now.marks)) (map source_of files.now)
         ≡ map Some lists → All IsRising lists → IsToldMergeOf lists (stream_left R.file pages stream)) }
-    ensures of_store { (store : Store) → All (IsSourceOf R.file store) (map source_of files.now)
+    ensures of_store { (store : Store) → All (IsSourceOfStore R.file store) (map source_of files.now)
         → IfOk result (IsStreamOfStore R.file store) }
     ensures truth { (pages : FilePages) → AreTrueSources R.file series.now pages (map source_of files.now)
         → IfOk result (IsTrueStream R.file pages) }

@@ -1,7 +1,7 @@
 //! Which points of a series a stream keeps. It depends on `tsdb_base`, `tsdb_path`, `tsdb_marks` and `tsdb_state`.
 ghost use Rattle.std.specs.Prelude.{◌≡◌, ◌++◌, OnOk};
 ghost use Rattle.tsdb_model.specs.World.{is_in};
-ghost use Rattle.tsdb_streams.specs.Kept.{is_kept, kept, times_of as times};
+ghost use Rattle.tsdb_streams.specs.Kept.{is_kept, kept, stats_range as times};
 
 use tsdb_base::{Memory, Point, Range, Stamp, Stats, Time};
 use tsdb_marks::Marks;

@@ -1,6 +1,6 @@
 //! A source from which points are taken, and what is still to be read of it. Depends on tsdb_base and tsdb_index.
 ghost use Rattle.std.specs.Prelude.{IsTrue};
-ghost use Rattle.tsdb_streams.specs.Order.{AreInOrder, order_prop};
+ghost use Rattle.tsdb_streams.specs.Order.{ArePagesInOrder, order_prop};
 
 use tsdb_base::{Point, Stamp};
 use tsdb_index::IndexEntry;
@@ -18,7 +18,7 @@ pub(crate) struct PageLane<'a, R> {
     /// Whether these are all pages, and are passed over as one piece, with the statistics of their chunk.
     pub whole: bool,
     pub next: usize,
-    ghost order: { IsTrue in_order → AreInOrder entry.pages } by { order_prop in_order entry.pages },
+    ghost order: { IsTrue in_order → ArePagesInOrder entry.pages } by { order_prop in_order entry.pages },
 }
 
 /// The points of a part in memory that were not looked at yet.

@@ -2,7 +2,7 @@
 ghost use Rattle.std.specs.Prelude.{◌≡◌, ◌+◌, ◌<◌, ◌≤◌, [], IfOk, length};
 ghost use Rattle.tsdb_merge.specs.Supplies.{IsFilled, KeepsOthers, Moves, left_at};
 ghost use Rattle.tsdb_streams.specs.Files.{FilePages};
-ghost use Rattle.tsdb_streams.specs.Walking.{AreLanesOf, AreTrueLanes, Leaves, lanes_left, lanes_most};
+ghost use Rattle.tsdb_streams.specs.Walking.{AreLanesOfStore, AreTrueLanes, LeavesLanes, lanes_left, lanes_most};
 
 use crate::filling::fill_lane;
 use crate::kept::Kept;
@@ -22,7 +22,7 @@ pub(crate) fn fill_one<P: Port>(
 ) -> Result<bool, StoreFault>
     requires source { source < length list.old.items }
     requires empty { into.old.items ≡ [] }
-    requires of { AreLanesOf P.Right.file (P.store port.old) list.old.items }
+    requires of { AreLanesOfStore P.Right.file (P.store port.old) list.old.items }
     ensures moved { (pages : FilePages) → AreTrueLanes P.Right.file pages list.old.items
         → IfOk result (λ more.
         Moves (left_at (lanes_left P.Right.file pages kept.now list.old.items) source) more into.new.items
@@ -34,7 +34,7 @@ pub(crate) fn fill_one<P: Port>(
         → KeepsOthers source (lanes_left P.Right.file pages kept.now list.old.items)
         (lanes_left P.Right.file pages kept.now list.new.items) }
     ensures sources { length list.new.items ≡ length list.old.items }
-    ensures leaves { Leaves P.Right.file (P.store port.old) (P.store port.new)
+    ensures leaves { LeavesLanes P.Right.file (P.store port.old) (P.store port.new)
         (P.faults port.old) (P.faults port.new) list.old.items list.new.items result }
 {
     fill_lane(alloc, kept, &mut list[source], into, port)

@@ -35,7 +35,7 @@ pub use indexed::{open_index, open_indexed};
 pub use laws::{
     merged_survivors_are_all, merged_survivors_are_the_values, pieces_merge_as_their_sources,
 };
-pub use opening::{open_column, open_parted};
+pub use opening::{open_parted, open_stream};
 pub use pulling::pull;
-pub use source::{IndexedFile, Source};
+pub use source::{IndexedFile, StreamSource};
 pub use stream::Stream;

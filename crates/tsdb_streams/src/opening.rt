@@ -9,7 +9,8 @@ ghost use Rattle.tsdb_streams.specs.Clean.{sources_read};
 ghost use Rattle.tsdb_streams.specs.Files.{FilePages, HasReason, IsTold, IsTruth};
 ghost use Rattle.tsdb_streams.specs.Indexed.{IsFoundIn};
 ghost use Rattle.tsdb_streams.specs.Kept.{is_kept};
-ghost use Rattle.tsdb_streams.specs.Lanes.{IsLaneOf, IsSourceOf, IsToldSource, IsTrueSource, OpensAs, source_all};
+ghost use Rattle.tsdb_streams.specs.Lanes.{IsLaneOfStore, IsSourceOfStore, IsToldSource, IsTrueSource, OpensAs};
+ghost use Rattle.tsdb_streams.specs.Lanes.{source_all};
 ghost use Rattle.tsdb_streams.specs.Lanes.{source_left};
 ghost use Rattle.tsdb_streams.specs.Parted.{IsParted};
 ghost use Rattle.tsdb_streams.specs.Streams.{AreToldSources, AreTrueSources, IsStreamOfStore, IsToldStream};
@@ -20,7 +21,7 @@ use crate::file::fault_of;
 use crate::kept::Kept;
 use crate::lane::{Lane, PageLane, PartLane};
 use crate::ordering::are_in_order;
-use crate::source::Source;
+use crate::source::StreamSource;
 use crate::stream::Stream;
 use std::alloc::Global;
 use tsdb_base::{Memory, Range, Stamp, Stats};
@@ -67,7 +68,7 @@ fn open_file<'a, P: Port>(
     requires of_store { (P.Right.file right.now).store ≡ P.store port.old }
     ensures opens { IfOk result
         (OpensAs P.Right.file (device.now, measurement.now) (Source.File right.entry born)) }
-    ensures of_store { IfOk result (IsLaneOf P.Right.file (P.store port.new)) }
+    ensures of_store { IfOk result (IsLaneOfStore P.Right.file (P.store port.new)) }
     ensures reason { (pages : FilePages) → IsTruth (device.now, measurement.now) pages (P.Right.file right.now)
         → HasReason (IsTold pages (P.Right.file right.now)) (P.faults port.old) (P.faults port.new) result }
     ensures later { P.faults port.old ≤ P.faults port.new }
@@ -84,12 +85,12 @@ fn open_source<'a, P: Port>(
     alloc: Global,
     device: &Path,
     measurement: &Name,
-    source: Source<'a, P::Right>,
+    source: StreamSource<'a, P::Right>,
     port: &mut P,
 ) -> Result<Lane<'a, P::Right>, StoreFault>
-    requires of_store { IsSourceOf P.Right.file (P.store port.old) source }
+    requires of_store { IsSourceOfStore P.Right.file (P.store port.old) source }
     ensures opens { IfOk result (OpensAs P.Right.file (device.now, measurement.now) source.entry) }
-    ensures of_store { IfOk result (IsLaneOf P.Right.file (P.store port.new)) }
+    ensures of_store { IfOk result (IsLaneOfStore P.Right.file (P.store port.new)) }
     ensures reason { (pages : FilePages)
         → IsTrueSource P.Right.file (device.now, measurement.now) pages source.entry
         → HasReason (IsToldSource P.Right.file pages source.entry) (P.faults port.old) (P.faults port.new) result }
@@ -97,8 +98,15 @@ fn open_source<'a, P: Port>(
     ensures same_store { P.store port.new ≡ P.store port.old }
 {
     match source {
-        Source::File { right, born } => open_file(alloc, device, measurement, right, born, port),
-        Source::Part { points, born } => Ok(Lane::Part(PartLane { born, rest: points })),
+        StreamSource::File { right, born } => open_file(
+            alloc,
+            device,
+            measurement,
+            right,
+            born,
+            port,
+        ),
+        StreamSource::Part { points, born } => Ok(Lane::Part(PartLane { born, rest: points })),
     }
 }
 
@@ -107,13 +115,13 @@ fn open_sources<'a, P: Port>(
     alloc: Global,
     device: &Path,
     measurement: &Name,
-    sources: Vec<Source<'a, P::Right>>,
+    sources: Vec<StreamSource<'a, P::Right>>,
     port: &mut P,
 ) -> Result<Vec<Lane<'a, P::Right>>, StoreFault>
-    requires of_store { All (IsSourceOf P.Right.file (P.store port.old)) sources.items }
+    requires of_store { All (IsSourceOfStore P.Right.file (P.store port.old)) sources.items }
     ensures opens { IfOk result (λ lanes.
         AllZip (OpensAs P.Right.file (device.now, measurement.now)) sources.entry.items lanes.items) }
-    ensures of_store { IfOk result (λ lanes. All (IsLaneOf P.Right.file (P.store port.new)) lanes.items) }
+    ensures of_store { IfOk result (λ lanes. All (IsLaneOfStore P.Right.file (P.store port.new)) lanes.items) }
     ensures reason { (pages : FilePages)
         → All (IsTrueSource P.Right.file (device.now, measurement.now) pages) sources.entry.items
         → HasReason (AreToldSources P.Right.file pages sources.entry.items)
@@ -138,16 +146,16 @@ pub(crate) fn names_of(series: &Path) -> Result<(Path, Name), Memory>
 
 /// Opens the stream of a series over these sources, from the lowest priority to the highest. It reads the index of
 /// each file, and no page.
-pub fn open_column<'a, P: Port>(
+pub fn open_stream<'a, P: Port>(
     alloc: Global,
     series: &'a Path,
     range: &Range,
     marks: &'a Marks,
-    sources: Vec<Source<'a, P::Right>>,
+    sources: Vec<StreamSource<'a, P::Right>>,
     port: &mut P,
 ) -> Result<Stream<'a, P::Right>, StoreFault>
     requires nodes { 2 ≤ node_count series.now }
-    requires of_store { All (IsSourceOf P.Right.file (P.store port.old)) sources.items }
+    requires of_store { All (IsSourceOfStore P.Right.file (P.store port.old)) sources.items }
     ensures merged { (pages : FilePages) → AreTrueSources P.Right.file series.now pages sources.entry.items
         → IfOk result (λ stream. (lists : List (List PointModel)) →
         map (source_left P.Right.file pages (is_kept series.now range.now marks.now.marks)) sources.entry.items
@@ -188,11 +196,11 @@ pub fn open_parted<'a, P: Port>(
     series: &'a Path,
     range: &Range,
     marks: &'a Marks,
-    sources: Vec<Source<'a, P::Right>>,
+    sources: Vec<StreamSource<'a, P::Right>>,
     port: &mut P,
 ) -> Result<(Vec<Stats>, Stream<'a, P::Right>), StoreFault>
     requires nodes { 2 ≤ node_count series.now }
-    requires of_store { All (IsSourceOf P.Right.file (P.store port.old)) sources.items }
+    requires of_store { All (IsSourceOfStore P.Right.file (P.store port.old)) sources.items }
     ensures parted { (pages : FilePages) → AreTrueSources P.Right.file series.now pages sources.entry.items
         → IfOk result (λ opened. (lists kept : List (List PointModel)) →
         map (source_all P.Right.file pages) sources.entry.items ≡ map Some lists → All IsRising lists →

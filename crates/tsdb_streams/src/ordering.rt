@@ -2,7 +2,7 @@
 ghost use Rattle.std.specs.Prelude.{◌≡◌, ◌<◌, IsTrue, length, map};
 ghost use Rattle.tsdb_streams.specs.Clean.{any_meets};
 ghost use Rattle.tsdb_streams.specs.Cleaning.{page_times};
-ghost use Rattle.tsdb_streams.specs.Order.{AreInOrder, IsNextPage};
+ghost use Rattle.tsdb_streams.specs.Order.{ArePagesInOrder, IsNextPage};
 
 use crate::kept::times_of;
 use tsdb_aggregate::overlap;
@@ -23,7 +23,7 @@ fn is_next(pages: &[PageEntry], place: usize) -> bool
 
 /// Whether each of these pages begins no later than it ends, and ends before the next one begins.
 pub(crate) fn are_in_order(pages: &[PageEntry]) -> bool
-    ensures { IsTrue result → AreInOrder pages.now }
+    ensures { IsTrue result → ArePagesInOrder pages.now }
 {
     for place in 0..pages.len() {
         if !is_next(pages, place) {
@@ -48,7 +48,7 @@ fn some_meets(pages: &[PageEntry], times: &Range) -> bool
 /// Whether one of these pages, which stand in order of time, meets the times. It looks at the first one that does not
 /// end before them.
 fn first_meets(pages: &[PageEntry], times: &Range) -> bool
-    requires order { AreInOrder pages.now }
+    requires order { ArePagesInOrder pages.now }
     ensures { result ≡ any_meets times.now (map page_times pages.now) }
 {
     let place = pages.partition_point(|page| page.stats.end < times.from);
@@ -60,7 +60,7 @@ fn first_meets(pages: &[PageEntry], times: &Range) -> bool
 
 /// Whether one of these pages meets the times. Where they stand in order of time, it is found by a binary search.
 pub(crate) fn page_meets(pages: &[PageEntry], in_order: bool, times: &Range) -> bool
-    requires order { IsTrue in_order → AreInOrder pages.now }
+    requires order { IsTrue in_order → ArePagesInOrder pages.now }
     ensures { result ≡ any_meets times.now (map page_times pages.now) }
 {
     if in_order {

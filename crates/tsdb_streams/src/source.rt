@@ -5,7 +5,7 @@ use tsdb_index::Index;
 
 /// One source of a column, lent to a stream. `born` is the stamp at its freeze: later marks delete its points.
 #[derive(Drop)]
-pub enum Source<'a, R> {
+pub enum StreamSource<'a, R> {
     /// A file that may have the series.
     File { right: &'a R, born: Stamp },
     /// Points of the series in memory, in order of time.

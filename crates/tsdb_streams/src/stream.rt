@@ -1,6 +1,6 @@
 //! The points of one series over several sources. Depends on `lane`, `kept` and tsdb_merge.
 ghost use Rattle.std.specs.Prelude.{◌<◌, ◌^◌, length};
-ghost use Rattle.tsdb_merge.specs.Steps.{IsRoot};
+ghost use Rattle.tsdb_merge.specs.Steps.{IsRootNode};
 ghost use Rattle.tsdb_streams.specs.Props.{root_prop};
 
 use crate::kept::Kept;
@@ -18,6 +18,6 @@ pub struct Stream<'a, R> {
     pub(crate) kept: Kept<'a>,
     pub(crate) fault: Option<StoreFault>,
     pub(crate) alloc: Global,
-    ghost tree: { IsRoot (length lanes.items) root } by { root_prop (length lanes.items) root },
+    ghost tree: { IsRootNode (length lanes.items) root } by { root_prop (length lanes.items) root },
     ghost few: { length lanes.items < 2 ^ 32 },
 }

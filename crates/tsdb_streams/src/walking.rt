@@ -3,12 +3,13 @@
 //! It is the walk of tsdb_merge over a supply once more. A port has to be `Send`, and a method of a trait cannot call a
 //! function with such a type parameter, so the lanes are no supply.
 ghost use Rattle.std.specs.Prelude.{◌≡◌, ◌+◌, ◌*◌, ◌<◌, ◌≤◌, [], IfOk, length, reverse};
-ghost use Rattle.tsdb_merge.specs.Steps.{IsAhead, IsPulled, IsRead, IsRoot, IsTree, IsWithin, count_of, first_of};
+ghost use Rattle.tsdb_merge.specs.Steps.{IsAhead, IsPulled, IsPointRead, IsRootNode, IsMergeTree, IsWithinBound};
+ghost use Rattle.tsdb_merge.specs.Steps.{count_of, first_source};
 ghost use Rattle.tsdb_merge.specs.Steps.{node_held, root_left};
 ghost use Rattle.tsdb_merge.specs.Supplies.{IsFilled, KeepsOthers, Moves, left_at};
 ghost use Rattle.tsdb_merge.specs.Winners.{TakesTold};
 ghost use Rattle.tsdb_streams.specs.Files.{FilePages};
-ghost use Rattle.tsdb_streams.specs.Walking.{AreLanesOf, AreTrueLanes, Leaves, lanes_left, lanes_most};
+ghost use Rattle.tsdb_streams.specs.Walking.{AreLanesOfStore, AreTrueLanes, LeavesLanes, lanes_left, lanes_most};
 
 use crate::kept::Kept;
 use crate::lane::Lane;
@@ -29,7 +30,7 @@ fn refill<P: Port>(
 ) -> Result<bool, StoreFault>
     requires source { source < length list.old.items }
     requires empty { buffer.old.items ≡ [] }
-    requires of { AreLanesOf P.Right.file (P.store port.old) list.old.items }
+    requires of { AreLanesOfStore P.Right.file (P.store port.old) list.old.items }
     ensures moved { (pages : FilePages) → AreTrueLanes P.Right.file pages list.old.items
         → IfOk result (λ more.
         Moves (left_at (lanes_left P.Right.file pages kept.now list.old.items) source) more
@@ -41,7 +42,7 @@ fn refill<P: Port>(
         → KeepsOthers source (lanes_left P.Right.file pages kept.now list.old.items)
         (lanes_left P.Right.file pages kept.now list.new.items) }
     ensures sources { length list.new.items ≡ length list.old.items }
-    ensures leaves { Leaves P.Right.file (P.store port.old) (P.store port.new)
+    ensures leaves { LeavesLanes P.Right.file (P.store port.old) (P.store port.new)
         (P.faults port.old) (P.faults port.new) list.old.items list.new.items result }
 {
     let more = fill_one(alloc, kept, list, source, buffer, port)?;
@@ -60,13 +61,13 @@ fn next_of<P: Port>(
 ) -> Result<Head, StoreFault>
     requires source { source < length list.old.items }
     requires within { length buffer.old.items ≤ 1000 }
-    requires of { AreLanesOf P.Right.file (P.store port.old) list.old.items }
+    requires of { AreLanesOfStore P.Right.file (P.store port.old) list.old.items }
     ensures read { (pages : FilePages) → AreTrueLanes P.Right.file pages list.old.items
-        → IfOk result (λ head. IsRead source
+        → IfOk result (λ head. IsPointRead source
         buffer.old.items (lanes_left P.Right.file pages kept.now list.old.items) (lanes_most list.old.items) head
         buffer.new.items (lanes_left P.Right.file pages kept.now list.new.items) (lanes_most list.new.items)) }
     ensures sources { length list.new.items ≡ length list.old.items }
-    ensures leaves { Leaves P.Right.file (P.store port.old) (P.store port.new)
+    ensures leaves { LeavesLanes P.Right.file (P.store port.old) (P.store port.new)
         (P.faults port.old) (P.faults port.new) list.old.items list.new.items result }
 {
     if !buffer.is_empty() {
@@ -87,16 +88,16 @@ fn read_ahead<P: Port>(
     head: &mut Head,
     port: &mut P,
 ) -> Result<(), StoreFault>
-    requires tree { IsTree node.old }
-    requires within { IsWithin head.old node.old }
-    requires sources { first_of node.old + count_of node.old ≤ length list.old.items }
-    requires of { AreLanesOf P.Right.file (P.store port.old) list.old.items }
+    requires tree { IsMergeTree node.old }
+    requires within { IsWithinBound head.old node.old }
+    requires sources { first_source node.old + count_of node.old ≤ length list.old.items }
+    requires of { AreLanesOfStore P.Right.file (P.store port.old) list.old.items }
     ensures ahead { (pages : FilePages) → AreTrueLanes P.Right.file pages list.old.items
         → IfOk result (λ _. IsAhead
         head.old node.old (lanes_left P.Right.file pages kept.now list.old.items) (lanes_most list.old.items)
         head.new node.new (lanes_left P.Right.file pages kept.now list.new.items) (lanes_most list.new.items)) }
     ensures sources { length list.new.items ≡ length list.old.items }
-    ensures leaves { Leaves P.Right.file (P.store port.old) (P.store port.new)
+    ensures leaves { LeavesLanes P.Right.file (P.store port.old) (P.store port.new)
         (P.faults port.old) (P.faults port.new) list.old.items list.new.items result }
 {
     if !head.is_unread() {
@@ -128,16 +129,16 @@ fn pull_root<P: Port>(
     root: &mut Node,
     port: &mut P,
 ) -> Result<Option<Point>, StoreFault>
-    requires tree { IsTree root.old }
+    requires tree { IsMergeTree root.old }
     requires within { node_held root.old ≤ 1000 * count_of root.old }
-    requires sources { first_of root.old + count_of root.old ≤ length list.old.items }
-    requires of { AreLanesOf P.Right.file (P.store port.old) list.old.items }
+    requires sources { first_source root.old + count_of root.old ≤ length list.old.items }
+    requires of { AreLanesOfStore P.Right.file (P.store port.old) list.old.items }
     ensures pulled { (pages : FilePages) → AreTrueLanes P.Right.file pages list.old.items
         → IfOk result (λ point. IsPulled
         root.old (lanes_left P.Right.file pages kept.now list.old.items) (lanes_most list.old.items) point
         root.new (lanes_left P.Right.file pages kept.now list.new.items) (lanes_most list.new.items)) }
     ensures sources { length list.new.items ≡ length list.old.items }
-    ensures leaves { Leaves P.Right.file (P.store port.old) (P.store port.new)
+    ensures leaves { LeavesLanes P.Right.file (P.store port.old) (P.store port.new)
         (P.faults port.old) (P.faults port.new) list.old.items list.new.items result }
 {
     let mut head = Head::Unread;
@@ -153,15 +154,15 @@ pub(crate) fn pull_from<P: Port>(
     root: &mut Option<Node>,
     port: &mut P,
 ) -> Result<Option<Point>, StoreFault>
-    requires tree { IsRoot (length list.old.items) root.old }
-    requires of { AreLanesOf P.Right.file (P.store port.old) list.old.items }
+    requires tree { IsRootNode (length list.old.items) root.old }
+    requires of { AreLanesOfStore P.Right.file (P.store port.old) list.old.items }
     ensures next { (pages : FilePages) → AreTrueLanes P.Right.file pages list.old.items
         → IfOk result (λ point. TakesTold
         (root_left root.old (lanes_left P.Right.file pages kept.now list.old.items)) point
         (root_left root.new (lanes_left P.Right.file pages kept.now list.new.items))) }
-    ensures tree { IsRoot (length list.new.items) root.new }
+    ensures tree { IsRootNode (length list.new.items) root.new }
     ensures sources { length list.new.items ≡ length list.old.items }
-    ensures leaves { Leaves P.Right.file (P.store port.old) (P.store port.new)
+    ensures leaves { LeavesLanes P.Right.file (P.store port.old) (P.store port.new)
         (P.faults port.old) (P.faults port.new) list.old.items list.new.items result }
 {
     let Some(node) = root else {

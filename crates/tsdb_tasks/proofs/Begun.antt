@@ -8,14 +8,14 @@ use Rattle.std.proofs.lemmas.List.{map-append}
 use Rattle.tsdb_base.specs.declared.ids.FileNumber.{FileNumber}
 use Rattle.tsdb_base.specs.declared.ids.Space.{Space}
 use Rattle.tsdb_tasks.proofs.Taken.{held_stays, taken_then}
-use Rattle.tsdb_tasks.specs.Beginning.{AreTaken, HoldsMore, HoldsSome, IsUntouched}
-use Rattle.tsdb_tasks.specs.Inputs.{AreHeld, IsHeld, TakesInputs, TakesEntries, TakesSome, input_numbers}
+use Rattle.tsdb_tasks.specs.Beginning.{AreInputsTaken, HoldsMore, HoldsSome, AreFilesUntouched}
+use Rattle.tsdb_tasks.specs.Inputs.{AreHeld, IsHeld, TakesInputs, TakesEntries, TakesSomeInputs, input_numbers}
 use Rattle.tsdb_tasks.specs.declared.finishing.InputRuns.{InputRuns}
 use Rattle.tsdb_compactions.specs.Jobs.{input_file}
 use Rattle.tsdb_compactions.specs.declared.job.Input.{Input}
 use Rattle.tsdb_fileset.specs.Held.{listed}
 use Rattle.tsdb_fileset.specs.Files.{KeepsLists, KeptFiles, kept_file}
-use Rattle.tsdb_fileset.specs.Places.{ArePlacesMade, KeptFile, OnlyMakesPlaces, place_at}
+use Rattle.tsdb_fileset.specs.Places.{ArePlacesMade, KeptFile, OnlyMakesPlaces, place_of_number}
 use Rattle.tsdb_fileset.specs.Replacing.{compaction_room}
 use Rattle.tsdb_fileset.specs.Room.{more_room}
 use Rattle.tsdb_fileset.specs.Rights.{IsRightTo}
@@ -33,7 +33,7 @@ still_open f place new is changed = changed ∙ ap (option_map (λ p. option_map
 pub holds_more : (numbers : List ℕ) (a b : KeptFiles) → TakesRights numbers a b → HoldsMore numbers a b
 holds_more numbers a b taken = record {
   files = kept_changed (λ n. more_rights (count n numbers)) a b taken;
-  places = λ n is. still_open (more_rights (count n numbers)) (place_at n a.places) (place_at n b.places) is
+  places = λ n is. still_open (more_rights (count n numbers)) (place_of_number n a.places) (place_of_number n b.places) is
       (taken.places n);
   lists = taken.lists;
 }
@@ -56,7 +56,7 @@ none_there f o new is changed = changed ∙ ap (option_map f) is
 module _ {F S R P : Type 0} (name : R → NamedFile) where
   -- some inputs were taken, from none on
   pub some_held : (a b : KeptFiles) (before after : List (Input F S R P)) → before ≡ []
-      → TakesSome name a b before after → HoldsSome name a b after
+      → TakesSomeInputs name a b before after → HoldsSome name a b after
   some_held a b before after none taken =
       let is : taken.0 ≡ after = sym (taken.1.are ∙ ap (λ l. l ++ taken.0) none) in
       subst (HoldsSome name a b) is (record {
@@ -68,7 +68,7 @@ module _ {F S R P : Type 0} (name : R → NamedFile) where
 
   pub then_some : (a b c : KeptFiles) (Is : List (Input F S R P) → Type 0) (before middle after : List (Input F S R P))
       → before ≡ [] → ((more : List (Input F S R P)) × TakesInputs name a b before middle more × Is more)
-      → TakesSome name b c middle after → HoldsSome name a c after
+      → TakesSomeInputs name b c middle after → HoldsSome name a c after
   then_some a b c Is before middle after none first second = some_held a c before after none
       (first.0 ++ second.0, taken_then name a b c before middle after first.0 second.0 first.1 second.1)
 
@@ -96,7 +96,7 @@ module _ {F S R P : Type 0} (name : R → NamedFile) where
       → TakesEntries name (slice_range b.unsequence runs.unsequence.first runs.unsequence.end) b c middle after
       → OnlyMakesPlaces c.places d.places → KeepsLists c d → long ≡ length after
       → ArePlacesMade (output ∷ []) c.places d.places → d.spare ≡ more_room c.spare (compaction_room space long)
-      → AreTaken name space output.0 runs a d after
+      → AreInputsTaken name space output.0 runs a d after
   both_taken space output runs a b c d before middle after long none first second made keeps is_long places room =
       let all = first.0 ++ second.0 in
       let is : all ≡ after = sym (second.1.are ∙ ap (λ l. l ++ second.0) (first.1.are ∙ ap (λ l. l ++ first.0) none)) in
@@ -133,13 +133,13 @@ back_at k (Some file) = ap (λ n. Some (record file { rights = n })) (back file.
     back r k = omega arith
 
 pub untouched : {F S R P : Type 0} (name : R → NamedFile) (a c d : KeptFiles) (inputs : List (Input F S R P))
-    → HoldsSome name a c inputs → GivesRights (input_numbers inputs) c d → IsUntouched a d
+    → HoldsSome name a c inputs → GivesRights (input_numbers inputs) c d → AreFilesUntouched a d
 untouched name a c d inputs some given = record {
   files = λ n. kept_changed (λ m. fewer_rights (count m (input_numbers inputs))) c d given n
       ∙ ap (option_map (fewer_rights (count n (input_numbers inputs)))) (some.more.files n)
       ∙ back_at (count n (input_numbers inputs)) (kept_file n a);
-  places = λ n is. still_open (fewer_rights (count n (input_numbers inputs))) (place_at n c.places)
-      (place_at n d.places) (some.more.places n is) (given.places n);
+  places = λ n is. still_open (fewer_rights (count n (input_numbers inputs))) (place_of_number n c.places)
+      (place_of_number n d.places) (some.more.places n is) (given.places n);
   lists = record {
     sequence = given.lists.sequence ∙ some.more.lists.sequence;
     unsequence = given.lists.unsequence ∙ some.more.lists.unsequence;
@@ -148,7 +148,7 @@ untouched name a c d inputs some given = record {
   room = given.room ∙ some.room;
 }
 
-pub nothing_begun : (a : KeptFiles) → IsUntouched a a
+pub nothing_begun : (a : KeptFiles) → AreFilesUntouched a a
 nothing_begun a = record {
   files = λ n. refl;
   places = λ n is. is;

@@ -11,27 +11,27 @@ use Rattle.tsdb_compactions.proofs.Entries.{described}
 use Rattle.tsdb_compactions.proofs.Memory.{content_of_part}
 use Rattle.tsdb_compactions.specs.BuiltParts.{IsContentOfPart, IsJobOf, IsPart}
 use Rattle.tsdb_tasks.proofs.Parts.{is_part}
-use Rattle.tsdb_tasks.specs.Files.{IsOfPart, NewFile, known_entry, number_of}
+use Rattle.tsdb_tasks.specs.Files.{IsOfPart, NewFile, known_entry, file_number}
 use Rattle.tsdb_fileset.specs.Held.{entry_of}
 use Rattle.tsdb_compactions.specs.FlushJobs.{IsJob, job_part}
-use Rattle.tsdb_compactions.specs.Parts.{Filled, IsDrawnFor}
+use Rattle.tsdb_compactions.specs.Parts.{Filled, IsNumberDrawnFor}
 use Rattle.tsdb_compactions.specs.FlushJob.{FlushJob}
 use Rattle.tsdb_state.specs.Places.{Content}
 use Rattle.tsdb_model.specs.declared.command.Schema.{Schema}
-use Rattle.tsdb_memory.specs.Shown.{IsContentOf as IsShownAs}
+use Rattle.tsdb_memory.specs.Shown.{IsPairContent as IsShownAs}
 use Rattle.tsdb_outside.specs.Files.{Store}
 use Rattle.tsdb_pages.specs.File.{IsFile}
 use Rattle.tsdb_pages.specs.Trees.{IsMade, IsTree}
 use Rattle.tsdb_pages.specs.declared.tree.Tree.{Tree}
-use Rattle.tsdb_state.specs.Stores.{IsContentOf}
+use Rattle.tsdb_state.specs.Stores.{IsTreeContent}
 use Rattle.tsdb_state.specs.Jobs.{Describes}
 
 -- the number was drawn for the file, no right to read it is out, and the entry and the name of the token are of it
 pub record IsDrawn (store : Store) (born : ℕ) (number : Option FileNumber) (file : NewFile) : Type 0 where
-  pub drawn : option_map (λ (n : FileNumber). n.0) number ≡ Some (number_of file)
+  pub drawn : option_map (λ (n : FileNumber). n.0) number ≡ Some (file_number file)
   pub born_is : file.entry.born.0 ≡ born
   pub unread : file.token.rights ≡ 0
-  pub named : file.token.name.number ≡ number_of file
+  pub named : file.token.name.number ≡ file_number file
   pub in_store : file.token.name.store ≡ store
 
 pub is_drawn : (store : Store) (born : ℕ) (part : List Filled) (number : Option FileNumber) (file : NewFile)
@@ -53,12 +53,12 @@ pub record HasPart (content : Content) (file : NewFile) : Type 0 where
   pub is_tree : IsTree tree
   pub is_made : IsMade tree
   pub is_file : IsFile tree bytes
-  pub content_is : IsContentOf tree content
+  pub content_is : IsTreeContent tree content
   pub describes : Describes (known_entry file) content
 
 module _ (job : FlushJob) (is_job : IsJob job) (series : List Schema)
     (of : IsJobOf series (arc_value job.pair) job.schemas job.series) (space : Space) where
-  part_is : (number : Option FileNumber) → IsDrawnFor number (job_part space job) → IsSome number
+  part_is : (number : Option FileNumber) → IsNumberDrawnFor number (job_part space job) → IsSome number
       → IsPart (job_part space job)
   part_is None drawn some = absurd (false≢true some)
   part_is (Some number) drawn some = is_part space (arc_value job.pair) job.schemas job.series is_job.formed
@@ -66,7 +66,7 @@ module _ (job : FlushJob) (is_job : IsJob job) (series : List Schema)
       (of.rising space) drawn
 
   pub has_part : (store : Store) (number : Option FileNumber) (file : NewFile) (content : Content)
-      → IsShownAs series space (arc_value job.pair) content → IsDrawnFor number (job_part space job)
+      → IsShownAs series space (arc_value job.pair) content → IsNumberDrawnFor number (job_part space job)
       → IsOfPart store job.born.0 (job_part space job) number (Some file) → IsSome file.token.name.bytes
       → HasPart content file
   has_part store None file content shown drawn is tells = absurd is

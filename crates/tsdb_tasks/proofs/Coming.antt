@@ -12,14 +12,14 @@ use Rattle.tsdb_tasks.proofs.Stored.{at_others, drawn_number, drawn_once, drawn_
 use Rattle.tsdb_tasks.proofs.Stored.{each_known}
 use Rattle.tsdb_tasks.proofs.Stored.{each_of_job, each_told, files_differ, not_a_file, number_there, OfJob}
 use Rattle.tsdb_tasks.specs.Coming.{AreSentOut, HaveCome, StandLast, outgoing_of}
-use Rattle.tsdb_tasks.specs.Files.{AreAllThere, AreOfJob, IsOutAs, NewFile, NewFiles, TellBytes, all_of, kept_with}
-use Rattle.tsdb_tasks.specs.Files.{known_entry, known_with, number_of, numbers_of, state_files, told_with}
-use Rattle.tsdb_fileset.specs.Held.{AreFilesOf, TellTheirBytes, entry_of, leaving, listed}
+use Rattle.tsdb_tasks.specs.Files.{AreAllThere, AreFilesOfJob, IsOutAs, NewFile, NewFiles, TellBytes, all_of, kept_with}
+use Rattle.tsdb_tasks.specs.Files.{known_entry, known_with, file_number, built_numbers, state_files, told_after_flush}
+use Rattle.tsdb_fileset.specs.Held.{AreFilesOf, TellTheirBytes, entry_of, outgoing_file, listed}
 use Rattle.tsdb_state.specs.Stored.{kept_bytes}
 use Rattle.tsdb_compactions.specs.FlushJob.{FlushJob}
 use Rattle.tsdb_fileset.proofs.Counts.{counted}
 use Rattle.tsdb_fileset.specs.Files.{KeptFiles, kept_file}
-use Rattle.tsdb_fileset.specs.Places.{AreOfStore, KeptFile, file_at, place_at}
+use Rattle.tsdb_fileset.specs.Places.{AreOfStore, KeptFile, file_at, place_of_number}
 use Rattle.tsdb_base.proofs.Lists.{among_left, among_map, among_right, any_among, each_among, each_append}
 use Rattle.tsdb_base.proofs.Lists.{each_from_among}
 use Rattle.tsdb_base.proofs.Lists.{each_map}
@@ -30,10 +30,10 @@ use Rattle.tsdb_outside.specs.Files.{Store}
 use Rattle.tsdb_plan.specs.declared.entry.FileEntry.{FileEntry}
 use Rattle.tsdb_state.proofs.Counting.{is_none}
 use Rattle.tsdb_state.specs.Jobs.{drawn_by, held_numbers}
-use Rattle.tsdb_state.specs.Order.{files_of}
+use Rattle.tsdb_state.specs.Order.{all_files}
 use Rattle.tsdb_state.specs.Records.{flush_oldest, new_file}
 use Rattle.tsdb_state.specs.State as state
-use Rattle.tsdb_state.specs.State.{EngineState, Entries, File, FrozenPair}
+use Rattle.tsdb_state.specs.State.{EngineState, KnownFiles, File, FrozenContent}
 use Rattle.tsdb_state.specs.Steps.{committed_flush, ended_flush, number_or_none}
 
 -- ---- lists
@@ -43,7 +43,7 @@ listed_all : (files : List NewFile) → map listed (map (λ (f : NewFile). f.ent
 listed_all [] = refl
 listed_all (file ∷ files) = ap (λ rest. listed file.entry ∷ rest) (listed_all files)
 
-leaving_all : (files : List NewFile) → map leaving (map outgoing_of files) ≡ map (λ f. listed f.entry) files
+leaving_all : (files : List NewFile) → map outgoing_file (map outgoing_of files) ≡ map (λ f. listed f.entry) files
 leaving_all [] = refl
 leaving_all (file ∷ files) = ap (λ rest. listed file.entry ∷ rest) (leaving_all files)
 
@@ -56,17 +56,17 @@ moved P xs ys same all = subst (Each P) (sym same) all
 module _ (drawn : List ℕ) (files : NewFiles) (old new : KeptFiles) (come : HaveCome drawn files old new) where
   -- what holds of each kept file of another number, and of each new one, holds of each
   pub of_each : (P : ℕ → KeptFile → Type 0) → ((n : ℕ) → (Among n drawn → ⊥) → IfSome (kept_file n old) (P n))
-      → Each (λ file. P (number_of file) file.token) (all_of files) → (n : ℕ) → IfSome (kept_file n new) (P n)
+      → Each (λ file. P (file_number file) file.token) (all_of files) → (n : ℕ) → IfSome (kept_file n new) (P n)
   of_each P others these n = by (is_one n drawn)
     where
-      of_drawn : Among n (numbers_of files) ⊎ (place_at n new.places ≡ None) → IfSome (kept_file n new) (P n)
+      of_drawn : Among n (built_numbers files) ⊎ (place_of_number n new.places ≡ None) → IfSome (kept_file n new) (P n)
       of_drawn (inl there) =
-          let image = image_of number_of (all_of files) n there in
+          let image = image_of file_number (all_of files) n there in
           subst (λ m. IfSome (kept_file m new) (P m)) image.is
-          (subst (λ found. IfSome found (P (number_of image.element)))
-          (sym (each_among (λ file. kept_file (number_of file) new ≡ Some file.token) (all_of files) image.element
+          (subst (λ found. IfSome found (P (file_number image.element)))
+          (sym (each_among (λ file. kept_file (file_number file) new ≡ Some file.token) (all_of files) image.element
           come.kept image.among))
-          (each_among (λ file. P (number_of file) file.token) (all_of files) image.element these image.among))
+          (each_among (λ file. P (file_number file) file.token) (all_of files) image.element these image.among))
       of_drawn (inr gone) = subst (λ place. IfSome (file_at place) (P n)) (sym gone) tt
 
       by : Among n drawn ⊎ (Among n drawn → ⊥) → IfSome (kept_file n new) (P n)
@@ -81,10 +81,10 @@ module _ (drawn : List ℕ) (files : NewFiles) (old new : KeptFiles) (come : Hav
 
 module _ (store : Store) (job : FlushJob) (files : NewFiles) (old new : KeptFiles) (outside : Outside) (engine :
     EngineState)
-    (flush : state.FlushJob) (others : List state.FlushJob) (stored : IsStoredIn outside engine)
-    (out : IsOutAs job flush others engine) (of_job : AreOfJob store job files)
+    (flush : state.FlushState) (others : List state.FlushState) (stored : IsStoredIn outside engine)
+    (out : IsOutAs job flush others engine) (of_job : AreFilesOfJob store job files)
     (come : HaveCome (drawn_by flush) files old new) where
-  abbrev known : Entries
+  abbrev known : KnownFiles
   known = known_with files outside.known
 
   these : Each (OfJob store job files flush of_job out.of.sequence out.of.unsequence) (all_of files)
@@ -107,14 +107,14 @@ module _ (store : Store) (job : FlushJob) (files : NewFiles) (old new : KeptFile
       (each_from_among _ (all_of files) (λ file there.
       let known = each_among (OfJob store job files flush of_job out.of.sequence out.of.unsequence) (all_of files) file
       these there in
-      known.unread ∙ sym (no_right (number_of file) known.drawn)))
+      known.unread ∙ sym (no_right (file_number file) known.drawn)))
 
   abbrev IsKnown : FileEntry → Type 0
   IsKnown entry = IfSome (kept_file entry.number.0 new) (λ file. known entry.number.0 ≡ entry_of entry file.series)
 
   -- what is kept of the files that were there is known as before
   still_known : (entries : List FileEntry)
-      → ((entry : FileEntry) → Among entry entries → Among (listed entry) (files_of engine))
+      → ((entry : FileEntry) → Among entry entries → Among (listed entry) (all_files engine))
       → Each (λ entry. IfSome (kept_file entry.number.0 old)
       (λ file. outside.known entry.number.0 ≡ entry_of entry file.series)) entries
       → Each IsKnown entries
@@ -134,19 +134,19 @@ module _ (store : Store) (job : FlushJob) (files : NewFiles) (old new : KeptFile
   new_known : (part : List NewFile) → ((file : NewFile) → Among file part → Among file (all_of files))
       → Each IsKnown (map (λ file. file.entry) part)
   new_known part of_all = each_map IsKnown (λ (file : NewFile). file.entry) part (each_from_among _ part (λ file there.
-      subst (λ found. IfSome found (λ (token : KeptFile). known (number_of file) ≡ entry_of file.entry token.series))
+      subst (λ found. IfSome found (λ (token : KeptFile). known (file_number file) ≡ entry_of file.entry token.series))
       (sym (each_among _ (all_of files) file come.kept (of_all file there)))
       (each_among _ (all_of files) file
       (each_known job outside engine flush others stored out store files of_job) (of_all file there))))
 
   module _ (are : AreFilesOf old outside.known engine) where
-    in_sequence : (entry : FileEntry) → Among entry old.sequence → Among (listed entry) (files_of engine)
+    in_sequence : (entry : FileEntry) → Among entry old.sequence → Among (listed entry) (all_files engine)
     in_sequence entry there = among_left (engine.store.sequence ++ engine.store.unsequence) engine.outgoing (listed
         entry)
         (among_left engine.store.sequence engine.store.unsequence (listed entry)
         (subst (Among (listed entry)) are.sequence (among_map listed old.sequence entry there)))
 
-    in_unsequence : (entry : FileEntry) → Among entry old.unsequence → Among (listed entry) (files_of engine)
+    in_unsequence : (entry : FileEntry) → Among entry old.unsequence → Among (listed entry) (all_files engine)
     in_unsequence entry there = among_left (engine.store.sequence ++ engine.store.unsequence) engine.outgoing (listed
         entry)
         (among_right engine.store.sequence engine.store.unsequence (listed entry)
@@ -156,7 +156,7 @@ module _ (store : Store) (job : FlushJob) (files : NewFiles) (old new : KeptFile
     sent_out sent = record {
       sequence = ap (map listed) sent.sequence ∙ are.sequence;
       unsequence = ap (map listed) sent.unsequence ∙ are.unsequence;
-      outgoing = ap (map leaving) sent.outgoing ∙ map-append leaving old.outgoing (map outgoing_of (all_of files))
+      outgoing = ap (map outgoing_file) sent.outgoing ∙ map-append outgoing_file old.outgoing (map outgoing_of (all_of files))
           ∙ (λ i. are.outgoing i ++ leaving_all (all_of files) i);
       rights = rights_match are;
       entries_in_sequence = moved IsKnown old.sequence new.sequence sent.sequence
@@ -165,7 +165,7 @@ module _ (store : Store) (job : FlushJob) (files : NewFiles) (old new : KeptFile
           (still_known old.unsequence in_unsequence are.entries_in_unsequence);
     }
 
-    module _ (all : AreAllThere job files) (oldest : FrozenPair) (newer : List FrozenPair)
+    module _ (all : AreAllThere job files) (oldest : FrozenContent) (newer : List FrozenContent)
         (frozen : engine.store.frozen ≡ oldest ∷ newer) (born : oldest.born ≡ job.born.0) where
       from_one : (n : ℕ) → Among n (drawn_by flush) → 1 ≤ n
       from_one = drawn_from_one outside engine flush others stored out.out
@@ -217,7 +217,7 @@ module _ (store : Store) (job : FlushJob) (files : NewFiles) (old new : KeptFile
             ∙ ap (λ list. engine.store.unsequence ++ list) second ∙ sym (subst (λ pairs. (flush_oldest
             (number_or_none flush.sequence).0 (number_or_none flush.unsequence).0 pairs engine.store).unsequence
             ≡ engine.store.unsequence ++ new_file (number_or_none flush.unsequence).0 oldest.born) (sym frozen) refl);
-        outgoing = ap (map leaving) last.outgoing ∙ are.outgoing ∙ sym (append-nil engine.outgoing);
+        outgoing = ap (map outgoing_file) last.outgoing ∙ are.outgoing ∙ sym (append-nil engine.outgoing);
         rights = rights_match are;
         entries_in_sequence = moved IsKnown (old.sequence ++ map (λ f. f.entry) (if_some files.sequence)) new.sequence
             last.sequence (each_append IsKnown old.sequence (map (λ f. f.entry) (if_some files.sequence))
@@ -240,7 +240,7 @@ module _ (store : Store) (job : FlushJob) (files : NewFiles) (old new : KeptFile
       (each_from_among _ (all_of files) (λ file there.
       let known = each_among (OfJob store job files flush of_job out.of.sequence out.of.unsequence) (all_of files) file
       these there in
-      let has = each_among (λ f. HasPart (told_with flush files outside.told (number_of f)) f) (all_of files) file
+      let has = each_among (λ f. HasPart (told_after_flush flush files outside.told (file_number f)) f) (all_of files) file
       (each_told job outside engine flush others stored out store files of_job tells) there in (
         known.named,
         has.tells ∙ sym (kept_new files outside.kept file has.bytes

@@ -12,9 +12,9 @@ use Rattle.tsdb_base.specs.declared.ids.Stamp.{Stamp}
 use Rattle.tsdb_tasks.proofs.Stored.{drawn_sequence, drawn_unsequence, new_kept, number_there, part_of_sequence}
 use Rattle.tsdb_tasks.proofs.Stored.{part_of_unsequence}
 use Rattle.tsdb_tasks.proofs.Stored.{at_sequence, at_unsequence, stored_with, told_sequence, told_unsequence}
-use Rattle.tsdb_tasks.specs.Files.{AreAllThere, AreOfJob, IsOutAs, NewFile, NewFiles, TellBytes, all_of}
+use Rattle.tsdb_tasks.specs.Files.{AreAllThere, AreFilesOfJob, IsOutAs, NewFile, NewFiles, TellBytes, all_of}
 use Rattle.tsdb_tasks.specs.Files.{known_entry}
-use Rattle.tsdb_tasks.specs.Files.{kept_with, known_with, number_of, state_files, told_with, with_files}
+use Rattle.tsdb_tasks.specs.Files.{kept_with, known_with, file_number, state_files, told_after_flush, with_files}
 use Rattle.tsdb_fileset.specs.Held.{listed}
 use Rattle.tsdb_state.proofs.ImageLemmas.Storing.{end_flush_stored}
 use Rattle.tsdb_state.specs.Stored.{IsKeptWhole, built_files}
@@ -36,7 +36,7 @@ use Rattle.tsdb_state.specs.Jobs.{Describes, drawn_by}
 use Rattle.tsdb_state.proofs.Numbering.{count_with_one}
 use Rattle.tsdb_state.specs.Records.{flush_oldest, new_file}
 use Rattle.tsdb_state.specs.State as state
-use Rattle.tsdb_state.specs.State.{EngineState, Entries, File, FrozenPair, StoreState, Told}
+use Rattle.tsdb_state.specs.State.{EngineState, KnownFiles, File, FrozenContent, StoreState, ToldContents}
 use Rattle.tsdb_state.specs.Steps.{EndsFlush, IsBuilt, committed_flush, ended_flush, number_or_none}
 
 abbrev pub plain : Option FileNumber → Option ℕ
@@ -48,20 +48,20 @@ some_is a b same = cc
 -- ---- where there is a file for each drawn number
 
 pub one_file : (number : Option FileNumber) (file : Option NewFile) (born : ℕ) → is_some number ≡ is_some file
-    → ((f : NewFile) → file ≡ Some f → (plain number ≡ Some (number_of f)) × (f.entry.born.0 ≡ born))
+    → ((f : NewFile) → file ≡ Some f → (plain number ≡ Some (file_number f)) × (f.entry.born.0 ≡ born))
     → map (λ f. listed f.entry) (if_some file) ≡ map (λ n. record { number = n; born = born }) (if_some (plain number))
 one_file None None born all of_file = refl
 one_file None (Some f) born all of_file = absurd (false≢true all)
 one_file (Some n) None born all of_file = absurd (false≢true (sym all))
 one_file (Some n) (Some f) born all of_file =
     let known = of_file f refl in
-    let same : number_of f ≡ n.0 = some_is (number_of f) n.0 (sym known.0) in
+    let same : file_number f ≡ n.0 = some_is (file_number f) n.0 (sym known.0) in
     λ i. record { number = same i; born = known.1 i } ∷ []
 
-is_built : (told : Told) (known : Entries) (number : Option FileNumber) (file : Option NewFile) (content : Content)
+is_built : (told : ToldContents) (known : KnownFiles) (number : Option FileNumber) (file : Option NewFile) (content : Content)
     → is_some number ≡ is_some file
-    → ((f : NewFile) → file ≡ Some f → (plain number ≡ Some (number_of f)) × (told (number_of f) ≡ content)
-    × Describes (known (number_of f)) content)
+    → ((f : NewFile) → file ≡ Some f → (plain number ≡ Some (file_number f)) × (told (file_number f) ≡ content)
+    × Describes (known (file_number f)) content)
     → IsBuilt told known (plain number) content
 is_built told known None None content all of_file = tt
 is_built told known None (Some f) content all of_file = absurd (false≢true all)
@@ -70,8 +70,8 @@ is_built told known (Some n) (Some f) content all of_file =
     let has = of_file f refl in
     subst (λ (o : Option ℕ). IsBuilt told known o content) (sym has.0) (has.1, has.2)
 
-module _ (store : Store) (job : FlushJob) (files : NewFiles) (flush : state.FlushJob) (others : List state.FlushJob)
-    (engine : EngineState) (out : IsOutAs job flush others engine) (of_job : AreOfJob store job files)
+module _ (store : Store) (job : FlushJob) (files : NewFiles) (flush : state.FlushState) (others : List state.FlushState)
+    (engine : EngineState) (out : IsOutAs job flush others engine) (of_job : AreFilesOfJob store job files)
     (all : AreAllThere job files) where
   pub all_there : state_files files ≡ built_files flush
   all_there = map-append (λ (f : NewFile). listed f.entry) (if_some files.sequence) (if_some files.unsequence)
@@ -94,7 +94,7 @@ module _ (store : Store) (job : FlushJob) (files : NewFiles) (flush : state.Flus
           (known.drawn, known.born_is))
 
   pub can_commit : (outside : Outside) (stored : IsStoredIn outside engine) → TellBytes files
-      → (oldest : FrozenPair) (newer : List FrozenPair) (least : Option Stamp) → engine.store.frozen ≡ oldest ∷ newer
+      → (oldest : FrozenContent) (newer : List FrozenContent) (least : Option Stamp) → engine.store.frozen ≡ oldest ∷ newer
       → oldest.born ≡ job.born.0 → IsLeastOf least (file_borns (committed_flush flush others engine).store)
       → CanCommit (number_or_none flush.sequence) (number_or_none flush.unsequence) least
       (with_files flush files outside) engine flush others
@@ -105,9 +105,9 @@ module _ (store : Store) (job : FlushJob) (files : NewFiles) (flush : state.Flus
       newer = newer;
       are = are;
       born = born ∙ sym out.of.born;
-      sequence = subst (λ (o : Option ℕ). IsBuilt (told_with flush files outside.told) (known_with files outside.known)
+      sequence = subst (λ (o : Option ℕ). IsBuilt (told_after_flush flush files outside.told) (known_with files outside.known)
           o flush.pair.sequence) (sym out.of.sequence)
-          (is_built (told_with flush files outside.told) (known_with files outside.known) job.sequence files.sequence
+          (is_built (told_after_flush flush files outside.told) (known_with files outside.known) job.sequence files.sequence
           flush.pair.sequence all.sequence (λ f is. (
             (drawn_sequence store job files flush of_job out.of.sequence out.of.unsequence f is).drawn,
             told_sequence job outside engine flush others stored out store files of_job tells f is,
@@ -116,9 +116,9 @@ module _ (store : Store) (job : FlushJob) (files : NewFiles) (flush : state.Flus
                 outside.known f is))
                 (part_of_sequence job outside engine flush others stored out store files of_job tells f is).describes,
           )));
-      unsequence = subst (λ (o : Option ℕ). IsBuilt (told_with flush files outside.told) (known_with files
+      unsequence = subst (λ (o : Option ℕ). IsBuilt (told_after_flush flush files outside.told) (known_with files
           outside.known) o flush.pair.unsequence) (sym out.of.unsequence)
-          (is_built (told_with flush files outside.told) (known_with files outside.known) job.unsequence
+          (is_built (told_after_flush flush files outside.told) (known_with files outside.known) job.unsequence
           files.unsequence flush.pair.unsequence all.unsequence (λ f is. (
             (drawn_unsequence store job files flush of_job out.of.sequence out.of.unsequence f is).drawn,
             told_unsequence job outside engine flush others stored out store files of_job tells f is,
@@ -130,7 +130,7 @@ module _ (store : Store) (job : FlushJob) (files : NewFiles) (flush : state.Flus
           )));
     };
     numbers = refl;
-    kept = subst (Each (IsKeptWhole (kept_with files outside.kept) (told_with flush files outside.told))) all_there
+    kept = subst (Each (IsKeptWhole (kept_with files outside.kept) (told_after_flush flush files outside.told))) all_there
         (new_kept job outside engine flush others stored out store files of_job tells);
     least = is_least;
   }
@@ -138,19 +138,19 @@ module _ (store : Store) (job : FlushJob) (files : NewFiles) (flush : state.Flus
 -- ---- a flush that ends without its record
 
 one_count : (n : ℕ) (number : Option FileNumber) (file : Option NewFile)
-    → ((f : NewFile) → file ≡ Some f → plain number ≡ Some (number_of f))
-    → count n (map number_of (if_some file)) ≤ count n (if_some (plain number))
+    → ((f : NewFile) → file ≡ Some f → plain number ≡ Some (file_number f))
+    → count n (map file_number (if_some file)) ≤ count n (if_some (plain number))
 one_count n number None of_file = omega arith
-one_count n number (Some f) of_file = subst (λ (o : Option ℕ). count n (number_of f ∷ []) ≤ count n (if_some o))
+one_count n number (Some f) of_file = subst (λ (o : Option ℕ). count n (file_number f ∷ []) ≤ count n (if_some o))
     (sym (of_file f refl)) (omega arith)
 
 numbers_as : (files : List NewFile)
-    → map (λ (f : File). f.number) (map (λ (f : NewFile). listed f.entry) files) ≡ map number_of files
+    → map (λ (f : File). f.number) (map (λ (f : NewFile). listed f.entry) files) ≡ map file_number files
 numbers_as [] = refl
-numbers_as (file ∷ files) = ap (λ rest. number_of file ∷ rest) (numbers_as files)
+numbers_as (file ∷ files) = ap (λ rest. file_number file ∷ rest) (numbers_as files)
 
-module _ (store : Store) (job : FlushJob) (files : NewFiles) (flush : state.FlushJob) (others : List state.FlushJob)
-    (engine : EngineState) (out : IsOutAs job flush others engine) (of_job : AreOfJob store job files) where
+module _ (store : Store) (job : FlushJob) (files : NewFiles) (flush : state.FlushState) (others : List state.FlushState)
+    (engine : EngineState) (out : IsOutAs job flush others engine) (of_job : AreFilesOfJob store job files) where
   pub ends : EndsFlush flush others (state_files files) engine
   ends = record { out = out.out; files = few }
     where
@@ -158,8 +158,8 @@ module _ (store : Store) (job : FlushJob) (files : NewFiles) (flush : state.Flus
       few n = omega (
         arith,
         ap (count n) (numbers_as (all_of files)),
-        ap (count n) (map-append number_of (if_some files.sequence) (if_some files.unsequence)),
-        count_append n (map number_of (if_some files.sequence)) (map number_of (if_some files.unsequence)),
+        ap (count n) (map-append file_number (if_some files.sequence) (if_some files.unsequence)),
+        count_append n (map file_number (if_some files.sequence)) (map file_number (if_some files.unsequence)),
         one_count n job.sequence files.sequence (λ f is.
             (drawn_sequence store job files flush of_job out.of.sequence out.of.unsequence f is).drawn),
         one_count n job.unsequence files.unsequence (λ f is.
@@ -223,8 +223,8 @@ born_each : (o : Option ℕ) (born : ℕ)
 born_each None born = refl
 born_each (Some n) born = refl
 
-pub least_after : (engine : EngineState) (flush : state.FlushJob) (others : List state.FlushJob) (born : ℕ)
-    (oldest : FrozenPair) (newer : List FrozenPair) (least : Option Stamp)
+pub least_after : (engine : EngineState) (flush : state.FlushState) (others : List state.FlushState) (born : ℕ)
+    (oldest : FrozenContent) (newer : List FrozenContent) (least : Option Stamp)
     → ((n : ℕ) → Among n (drawn_by flush) → 1 ≤ n) → engine.store.frozen ≡ oldest ∷ newer → oldest.born ≡ born
     → IsLeastOf least (file_borns engine.store ++ map (λ n. born) (drawn_by flush))
     → IsLeastOf least (file_borns (committed_flush flush others engine).store)
@@ -272,7 +272,7 @@ least_after engine flush others born oldest newer least some are is_born is =
             (number_there flush.unsequence n is))
 
 -- a drawn number is a number of a file
-pub drawn_from_one : (outside : Outside) (engine : EngineState) (flush : state.FlushJob) (others : List state.FlushJob)
+pub drawn_from_one : (outside : Outside) (engine : EngineState) (flush : state.FlushState) (others : List state.FlushState)
     → IsStoredIn outside engine → IsWithOne flush others engine.flushes → (n : ℕ) → Among n (drawn_by flush) → 1 ≤ n
 drawn_from_one outside engine flush others stored out n among =
     (stored.order.numbers.range n (omega (
@@ -284,24 +284,24 @@ drawn_from_one outside engine flush others stored out n among =
 
 -- ---- the pair of a flush that is out
 
-pub frozen_is_oldest : (job : FlushJob) (outside : Outside) (engine : EngineState) (flush : state.FlushJob)
-    (others : List state.FlushJob) (oldest : FrozenPair) (newer : List FrozenPair) → IsStoredIn outside engine
+pub frozen_is_oldest : (job : FlushJob) (outside : Outside) (engine : EngineState) (flush : state.FlushState)
+    (others : List state.FlushState) (oldest : FrozenContent) (newer : List FrozenContent) → IsStoredIn outside engine
     → IsOutAs job flush others engine → engine.store.frozen ≡ oldest ∷ newer
-    → (oldest.born ≡ job.born.0) ↔ Among job.born.0 (map (λ (pair : FrozenPair). pair.born) engine.store.frozen)
+    → (oldest.born ≡ job.born.0) ↔ Among job.born.0 (map (λ (pair : FrozenContent). pair.born) engine.store.frozen)
 frozen_is_oldest job outside engine flush others oldest newer stored out are = (there, back)
   where
-    borns : List FrozenPair → List ℕ
-    borns pairs = map (λ (pair : FrozenPair). pair.born) pairs
+    borns : List FrozenContent → List ℕ
+    borns pairs = map (λ (pair : FrozenContent). pair.born) pairs
 
     there : oldest.born ≡ job.born.0 → Among job.born.0 (borns engine.store.frozen)
     there is = subst (λ pairs. Among job.born.0 (borns pairs)) (sym are) (inl is)
 
-    rises : EachPair (λ (pair later : FrozenPair). pair.born < later.born) (oldest ∷ newer)
-    rises = subst (EachPair (λ (pair later : FrozenPair). pair.born < later.born)) are
+    rises : EachPair (λ (pair later : FrozenContent). pair.born < later.born) (oldest ∷ newer)
+    rises = subst (EachPair (λ (pair later : FrozenContent). pair.born < later.born)) are
         stored.order.store.stamps.frozen_rise
 
     least : flush.born ≤ oldest.born
-    least = (subst (Each (λ (pair : FrozenPair). flush.born ≤ pair.born)) are
+    least = (subst (Each (λ (pair : FrozenContent). flush.born ≤ pair.born)) are
         (with_one_is _ flush others engine.flushes out.out stored.order.flushes).oldest).0
 
     back : Among job.born.0 (borns engine.store.frozen) → oldest.born ≡ job.born.0
@@ -310,28 +310,28 @@ frozen_is_oldest job outside engine flush others oldest newer stored out are = (
         by : Among job.born.0 (borns (oldest ∷ newer)) → oldest.born ≡ job.born.0
         by (inl is) = is
         by (inr behind) =
-            let image = image_of (λ (pair : FrozenPair). pair.born) newer job.born.0 behind in
-            let above = each_among (λ (later : FrozenPair). oldest.born < later.born) newer image.element rises.0
+            let image = image_of (λ (pair : FrozenContent). pair.born) newer job.born.0 behind in
+            let above = each_among (λ (later : FrozenContent). oldest.born < later.born) newer image.element rises.0
             image.among in
             absurd (omega (arith, above, image.is, least, out.of.born))
 
-pub due_is_oldest : (outside : Outside) (engine : EngineState) (upto : ℕ) (oldest : FrozenPair) (newer : List
-    FrozenPair)
+pub due_is_oldest : (outside : Outside) (engine : EngineState) (upto : ℕ) (oldest : FrozenContent) (newer : List
+    FrozenContent)
     → IsStoredIn outside engine → engine.store.frozen ≡ oldest ∷ newer
-    → (oldest.born ≤ upto) ↔ ((pair : FrozenPair) × Among pair engine.store.frozen × (pair.born ≤ upto))
+    → (oldest.born ≤ upto) ↔ ((pair : FrozenContent) × Among pair engine.store.frozen × (pair.born ≤ upto))
 due_is_oldest outside engine upto oldest newer stored are = (
   λ due. (oldest, subst (Among oldest) (sym are) (inl refl), due),
   λ some. by some.0 (subst (Among some.0) are some.1) some.2,
 )
   where
-    rises : EachPair (λ (pair later : FrozenPair). pair.born < later.born) (oldest ∷ newer)
-    rises = subst (EachPair (λ (pair later : FrozenPair). pair.born < later.born)) are
+    rises : EachPair (λ (pair later : FrozenContent). pair.born < later.born) (oldest ∷ newer)
+    rises = subst (EachPair (λ (pair later : FrozenContent). pair.born < later.born)) are
         stored.order.store.stamps.frozen_rise
 
-    by : (pair : FrozenPair) → Among pair (oldest ∷ newer) → pair.born ≤ upto → oldest.born ≤ upto
-    by pair (inl is) due = subst (λ (p : FrozenPair). p.born ≤ upto) (sym is) due
+    by : (pair : FrozenContent) → Among pair (oldest ∷ newer) → pair.born ≤ upto → oldest.born ≤ upto
+    by pair (inl is) due = subst (λ (p : FrozenContent). p.born ≤ upto) (sym is) due
     by pair (inr behind) due = omega (
       arith,
       due,
-      each_among (λ (later : FrozenPair). oldest.born < later.born) newer pair rises.0 behind,
+      each_among (λ (later : FrozenContent). oldest.born < later.born) newer pair rises.0 behind,
     )

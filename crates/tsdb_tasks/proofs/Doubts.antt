@@ -5,19 +5,19 @@ use Rattle.std.specs.Prelude.{IfSome}
 use Rattle.tsdb_state.proofs.ImageLemmas.After.{listed_after}
 use Rattle.tsdb_base.proofs.Lists.{each_among, each_left, each_right}
 use Rattle.tsdb_base.specs.Lists.{Among}
-use Rattle.tsdb_state.specs.Places.{Place}
+use Rattle.tsdb_state.specs.Places.{PointPlace}
 use Rattle.tsdb_log.specs.declared.record.LogRecord.{LogRecord}
 use Rattle.tsdb_log.specs.declared.record.LogRecord.TheVariants.{Create, Delete, Flushed, Freeze, Insert, Replaced}
 use Rattle.tsdb_log.specs.declared.record.LogRecord.TheVariants.{Snapshot}
 use Rattle.tsdb_state.proofs.EngineRecords.{settle_step}
 use Rattle.tsdb_state.proofs.Told.{order_same, store_same, value_same}
-use Rattle.tsdb_state.specs.Order.{DoubtInOrder, FollowsWorld, IsInOrder, files_of}
+use Rattle.tsdb_state.specs.Order.{DoubtInOrder, FollowsWorld, IsInOrder, all_files}
 use Rattle.tsdb_state.specs.Records.{after, names, numbers_of}
-use Rattle.tsdb_state.specs.State.{EngineState, Entries, File, StoreState, Told}
+use Rattle.tsdb_state.specs.State.{EngineState, KnownFiles, File, StoreState, ToldContents}
 use Rattle.tsdb_state.specs.Steps.{settled}
-use Rattle.tsdb_state.specs.Worlds.{KeepsWorld, value_of}
+use Rattle.tsdb_state.specs.Worlds.{KeepsWorld, value_at_place}
 
-module _ (told other : Told) where
+module _ (told other : ToldContents) where
   abbrev pub Same : File → Type 0
   Same file = told file.number ≡ other file.number
 
@@ -30,7 +30,7 @@ module _ (told other : Told) where
   abbrev Listed : StoreState → Type 0
   Listed store = Each Same (store.sequence ++ store.unsequence)
 
-  values : (store : StoreState) → Listed store → (place : Place) → value_of told store place ≡ value_of other store
+  values : (store : StoreState) → Listed store → (place : PointPlace) → value_at_place told store place ≡ value_at_place other store
       place
   values store same = value_same told other store (each_left Same store.sequence store.unsequence same)
       (each_right Same store.sequence store.unsequence same)
@@ -71,8 +71,8 @@ module _ (told other : Told) where
       later = listed_after Same item store (λ n among born. same_number outgoing leaving n
           (each_among (λ number. Among number (numbers_of outgoing)) (names item) n order.kept among)) same
 
-  pub told_elsewhere : (known entries : Entries) (named : List ℕ) (state : EngineState)
-      → IsInOrder told known named state → Each Same (files_of state)
+  pub told_elsewhere : (known entries : KnownFiles) (named : List ℕ) (state : EngineState)
+      → IsInOrder told known named state → Each Same (all_files state)
       → Each (λ file. known file.number ≡ entries file.number) (state.store.sequence ++ state.store.unsequence)
       → IsInOrder other entries named state
   told_elsewhere known entries named state order same as_known =

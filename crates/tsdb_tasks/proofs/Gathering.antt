@@ -8,7 +8,7 @@ use Rattle.std.proofs.lemmas.List.Folds.{flat_map-map}
 use Rattle.std.specs.Prelude.{slice_range}
 use Rattle.std.specs.List.{AllByRecursion as Each, flat_map}
 use Rattle.std.specs.Option.{option_and_then, option_map}
-use Rattle.tsdb_tasks.specs.Series.{AreOfPaths, IsNamed, path_in, run_paths, schemas_at}
+use Rattle.tsdb_tasks.specs.Series.{AreOfPaths, HasPathNames, input_path, run_paths, schemas_at}
 use Rattle.tsdb_tasks.specs.Series.{series_in}
 use Rattle.tsdb_tasks.specs.declared.finishing.InputRuns.{InputRuns}
 use Rattle.tsdb_tasks.specs.declared.series.InputSeries.{InputSeries}
@@ -34,17 +34,17 @@ take_next xs i d within =
     let next : i + 1 ≡ suc i = omega arith in
     ap (λ n. take n xs) next ∙ take-suc xs i d within
 
-pub none_added : (all : List InputSeries) → Each IsNamed all → AreOfPaths (map path_in all ++ []) all
-none_added all named = record { are = sym (append_none (map path_in all)); named = named }
+pub none_added : (all : List InputSeries) → Each HasPathNames all → AreOfPaths (map input_path all ++ []) all
+none_added all named = record { are = sym (append_none (map input_path all)); named = named }
 
 pub path_added : (before paths : List (List ℕ)) (i : ℕ) (d : List ℕ) (all : List InputSeries) (one : InputSeries)
-    → i < length paths → AreOfPaths (before ++ take i paths) all → path_in one ≡ get_or paths i d → IsNamed one
+    → i < length paths → AreOfPaths (before ++ take i paths) all → input_path one ≡ get_or paths i d → HasPathNames one
     → AreOfPaths (before ++ take (i + 1) paths) (all ++ one ∷ [])
 path_added before paths i d all one within are is named = record {
-  are = map-append path_in all (one ∷ []) ∙ ap (λ (ps : List (List ℕ)). ps ++ path_in one ∷ []) are.are
+  are = map-append input_path all (one ∷ []) ∙ ap (λ (ps : List (List ℕ)). ps ++ input_path one ∷ []) are.are
       ∙ ap (λ (p : List ℕ). (before ++ take i paths) ++ p ∷ []) is ∙ behind before (take i paths) (get_or paths i d)
       ∙ ap (λ (ps : List (List ℕ)). before ++ ps) (sym (take_next paths i d within));
-  named = each_append IsNamed all (one ∷ []) are.named (named, tt);
+  named = each_append HasPathNames all (one ∷ []) are.named (named, tt);
 }
   where
     behind : (xs ys : List (List ℕ)) (y : List ℕ) → (xs ++ ys) ++ y ∷ [] ≡ xs ++ (ys ++ y ∷ [])
@@ -56,9 +56,9 @@ path_added before paths i d all one within are is named = record {
 pub file_added : (f : FileEntry → List (List ℕ)) (before : List (List ℕ)) (entries : List FileEntry) (i : ℕ)
     (entry : FileEntry) (paths : List (List ℕ)) (all new : List InputSeries) → i < length entries
     → AreOfPaths (before ++ flat_map f (take i entries)) all → entry ≡ get_or entries i entry → f entry ≡ paths
-    → AreOfPaths (map path_in all ++ paths) new → AreOfPaths (before ++ flat_map f (take (i + 1) entries)) new
+    → AreOfPaths (map input_path all ++ paths) new → AreOfPaths (before ++ flat_map f (take (i + 1) entries)) new
 file_added f before entries i entry paths all new within are at has added = record {
-  are = added.are ∙ ap (λ (ps : List (List ℕ)). map path_in all ++ ps) (sym has ∙ ap f at)
+  are = added.are ∙ ap (λ (ps : List (List ℕ)). map input_path all ++ ps) (sym has ∙ ap f at)
       ∙ ap (λ (ps : List (List ℕ)). ps ++ f (get_or entries i entry)) are.are
       ∙ flat_map_more f before (take i entries) (get_or entries i entry)
       ∙ ap (λ (es : List FileEntry). before ++ flat_map f es) (sym (take_next entries i entry within));
@@ -89,13 +89,13 @@ no_series read files number found is none = by (kept_file number files) (sym (ap
 -- the series of both runs are those of the files of the runs
 pub both_lists : (files : KeptFiles) (runs : InputRuns) (sequence unsequence : List FileEntry)
     (none first all : List InputSeries) → sequence ≡ files.sequence → unsequence ≡ files.unsequence → none ≡ []
-    → AreOfPaths (map path_in none ++ flat_map (λ (entry : FileEntry). series_in files entry.number.0)
+    → AreOfPaths (map input_path none ++ flat_map (λ (entry : FileEntry). series_in files entry.number.0)
     (slice_range sequence runs.sequence.first runs.sequence.end)) first
-    → AreOfPaths (map path_in first ++ flat_map (λ (entry : FileEntry). series_in files entry.number.0)
+    → AreOfPaths (map input_path first ++ flat_map (λ (entry : FileEntry). series_in files entry.number.0)
     (slice_range unsequence runs.unsequence.first runs.unsequence.end)) all → AreOfPaths (run_paths runs files) all
 both_lists files runs sequence unsequence none first all same_sequence same_unsequence empty one other = record {
   are = other.are ∙ ap (λ (ps : List (List ℕ)). ps ++ flat_map f (late unsequence))
-      (one.are ∙ ap (λ (s : List InputSeries). map path_in s ++ flat_map f (early sequence)) empty)
+      (one.are ∙ ap (λ (s : List InputSeries). map input_path s ++ flat_map f (early sequence)) empty)
       ∙ ap (λ (es : List FileEntry). flat_map f (early es) ++ flat_map f (late unsequence)) same_sequence
       ∙ ap (λ (es : List FileEntry). flat_map f (early files.sequence) ++ flat_map f (late es)) same_unsequence
       ∙ sym (flat_map-append g (map listed (early files.sequence)) (map listed (late files.unsequence))

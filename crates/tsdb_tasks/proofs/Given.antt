@@ -9,8 +9,8 @@ use Rattle.tsdb_tasks.proofs.Taken.{all_counted}
 use Rattle.tsdb_tasks.specs.Ending.{FreesLate, GivesUp, OutputEnds}
 use Rattle.tsdb_tasks.specs.Inputs.{input_numbers}
 use Rattle.tsdb_compactions.specs.declared.job.Job.{Job}
-use Rattle.tsdb_fileset.specs.Files.{AreKept, KeptFiles, entry_numbers, kept_file, numbers_of}
-use Rattle.tsdb_fileset.specs.Places.{KeptFile, place_at}
+use Rattle.tsdb_fileset.specs.Files.{AreKept, KeptFiles, entry_numbers, kept_file, all_numbers}
+use Rattle.tsdb_fileset.specs.Places.{KeptFile, place_of_number}
 use Rattle.tsdb_fileset.specs.Replacing.{less_compaction}
 use Rattle.tsdb_fileset.specs.Room.{less_room}
 use Rattle.tsdb_fileset.specs.declared.room.Spare.{Spare}
@@ -20,7 +20,7 @@ use Rattle.tsdb_pin.specs.Changes.{GivesRights, fewer_rights}
 pub once_late : (files : KeptFiles) → AreKept files → (n : ℕ) → count n (entry_numbers files.unsequence) ≤ 1
 once_late files kept n = by (kept_file n files) (kept n)
   where
-    by : (o : Option KeptFile) → count n (numbers_of files) ≡ length (if_some o)
+    by : (o : Option KeptFile) → count n (all_numbers files) ≡ length (if_some o)
         → count n (entry_numbers files.unsequence) ≤ 1
     by None is = omega (arith, is, all_counted n files)
     by (Some file) is = omega (arith, is, all_counted n files)
@@ -57,10 +57,10 @@ module _ {F S R P : Type 0} where
         ∙ ap (λ files. files ++ map outgoing_of (if_some file)) (given.lists.outgoing ∙ ap (λ f. f.outgoing)
         freed.rest);
     here = ap (kept_file job.output.0) last ∙ ends.here;
-    gone = λ none. ap (λ f. place_at job.output.0 f.places) last ∙ ends.gone none;
-    others = λ n apart. ap (λ f. place_at n f.places) last ∙ ends.others n apart ∙ given.places n
+    gone = λ none. ap (λ f. place_of_number job.output.0 f.places) last ∙ ends.gone none;
+    others = λ n apart. ap (λ f. place_of_number n f.places) last ∙ ends.others n apart ∙ given.places n
         ∙ ap (λ f. option_map (λ place. option_map (fewer_rights (count n (input_numbers job.inputs))) place)
-        (place_at n f.places)) freed.rest;
+        (place_of_number n f.places)) freed.rest;
     room = ap (λ f. f.spare) last
         ∙ ap (λ (s : Spare). record s { outgoing = s.outgoing - (length job.inputs - 1) })
         (ends.room ∙ ap (less_room job.space) (given.room ∙ ap (λ f. f.spare) freed.rest))

@@ -9,7 +9,7 @@ use Rattle.std.proofs.lemmas.List.{drop-map, length-map, map-append, take-append
 use Rattle.tsdb_base.specs.declared.ids.FileNumber.{FileNumber}
 use Rattle.tsdb_base.specs.declared.ids.Space.{Space}
 use Rattle.tsdb_base.specs.declared.ids.Space.TheVariants.{Sequence, Unsequence}
-use Rattle.tsdb_tasks.specs.Files.{NewFile, known_entry, number_of}
+use Rattle.tsdb_tasks.specs.Files.{NewFile, known_entry, file_number}
 use Rattle.tsdb_tasks.proofs.Finished.{run_long}
 use Rattle.tsdb_tasks.proofs.InState.{IsKnown, rights_are, still_known}
 use Rattle.tsdb_tasks.specs.Finishing.{AreRunsOf, Finishes, IsRunOf}
@@ -17,7 +17,7 @@ use Rattle.tsdb_tasks.specs.States.{AreInputsIn, IsFresh, IsNewOf, IsPlaceOf, se
 use Rattle.tsdb_tasks.specs.declared.finishing.InputRuns.{InputRuns}
 use Rattle.tsdb_compactions.specs.Jobs.{IsCompactionOf, plain_numbers}
 use Rattle.tsdb_compactions.specs.declared.job.Job.{Job}
-use Rattle.tsdb_fileset.specs.Held.{AreFilesOf, entry_of, leaving, listed}
+use Rattle.tsdb_fileset.specs.Held.{AreFilesOf, entry_of, outgoing_file, listed}
 use Rattle.tsdb_fileset.proofs.Replaced.{run_parts}
 use Rattle.tsdb_fileset.specs.Files.{AreKept, IsOpen, KeptFiles, kept_file}
 use Rattle.tsdb_fileset.specs.Places.{KeptFile}
@@ -28,7 +28,7 @@ use Rattle.tsdb_plan.specs.declared.entry.FileEntry.{FileEntry}
 use Rattle.tsdb_plan.specs.declared.entry.Run.{Run}
 use Rattle.tsdb_state.specs.Jobs.{job_inputs}
 use Rattle.tsdb_state.specs.Records.{Replacement, new_file, number_list, numbers_of, replace, replace_in}
-use Rattle.tsdb_state.specs.State.{Compaction, EngineState, Entries, File}
+use Rattle.tsdb_state.specs.State.{Compaction, EngineState, KnownFiles, File}
 use Rattle.tsdb_state.specs.Steps.{committed, file_numbers, output_number}
 
 numbers_as : (files : List File) → number_list (file_numbers files) ≡ numbers_of files
@@ -75,7 +75,7 @@ as_recorded (Some one) number born some is =
 from_zero : (n : ℕ) → 0 + n ≡ n
 from_zero n = omega arith
 
-leaving_same : (entries : List FileEntry) → map leaving (map sent entries) ≡ map listed entries
+leaving_same : (entries : List FileEntry) → map outgoing_file (map sent entries) ≡ map listed entries
 leaving_same [] = refl
 leaving_same (entry ∷ entries) = ap (λ rest. listed entry ∷ rest) (leaving_same entries)
 
@@ -99,7 +99,7 @@ item_of job output place = record {
   unsequence = number_list (file_numbers job.unsequence);
 }
 
-module _ {F S R P : Type 0} (job : Job F S R P) (runs : InputRuns) (old new : KeptFiles) (known : Entries)
+module _ {F S R P : Type 0} (job : Job F S R P) (runs : InputRuns) (old new : KeptFiles) (known : KnownFiles)
     (engine : EngineState) (compaction : Compaction) (file : Option NewFile) (place : ℕ)
     (are : AreFilesOf old known engine) (is : IsCompactionOf job compaction) (stand : AreRunsOf job runs old)
     (output : IsNewOf job.output.0 job.born.0 file) (some : 1 ≤ job.output.0)
@@ -159,21 +159,21 @@ module _ {F S R P : Type 0} (job : Job F S R P) (runs : InputRuns) (old new : Ke
       ∙ ap (λ n. replace n (length item.unsequence) (new_file item.output compaction.born) engine.store.unsequence)
       (sym at.0)
 
-  inputs_left : AreInputsIn runs old compaction → map leaving new.outgoing ≡ engine.outgoing ++ job_inputs compaction
+  inputs_left : AreInputsIn runs old compaction → map outgoing_file new.outgoing ≡ engine.outgoing ++ job_inputs compaction
   inputs_left inputs =
       let s = slice_range old.sequence runs.sequence.first runs.sequence.end in
       let u = slice_range old.unsequence runs.unsequence.first runs.unsequence.end in
-      ap (map leaving) up.lists.outgoing_is ∙ map-append leaving old.outgoing (map sent s ++ map sent u)
-      ∙ (λ i. are.outgoing i ++ (map-append leaving (map sent s) (map sent u)
+      ap (map outgoing_file) up.lists.outgoing_is ∙ map-append outgoing_file old.outgoing (map sent s ++ map sent u)
+      ∙ (λ i. are.outgoing i ++ (map-append outgoing_file (map sent s) (map sent u)
       ∙ (λ j. (leaving_same s ∙ inputs.sequence) j ++ (leaving_same u ∙ inputs.unsequence) j)) i)
 
   -- what is known of the output is what is kept of it
-  new_known : IfSome file (λ one. known (number_of one) ≡ known_entry one) → (list space : Space)
+  new_known : IfSome file (λ one. known (file_number one) ≡ known_entry one) → (list space : Space)
       → Each (IsKnown known new) (if_some (output_in list space entry))
   new_known said list space = in_list list space (here file output said up.here)
     where
       here : (o : Option NewFile) → IsNewOf job.output.0 job.born.0 o
-          → IfSome o (λ one. known (number_of one) ≡ known_entry one)
+          → IfSome o (λ one. known (file_number one) ≡ known_entry one)
           → kept_file job.output.0 new ≡ option_map (λ one. one.token) o
           → Each (IsKnown known new) (if_some (option_map (λ (one : NewFile). one.entry) o))
       here None of said found = tt
@@ -192,7 +192,7 @@ module _ {F S R P : Type 0} (job : Job F S R P) (runs : InputRuns) (old new : Ke
 
   pub committed_in_state : AreKept old → IsOpen job.output.0 old → IsFresh job.output.0 file engine
       → IsPlaceOf job.space runs place → AreInputsIn runs old compaction
-      → IfSome file (λ one. known (number_of one) ≡ known_entry one) → (others : List Compaction)
+      → IfSome file (λ one. known (file_number one) ≡ known_entry one) → (others : List Compaction)
       → AreFilesOf new known (committed compaction others (sent_files file) place engine)
   committed_in_state kept open_place fresh at inputs said others =
       let still = still_known job old new known engine compaction file are kept open_place is fresh up.here up.others in

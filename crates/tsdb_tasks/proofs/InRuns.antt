@@ -23,7 +23,7 @@ use Rattle.tsdb_plan.specs.declared.entry.FileEntry.{FileEntry}
 use Rattle.tsdb_plan.specs.declared.entry.Run.{Run}
 use Rattle.tsdb_state.specs.Jobs.{HasKind, Stands}
 use Rattle.tsdb_state.specs.Records.{numbers_of}
-use Rattle.tsdb_state.specs.State.{Compaction, EngineState, Entries, File, Told}
+use Rattle.tsdb_state.specs.State.{Compaction, EngineState, KnownFiles, File, ToldContents}
 use Rattle.tsdb_state.specs.Steps.{IsOutputPlace}
 
 -- the first of some numbers from a place on stands at the place
@@ -104,7 +104,7 @@ late_files run numbers entries (file ∷ files) before behind of once same all =
     files_from run numbers entries (file ∷ files) before behind of same all
     (begins_at run numbers entries file files before behind of once same all)
 
-module _ {F S R P : Type 0} (job : Job F S R P) (told : Told) (files : KeptFiles) (known : Entries)
+module _ {F S R P : Type 0} (job : Job F S R P) (told : ToldContents) (files : KeptFiles) (known : KnownFiles)
     (engine : EngineState) (compaction : Compaction) (runs : InputRuns) (are : AreFilesOf files known engine)
     (kept : AreKept files) (is : IsCompactionOf job compaction) (stand : AreRunsOf job runs files) where
   once : (n : ℕ) → count n (entry_numbers files.unsequence) ≤ 1

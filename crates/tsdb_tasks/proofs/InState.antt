@@ -11,7 +11,7 @@ use Rattle.std.proofs.lemmas.List.{map-append}
 use Rattle.tsdb_base.specs.declared.ids.Space.{Space}
 use Rattle.tsdb_base.specs.declared.ids.Space.TheVariants.{Sequence, Unsequence}
 use Rattle.tsdb_tasks.specs.Coming.{outgoing_of}
-use Rattle.tsdb_tasks.specs.Files.{NewFile, number_of}
+use Rattle.tsdb_tasks.specs.Files.{NewFile, file_number}
 use Rattle.tsdb_tasks.proofs.Taken.{all_counted}
 use Rattle.tsdb_tasks.specs.Beginning.{AreBegun, HoldsMore, run_files}
 use Rattle.tsdb_tasks.specs.Ending.{GivesUp}
@@ -23,10 +23,10 @@ use Rattle.tsdb_tasks.specs.States.{IsFresh, sent_files}
 use Rattle.tsdb_compactions.specs.Jobs.{IsCompactionOf, input_file}
 use Rattle.tsdb_compactions.specs.declared.job.Input.{Input}
 use Rattle.tsdb_compactions.specs.declared.job.Job.{Job}
-use Rattle.tsdb_fileset.specs.Held.{AreFilesOf, entry_of, leaving, listed}
+use Rattle.tsdb_fileset.specs.Held.{AreFilesOf, entry_of, outgoing_file, listed}
 use Rattle.tsdb_fileset.proofs.Replaced.{run_parts}
-use Rattle.tsdb_fileset.specs.Files.{AreKept, IsOpen, KeptFiles, entries_in, entry_numbers, kept_file, numbers_of}
-use Rattle.tsdb_fileset.specs.Places.{KeptFile, file_at, place_at}
+use Rattle.tsdb_fileset.specs.Files.{AreKept, IsOpen, KeptFiles, entries_in, entry_numbers, kept_file, all_numbers}
+use Rattle.tsdb_fileset.specs.Places.{KeptFile, file_at, place_of_number}
 use Rattle.tsdb_fileset.specs.Replacing.{IsWithin, claim_run, with_claim}
 use Rattle.tsdb_base.proofs.Lists.{each_among, each_append, each_from_among, each_left, each_map, each_right}
 use Rattle.tsdb_base.proofs.Lists.{each_weaker}
@@ -36,7 +36,7 @@ use Rattle.tsdb_plan.specs.declared.entry.FileEntry.{FileEntry}
 use Rattle.tsdb_plan.specs.declared.entry.Run.{Run}
 use Rattle.tsdb_state.specs.Jobs.{job_inputs}
 use Rattle.tsdb_state.specs.Records as records
-use Rattle.tsdb_state.specs.State.{Compaction, EngineState, Entries}
+use Rattle.tsdb_state.specs.State.{Compaction, EngineState, KnownFiles}
 use Rattle.tsdb_state.specs.Steps.{began, ended}
 
 -- ---- claims
@@ -86,7 +86,7 @@ pub kept_among : (space : Space) (files : KeptFiles) → AreKept files → (entr
     → Among entry (entries_in space files) → IsSome (kept_file entry.number.0 files)
 kept_among space files kept entry among = by (kept_file entry.number.0 files) refl (one space among)
   where
-    one : (space : Space) → Among entry (entries_in space files) → 1 ≤ count entry.number.0 (numbers_of files)
+    one : (space : Space) → Among entry (entries_in space files) → 1 ≤ count entry.number.0 (all_numbers files)
     one Sequence among =
         let some = counted_among files.sequence entry among in
         omega (arith, some, all_counted entry.number.0 files)
@@ -94,7 +94,7 @@ kept_among space files kept entry among = by (kept_file entry.number.0 files) re
         let some = counted_among files.unsequence entry among in
         omega (arith, some, all_counted entry.number.0 files)
 
-    by : (o : Option KeptFile) → kept_file entry.number.0 files ≡ o → 1 ≤ count entry.number.0 (numbers_of files)
+    by : (o : Option KeptFile) → kept_file entry.number.0 files ≡ o → 1 ≤ count entry.number.0 (all_numbers files)
         → IsSome (kept_file entry.number.0 files)
     by None e some = absurd (omega (arith, some, kept entry.number.0, ap (λ f. length (if_some f)) e))
     by (Some file) e some = subst IsSome (sym e) refl
@@ -113,26 +113,26 @@ file_changed f None = refl
 file_changed f (Some place) = refl
 
 -- what is known of the file of the entry is what is kept of it
-abbrev pub IsKnown : Entries → KeptFiles → FileEntry → Type 0
+abbrev pub IsKnown : KnownFiles → KeptFiles → FileEntry → Type 0
 IsKnown known files entry = IfSome (kept_file entry.number.0 files)
     (λ token. known entry.number.0 ≡ entry_of entry token.series)
 
-leaving_output : (file : Option NewFile) → map leaving (map outgoing_of (if_some file)) ≡ sent_files file
+leaving_output : (file : Option NewFile) → map outgoing_file (map outgoing_of (if_some file)) ≡ sent_files file
 leaving_output None = refl
 leaving_output (Some file) = refl
 
 module _ {F S R P : Type 0} where
   -- the rights of the job are given back, of all files but that of its output
   abbrev pub OthersGiveRights : Job F S R P → KeptFiles → KeptFiles → Type 0
-  OthersGiveRights job old new = (number : ℕ) → job.output.0 ≢ number → place_at number new.places
+  OthersGiveRights job old new = (number : ℕ) → job.output.0 ≢ number → place_of_number number new.places
       ≡ option_map (λ place. option_map (fewer_rights (count number (input_numbers job.inputs))) place)
-      (place_at number old.places)
+      (place_of_number number old.places)
 
   pub same_numbers : (inputs : List (Input F S R P)) → records.numbers_of (map input_file inputs) ≡ input_numbers inputs
   same_numbers [] = refl
   same_numbers (input ∷ inputs) = ap (λ rest. input.number.0 ∷ rest) (same_numbers inputs)
 
-  module _ (job : Job F S R P) (old new : KeptFiles) (known : Entries) (engine : EngineState) (compaction : Compaction)
+  module _ (job : Job F S R P) (old new : KeptFiles) (known : KnownFiles) (engine : EngineState) (compaction : Compaction)
       (file : Option NewFile) (are : AreFilesOf old known engine) (kept : AreKept old)
       (open_place : IsOpen job.output.0 old) (is : IsCompactionOf job compaction)
       (fresh : IsFresh job.output.0 file engine)
@@ -147,12 +147,12 @@ module _ {F S R P : Type 0} where
     others_have : (n : ℕ) → job.output.0 ≢ n
         → kept_file n new ≡ option_map (fewer_rights (count n (input_numbers job.inputs))) (kept_file n old)
     others_have n apart = ap file_at (others n apart)
-        ∙ file_changed (fewer_rights (count n (input_numbers job.inputs))) (place_at n old.places)
+        ∙ file_changed (fewer_rights (count n (input_numbers job.inputs))) (place_of_number n old.places)
 
     pub rights_are : (n : ℕ) → IfSome (kept_file n new) (λ token. token.rights ≡ engine.rights n - count n held)
     rights_are n = by (job.output.0 == n) refl
       where
-        new_one : (o : Option NewFile) → IfSome o (λ one. (number_of one ≡ job.output.0) × (one.token.rights ≡ 0))
+        new_one : (o : Option NewFile) → IfSome o (λ one. (file_number one ≡ job.output.0) × (one.token.rights ≡ 0))
             → engine.rights n ≡ 0
             → IfSome (option_map (λ one. one.token) o) (λ token. token.rights ≡ engine.rights n - count n held)
         new_one None of none = tt
@@ -194,7 +194,7 @@ module _ {F S R P : Type 0} where
         series_stay entry None said = tt
         series_stay entry (Some token) said = said
 
-  pub ended_in_state : (job : Job F S R P) (old new : KeptFiles) (known : Entries) (engine : EngineState)
+  pub ended_in_state : (job : Job F S R P) (old new : KeptFiles) (known : KnownFiles) (engine : EngineState)
       (compaction : Compaction) (file : Option NewFile) (are : AreFilesOf old known engine) (kept : AreKept old)
       (open_place : IsOpen job.output.0 old) (is : IsCompactionOf job compaction)
       (fresh : IsFresh job.output.0 file engine) (up : GivesUp old new job file) (others : List Compaction)
@@ -205,7 +205,7 @@ module _ {F S R P : Type 0} where
         sequence = ap (map listed) up.sequence ∙ are.sequence;
         unsequence = ap (map listed) up.unsequence.is
             ∙ run_listed false up.unsequence.run old.unsequence up.unsequence.within ∙ are.unsequence;
-        outgoing = ap (map leaving) up.outgoing ∙ map-append leaving old.outgoing (map outgoing_of (if_some file))
+        outgoing = ap (map outgoing_file) up.outgoing ∙ map-append outgoing_file old.outgoing (map outgoing_of (if_some file))
             ∙ (λ i. are.outgoing i ++ leaving_output file i);
         rights = rights_are job old new known engine compaction file are kept open_place is fresh up.here up.others;
         entries_in_sequence = subst (Each (IsKnown known new)) (sym up.sequence)
@@ -216,14 +216,14 @@ module _ {F S R P : Type 0} where
       }
 
   pub began_in_state : (name : R → NamedFile) (space : Space) (output : ℕ) (runs : InputRuns) (old new : KeptFiles)
-      (known : Entries) (engine : EngineState) (compaction : Compaction) (taken : TakenInputs F S R P)
+      (known : KnownFiles) (engine : EngineState) (compaction : Compaction) (taken : TakenInputs F S R P)
       → AreFilesOf old known engine → IsWithin runs.unsequence old.unsequence
       → job_inputs compaction ≡ run_files runs old → AreBegun name space output runs old new taken
       → AreFilesOf new known (began compaction engine)
   began_in_state name space output runs old new known engine compaction taken are within inputs begun = record {
     sequence = ap (map listed) (ap (λ f. f.sequence) begun.claimed ∙ more.lists.sequence) ∙ are.sequence;
     unsequence = ap (map listed) late ∙ run_listed true runs.unsequence old.unsequence within ∙ are.unsequence;
-    outgoing = ap (map leaving) (ap (λ f. f.outgoing) begun.claimed ∙ more.lists.outgoing) ∙ are.outgoing;
+    outgoing = ap (map outgoing_file) (ap (λ f. f.outgoing) begun.claimed ∙ more.lists.outgoing) ∙ are.outgoing;
     rights = λ n. subst (λ o. IfSome o (λ token. token.rights
         ≡ engine.rights n + count n (records.numbers_of (job_inputs compaction)))) (sym (found n))
         (counted n (kept_file n old) (are.rights n));

@@ -13,7 +13,7 @@ use Rattle.tsdb_base.specs.declared.value.Value.{Value}
 use Rattle.tsdb_tasks.proofs.InState.{kept_among}
 use Rattle.tsdb_tasks.proofs.Schemas.{among_flat}
 use Rattle.tsdb_tasks.specs.Beginning.{run_files}
-use Rattle.tsdb_tasks.specs.Series.{AreOfJob, run_paths, series_in}
+use Rattle.tsdb_tasks.specs.Series.{AreSeriesOfJob, run_paths, series_in}
 use Rattle.tsdb_tasks.specs.declared.finishing.InputRuns.{InputRuns}
 use Rattle.tsdb_tasks.specs.declared.series.JobSeries.{JobSeries}
 use Rattle.tsdb_compactions.specs.Outputs.{HasSchema}
@@ -28,7 +28,7 @@ use Rattle.tsdb_state.proofs.LayerLemmas.Values.{has_left, has_right}
 use Rattle.tsdb_state.specs.Layers.{HasPoint, Layer, value_in}
 use Rattle.tsdb_base.specs.Lists.{Among, if_some}
 use Rattle.tsdb_state.specs.Marks.{survives}
-use Rattle.tsdb_state.specs.Places.{Place}
+use Rattle.tsdb_state.specs.Places.{PointPlace}
 use Rattle.tsdb_model.specs.declared.command.Schema.{Schema}
 use Rattle.tsdb_marks.specs.Lists.{is_of}
 use Rattle.tsdb_marks.specs.declared.marks.Mark.{Mark}
@@ -36,13 +36,13 @@ use Rattle.tsdb_memory.proofs.Counts.{among_either}
 use Rattle.tsdb_memory.proofs.Frozen.{image_of}
 use Rattle.tsdb_memory.specs.Shown.{IsMemoryOf}
 use Rattle.tsdb_memory.specs.Shown as shown
-use Rattle.tsdb_memory.specs.Store.{Store}
+use Rattle.tsdb_memory.specs.Store.{MemoryState}
 use Rattle.tsdb_plan.specs.declared.entry.FileEntry.{FileEntry}
 use Rattle.tsdb_plan.specs.declared.entry.Run.{Run}
 use Rattle.tsdb_state.specs.Jobs.{Describes, job_inputs}
 use Rattle.tsdb_base.specs.Limits.{end_of_numbers}
 use Rattle.tsdb_state.specs.Order.{IsInOrder}
-use Rattle.tsdb_state.specs.State.{Compaction, EngineState, Entries, File, SeriesEntry, Told}
+use Rattle.tsdb_state.specs.State.{Compaction, EngineState, KnownFiles, File, SeriesEntry, ToldContents}
 use Rattle.tsdb_state.specs.StoreOrder.{IsOfSeries}
 use Rattle.tsdb_state.specs.Views.{file_layers}
 
@@ -54,7 +54,7 @@ in_run first end xs x rises has = subst (Among x) (run_parts first end xs rises)
     (among_right (take first xs) (slice_range xs first end ++ drop end xs) x
     (among_left (slice_range xs first end) (drop end xs) x has))
 
-module _ (files : KeptFiles) (known : Entries) (engine : EngineState) (are : AreFilesOf files known engine)
+module _ (files : KeptFiles) (known : KnownFiles) (engine : EngineState) (are : AreFilesOf files known engine)
     (kept : AreKept files) where
   entries_are : (space : Space) → Each (λ entry. IfSome (kept_file entry.number.0 files)
       (λ file. known entry.number.0 ≡ entry_of entry file.series)) (entries_in space files)
@@ -101,9 +101,9 @@ module _ (files : KeptFiles) (known : Entries) (engine : EngineState) (are : Are
       by (inl there) = one Sequence runs.sequence sequence there
       by (inr there) = one Unsequence runs.unsequence unsequence there
 
-  pub of_moment : (runs : InputRuns) (store : Store) (series : JobSeries) (job : Compaction)
+  pub of_moment : (runs : InputRuns) (store : MemoryState) (series : JobSeries) (job : Compaction)
       → IsWithin runs.sequence files.sequence → IsWithin runs.unsequence files.unsequence
-      → IsMemoryOf store engine.store → AreOfJob (run_paths runs files) store series
+      → IsMemoryOf store engine.store → AreSeriesOfJob (run_paths runs files) store series
       → job_inputs job ≡ run_files runs files → job.marks ≡ series.marks.marks → job.born ≡ store.stamp
       → job.output ≡ engine.next_file → engine.next_file + 2 ≤ end_of_numbers → IsOfMoment known engine job
   of_moment runs store series job sequence unsequence memory of inputs marks born output left = record {
@@ -120,12 +120,12 @@ module _ (files : KeptFiles) (known : Entries) (engine : EngineState) (are : Are
 -- ---- a winner is of a series that memory has
 
 -- the value is that of a file at the place
-record HasIn (told : Told) (files : List File) (place : Place) (value : Value) : Type 0 where
+record HasIn (told : ToldContents) (files : List File) (place : PointPlace) (value : Value) : Type 0 where
   pub file : File
   pub among : Among file files
   pub has : get (told file.number) place ≡ Some value
 
-has_in : (told : Told) (marks : List Mark) (files : List File) (place : Place) (value : Value)
+has_in : (told : ToldContents) (marks : List Mark) (files : List File) (place : PointPlace) (value : Value)
     → value_in marks place (file_layers told files) ≡ Some value → HasIn told files place value
 has_in told marks [] place value is = absurd (cc)
 has_in told marks (file ∷ files) place value is =
@@ -141,7 +141,7 @@ has_in told marks (file ∷ files) place value is =
     by None e later true is = record { file = file; among = inl refl; has = is }
     by None e later false is = absurd (cc)
 
-point_of : (told : Told) (files : List File) (file : File) (place : Place) (value : Value) → Among file files
+point_of : (told : ToldContents) (files : List File) (file : File) (place : PointPlace) (value : Value) → Among file files
     → get (told file.number) place ≡ Some value → HasPoint (file_layers told files) place value
 point_of told [] file place value among has = absurd among
 point_of told (f ∷ files) file place value (inl is) has =
@@ -154,7 +154,7 @@ record SchemaOf (series : List Schema) (path : List ℕ) (type : DataType) : Typ
   pub of_path : schema.path ≡ path
   pub of_type : schema.data_type ≡ type
 
-schema_of : (series : List Schema) (path : List ℕ) (type : DataType) → IsOfSeries (map shown.entry_of series) path type
+schema_of : (series : List Schema) (path : List ℕ) (type : DataType) → IsOfSeries (map shown.series_entry series) path type
     → SchemaOf series path type
 schema_of [] path type is = absurd is
 schema_of (schema ∷ series) path type (inl is) =
@@ -163,7 +163,7 @@ schema_of (schema ∷ series) path type (inr is) =
     let rest = schema_of series path type is in
     record { schema = rest.schema; among = inr rest.among; of_path = rest.of_path; of_type = rest.of_type }
 
-module _ (files : KeptFiles) (known : Entries) (engine : EngineState) (are : AreFilesOf files known engine) where
+module _ (files : KeptFiles) (known : KnownFiles) (engine : EngineState) (are : AreFilesOf files known engine) where
   -- an input stands in one of the lists of the state
   pub input_stands : (runs : InputRuns) → IsWithin runs.sequence files.sequence
       → IsWithin runs.unsequence files.unsequence → (file : File) → Among file (run_files runs files)
@@ -185,10 +185,10 @@ module _ (files : KeptFiles) (known : Entries) (engine : EngineState) (are : Are
       by (inl there) = inl (subst (Among file) are.sequence (one files.sequence runs.sequence sequence there))
       by (inr there) = inr (subst (Among file) are.unsequence (one files.unsequence runs.unsequence unsequence there))
 
-  pub has_schema : (told : Told) (named : List ℕ) (runs : InputRuns) (store : Store) (series : JobSeries)
-      (marks : List Mark) (place : Place) (value : Value) → IsInOrder told known named engine → AreKept files
+  pub has_schema : (told : ToldContents) (named : List ℕ) (runs : InputRuns) (store : MemoryState) (series : JobSeries)
+      (marks : List Mark) (place : PointPlace) (value : Value) → IsInOrder told known named engine → AreKept files
       → IsWithin runs.sequence files.sequence → IsWithin runs.unsequence files.unsequence
-      → IsMemoryOf store engine.store → AreOfJob (run_paths runs files) store series
+      → IsMemoryOf store engine.store → AreSeriesOfJob (run_paths runs files) store series
       → value_in marks place (file_layers told (run_files runs files)) ≡ Some value
       → HasSchema series.schemas place value
   has_schema told named runs store series marks place value order kept sequence unsequence memory of wins =

@@ -4,7 +4,7 @@ use Rattle.std.proofs.Common.{Some}
 use Rattle.std.proofs.Common.{inl, inr, ap, refl, sym, subst, ◌∙◌, nat_eq}
 use Rattle.std.proofs.lemmas.Bool.{eq-eqb, eqb-true, false≢true}
 use Rattle.std.specs.List.{AllByRecursion as Each, find, flat_map, list_any}
-use Rattle.tsdb_tasks.specs.Files.{NewFile, NewFiles, all_of, at_file, kept_with, number_of, numbers_of, stored_of}
+use Rattle.tsdb_tasks.specs.Files.{NewFile, NewFiles, all_of, at_file, kept_with, file_number, built_numbers, stored_of}
 use Rattle.tsdb_state.proofs.ImageLemmas.Kept.{found_bytes, found_without, has_number}
 use Rattle.tsdb_state.specs.Stored.{kept_bytes, without_numbers}
 use Rattle.tsdb_base.proofs.Lists.{among_map, any_among, each_among}
@@ -40,15 +40,15 @@ is_one n (m ∷ numbers) = by (nat_eq m n) refl (is_one n numbers)
 -- ---- what stands at the numbers of files
 
 pub at_itself : {X : Type 0} (file : NewFile) (value : NewFile → X) (others : ℕ → X)
-    → at_file (Some file) value others (number_of file) ≡ value file
+    → at_file (Some file) value others (file_number file) ≡ value file
 at_itself file value others =
-    ap (λ b. cond b (value file) (others (number_of file))) (same_number (number_of file))
+    ap (λ b. cond b (value file) (others (file_number file))) (same_number (file_number file))
 
 pub at_other : {X : Type 0} (file : Option NewFile) (value : NewFile → X) (others : ℕ → X) (n : ℕ)
-    → (Among n (map number_of (if_some file)) → ⊥) → at_file file value others n ≡ others n
+    → (Among n (map file_number (if_some file)) → ⊥) → at_file file value others n ≡ others n
 at_other None value others n differ = refl
 at_other (Some file) value others n differ =
-    ap (λ b. cond b (value file) (others n)) (other_number n (number_of file) (λ same. differ (inl (sym same))))
+    ap (λ b. cond b (value file) (others n)) (other_number n (file_number file) (λ same. differ (inl (sym same))))
 
 -- ---- the bytes of kept files
 
@@ -87,7 +87,7 @@ none_left numbers (file ∷ kept) n one = by (list_any (nat_eq file.number) numb
         ∙ subst (λ m. list_any (nat_eq m) numbers ≡ true) (sym same) one))) ∙ rest
 
 -- the bytes of files that their tokens tell
-has_others : (n : ℕ) (files : List NewFile) → (Among n (map number_of files) → ⊥)
+has_others : (n : ℕ) (files : List NewFile) → (Among n (map file_number files) → ⊥)
     → Each (λ file. has_number n file ≡ false) (flat_map stored_of files)
 has_others n [] never = tt
 has_others n (file ∷ files) never =
@@ -95,53 +95,53 @@ has_others n (file ∷ files) never =
   where
     by : (bytes : Option (List ℕ)) → Each (λ stored. has_number n stored ≡ false) (flat_map stored_of files)
         → Each (λ stored. has_number n stored ≡ false)
-        (map (λ bytes. record { number = number_of file; bytes = bytes }) (if_some bytes) ++ flat_map stored_of files)
+        (map (λ bytes. record { number = file_number file; bytes = bytes }) (if_some bytes) ++ flat_map stored_of files)
     by None rest = rest
-    by (Some bytes) rest = (other_number (number_of file) n (λ same. never (inl same)), rest)
+    by (Some bytes) rest = (other_number (file_number file) n (λ same. never (inl same)), rest)
 
-found_new : (files : List NewFile) (file : NewFile) (bytes : List ℕ) → EachPair (λ a b. number_of a ≢ number_of b) files
+found_new : (files : List NewFile) (file : NewFile) (bytes : List ℕ) → EachPair (λ a b. file_number a ≢ file_number b) files
     → Among file files → file.token.name.bytes ≡ Some bytes
-    → find (has_number (number_of file)) (flat_map stored_of files)
-    ≡ Some (record { number = number_of file; bytes = bytes })
+    → find (has_number (file_number file)) (flat_map stored_of files)
+    ≡ Some (record { number = file_number file; bytes = bytes })
 found_new [] file bytes differ among tells = absurd among
 found_new (first ∷ files) file bytes differ (inl is) tells =
-    ap (λ told. find (has_number (number_of file)) (map (λ bytes. record { number = number_of first; bytes = bytes })
+    ap (λ told. find (has_number (file_number file)) (map (λ bytes. record { number = file_number first; bytes = bytes })
     (if_some told) ++ flat_map stored_of files)) (ap (λ (f : NewFile). f.token.name.bytes) is ∙ tells)
-    ∙ ap (λ b. cond b (Some (record { number = number_of first; bytes = bytes }))
-    (find (has_number (number_of file)) (flat_map stored_of files)))
-    (ap (λ (f : NewFile). nat_eq (number_of f) (number_of file)) is ∙ same_number (number_of file))
-    ∙ ap (λ (f : NewFile). Some (record { number = number_of f; bytes = bytes })) is
+    ∙ ap (λ b. cond b (Some (record { number = file_number first; bytes = bytes }))
+    (find (has_number (file_number file)) (flat_map stored_of files)))
+    (ap (λ (f : NewFile). nat_eq (file_number f) (file_number file)) is ∙ same_number (file_number file))
+    ∙ ap (λ (f : NewFile). Some (record { number = file_number f; bytes = bytes })) is
 found_new (first ∷ files) file bytes differ (inr among) tells =
     by first.token.name.bytes (found_new files file bytes differ.1 among tells)
   where
-    apart : number_of first ≢ number_of file
-    apart = each_among (λ b. number_of first ≢ number_of b) files file differ.0 among
+    apart : file_number first ≢ file_number file
+    apart = each_among (λ b. file_number first ≢ file_number b) files file differ.0 among
 
-    by : (told : Option (List ℕ)) → find (has_number (number_of file)) (flat_map stored_of files)
-        ≡ Some (record { number = number_of file; bytes = bytes })
-        → find (has_number (number_of file)) (map (λ bytes. record { number = number_of first; bytes = bytes })
-        (if_some told) ++ flat_map stored_of files) ≡ Some (record { number = number_of file; bytes = bytes })
+    by : (told : Option (List ℕ)) → find (has_number (file_number file)) (flat_map stored_of files)
+        ≡ Some (record { number = file_number file; bytes = bytes })
+        → find (has_number (file_number file)) (map (λ bytes. record { number = file_number first; bytes = bytes })
+        (if_some told) ++ flat_map stored_of files) ≡ Some (record { number = file_number file; bytes = bytes })
     by None rest = rest
-    by (Some other) rest = ap (λ b. cond b (Some (record { number = number_of first; bytes = other }))
-        (find (has_number (number_of file)) (flat_map stored_of files)))
-        (other_number (number_of first) (number_of file) apart) ∙ rest
+    by (Some other) rest = ap (λ b. cond b (Some (record { number = file_number first; bytes = other }))
+        (find (has_number (file_number file)) (flat_map stored_of files)))
+        (other_number (file_number first) (file_number file) apart) ∙ rest
 
 module _ (files : NewFiles) (kept : List StoredFile) where
   -- files of other numbers are kept as they were
-  pub kept_other : (n : ℕ) → (Among n (numbers_of files) → ⊥) → kept_bytes (kept_with files kept) n ≡ kept_bytes kept n
+  pub kept_other : (n : ℕ) → (Among n (built_numbers files) → ⊥) → kept_bytes (kept_with files kept) n ≡ kept_bytes kept n
   kept_other n never = ap found_bytes
-      (found_first (has_number n) (without_numbers (numbers_of files) kept) (flat_map stored_of (all_of files))
+      (found_first (has_number n) (without_numbers (built_numbers files) kept) (flat_map stored_of (all_of files))
       (has_others n (all_of files) never)
-      ∙ found_without (numbers_of files) kept n (not_among n (numbers_of files) never))
+      ∙ found_without (built_numbers files) kept n (not_among n (built_numbers files) never))
 
   -- a new file is kept with the bytes that its token tells
-  pub kept_new : (file : NewFile) (bytes : List ℕ) → EachPair (λ a b. number_of a ≢ number_of b) (all_of files)
+  pub kept_new : (file : NewFile) (bytes : List ℕ) → EachPair (λ a b. file_number a ≢ file_number b) (all_of files)
       → Among file (all_of files) → file.token.name.bytes ≡ Some bytes
-      → kept_bytes (kept_with files kept) (number_of file) ≡ Some bytes
+      → kept_bytes (kept_with files kept) (file_number file) ≡ Some bytes
   kept_new file bytes differ among tells = ap found_bytes
-      (found_behind (has_number (number_of file)) (without_numbers (numbers_of files) kept)
+      (found_behind (has_number (file_number file)) (without_numbers (built_numbers files) kept)
       (flat_map stored_of (all_of files))
-      (none_left (numbers_of files) kept (number_of file)
-      (any_among (nat_eq (number_of file)) (numbers_of files) (number_of file)
-      (among_map number_of (all_of files) file among) (same_number (number_of file))))
+      (none_left (built_numbers files) kept (file_number file)
+      (any_among (nat_eq (file_number file)) (built_numbers files) (file_number file)
+      (among_map file_number (all_of files) file among) (same_number (file_number file))))
       ∙ found_new (all_of files) file bytes differ among tells)

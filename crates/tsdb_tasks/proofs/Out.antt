@@ -13,11 +13,11 @@ use Rattle.tsdb_tasks.specs.Beginning.{AreBegun}
 use Rattle.tsdb_tasks.specs.Ending.{IsOutIn}
 use Rattle.tsdb_tasks.specs.Finishing.{StandInSequence}
 use Rattle.tsdb_tasks.specs.Inputs.{IsHeld, input_numbers}
-use Rattle.tsdb_tasks.specs.Series.{AreOfJob}
+use Rattle.tsdb_tasks.specs.Series.{AreSeriesOfJob}
 use Rattle.tsdb_tasks.specs.declared.beginning.TakenInputs.{TakenInputs}
 use Rattle.tsdb_tasks.specs.declared.finishing.InputRuns.{InputRuns}
 use Rattle.tsdb_tasks.specs.declared.series.JobSeries.{JobSeries}
-use Rattle.tsdb_compactions.specs.Jobs.{IsCompactionOf, IsFormed, plain_numbers}
+use Rattle.tsdb_compactions.specs.Jobs.{IsCompactionOf, IsJobFormed, plain_numbers}
 use Rattle.tsdb_compactions.specs.declared.job.Job.{Job}
 use Rattle.tsdb_fileset.specs.Held.{listed}
 use Rattle.tsdb_fileset.proofs.Replaced.{run_parts}
@@ -29,7 +29,7 @@ use Rattle.tsdb_fileset.specs.Room.{more_room}
 use Rattle.tsdb_fileset.specs.declared.room.Spare.{Spare}
 use Rattle.tsdb_base.proofs.Lists.{count_append, each_weaker}
 use Rattle.tsdb_base.specs.Lists.{IsRun, count}
-use Rattle.tsdb_memory.specs.Store.{Store}
+use Rattle.tsdb_memory.specs.Store.{MemoryState}
 use Rattle.tsdb_outside.specs.Files.{NamedFile}
 use Rattle.tsdb_pin.specs.Changes.{more_rights}
 use Rattle.tsdb_plan.specs.declared.entry.FileEntry.{FileEntry}
@@ -173,8 +173,8 @@ module _ {F S R P : Type 0} (name : R → NamedFile) (space : Space) (born outpu
     output = refl;
   }
 
-  pub is_formed : (paths : List (List ℕ)) (store : Store) → AreOfJob paths store series → taken.inputs ≢ []
-      → IsFormed job
+  pub is_formed : (paths : List (List ℕ)) (store : MemoryState) → AreSeriesOfJob paths store series → taken.inputs ≢ []
+      → IsJobFormed job
   is_formed paths store of some = record {
     some = some;
     numbers = ap numbers_of begun.all.are

@@ -4,26 +4,26 @@ use Rattle.std.proofs.Common.{ap, arith, refl, sym, subst, ◌∙◌}
 use Rattle.std.specs.FinMap.{get}
 use Rattle.std.specs.List.{AllByRecursion as Each}
 use Rattle.tsdb_base.specs.declared.ids.Stamp.{Stamp}
-use Rattle.tsdb_tasks.specs.Files.{NewFile, number_of}
+use Rattle.tsdb_tasks.specs.Files.{NewFile, file_number}
 use Rattle.tsdb_state.proofs.ImageLemmas.Storing.{end_stored}
 use Rattle.tsdb_base.proofs.Lists.{among_left, with_one_is}
 use Rattle.tsdb_state.specs.Layers.{value_in}
 use Rattle.tsdb_base.specs.Lists.{Among, IsWithOne, count}
 use Rattle.tsdb_state.specs.Places.{Content}
 use Rattle.tsdb_memory.specs.Logged.{IsStoredIn, Outside}
-use Rattle.tsdb_memory.specs.Replacing.{CanReplace}
+use Rattle.tsdb_memory.specs.Replacing.{CanCommitReplacement}
 use Rattle.tsdb_memory.specs.Least.{IsLeastOf}
 use Rattle.tsdb_memory.specs.Shown.{file_borns}
 use Rattle.tsdb_tasks.proofs.OutputsTold.{known_output, output_kept, stored_with, told_output, told_same}
 use Rattle.tsdb_tasks.specs.Outputs.{IsNewOutput, output_file, with_output}
 use Rattle.tsdb_state.proofs.OtherJobs.{inputs_listed}
 use Rattle.tsdb_state.specs.Jobs.{Describes, HasKind, Stands, job_inputs}
-use Rattle.tsdb_state.specs.State.{Compaction, EngineState, Entry, File, Told}
+use Rattle.tsdb_state.specs.State.{Compaction, EngineState, KnownFile, File, ToldContents}
 use Rattle.tsdb_state.specs.Steps.{EndsCompaction, IsOutput, IsOutputPlace, committed, compaction_record, ended}
 use Rattle.tsdb_state.specs.Views.{file_layers}
 
 -- files of which the same is told have the same layers
-same_layers : (told other : Told) (files : List File) → Each (λ file. told file.number ≡ other file.number) files
+same_layers : (told other : ToldContents) (files : List File) → Each (λ file. told file.number ≡ other file.number) files
     → file_layers told files ≡ file_layers other files
 same_layers told other [] same = refl
 same_layers told other (file ∷ files) same =
@@ -35,7 +35,7 @@ module _ (outside : Outside) (engine : EngineState) (job : Compaction) (others :
       → EndsCompaction job others (output_file file) engine
   ends_with content file is = record {
     out = out;
-    files = λ n. subst (λ m. count n (number_of file ∷ []) ≤ count n (m ∷ [])) is.number_is (omega arith);
+    files = λ n. subst (λ m. count n (file_number file ∷ []) ≤ count n (m ∷ [])) is.number_is (omega arith);
   }
 
   pub ends_without : EndsCompaction job others [] engine
@@ -44,7 +44,7 @@ module _ (outside : Outside) (engine : EngineState) (job : Compaction) (others :
   pub none_can : (place : ℕ) (least : Option Stamp) → IsOutput outside.told job []
       → IsOutputPlace job.space job engine.store place
       → IsLeastOf least (file_borns (committed job others [] place engine).store)
-      → CanReplace (compaction_record job [] place) least outside engine job others [] place
+      → CanCommitReplacement (compaction_record job [] place) least outside engine job others [] place
   none_can place least none at is_least = record {
     commits = record { out = out; stands = at; gives = none; file = inl refl };
     is_record = refl;
@@ -94,7 +94,7 @@ module _ (outside : Outside) (engine : EngineState) (job : Compaction) (others :
 
       pub output_can : (place : ℕ) (least : Option Stamp) → IsOutputPlace job.space job engine.store place
           → IsLeastOf least (file_borns (committed job others (output_file file) place engine).store)
-          → CanReplace (compaction_record job (output_file file) place) least (with_output content file outside) engine
+          → CanCommitReplacement (compaction_record job (output_file file) place) least (with_output content file outside) engine
           job others (output_file file) place
       output_can place least at is_least = record {
         commits = record {
@@ -105,9 +105,9 @@ module _ (outside : Outside) (engine : EngineState) (job : Compaction) (others :
             (λ i. record { number = is.number_is i; born = is.born_is i } ∷ []),
             subst (λ n. Describes ((with_output content file outside).known n)
                 ((with_output content file outside).told n)) is.number_is
-                (subst (λ (c : Content). Describes ((with_output content file outside).known (number_of file)) c)
+                (subst (λ (c : Content). Describes ((with_output content file outside).known (file_number file)) c)
                 (sym (told_output outside engine job others stored out content file is))
-                (subst (λ (e : Entry). Describes e content)
+                (subst (λ (e : KnownFile). Describes e content)
                 (sym (known_output outside engine job others stored out content file is)) is.describes)),
           );
         };

@@ -6,12 +6,12 @@ use Rattle.std.specs.Cmp.Lexicographic.{pointwise, texts_ties}
 use Rattle.std.specs.List.{AllByRecursion as Each, filter, flat_map, list_any}
 use Rattle.std.specs.Option.{option_and_then}
 use Rattle.tsdb_path.proofs.Order.{text_same}
-use Rattle.tsdb_tasks.specs.Series.{AreOfJob, HavePaths, IsNamed, names_in, path_in, schemas_at}
+use Rattle.tsdb_tasks.specs.Series.{AreSeriesOfJob, HavePaths, HasPathNames, input_names, input_path, schemas_at}
 use Rattle.tsdb_tasks.specs.declared.series.InputSeries.{InputSeries}
 use Rattle.tsdb_tasks.specs.declared.series.JobSeries.{JobSeries}
 use Rattle.tsdb_compactions.specs.TakingSteps.{HasNumbers}
 use Rattle.tsdb_path.specs.Order.{AreInNameOrder, AreNamesBefore}
-use Rattle.tsdb_compactions.specs.Parts.{names_of}
+use Rattle.tsdb_compactions.specs.Parts.{schema_names}
 use Rattle.tsdb_base.proofs.Lists.{among_left, among_map, among_right, any_among, each_among, each_from_among}
 use Rattle.tsdb_state.proofs.LayerLemmas.Places.{path_itself}
 use Rattle.tsdb_base.specs.Lists.{Among, EachPair, if_some}
@@ -23,9 +23,9 @@ use Rattle.tsdb_memory.proofs.Counts.{among_either}
 use Rattle.tsdb_memory.proofs.Frozen.{image_of}
 use Rattle.tsdb_memory.proofs.Numbers.{schema_at, some_same}
 use Rattle.tsdb_memory.proofs.Raises.{all_at}
-use Rattle.tsdb_memory.specs.Model.{IsFormed, IsSound}
+use Rattle.tsdb_memory.specs.Model.{IsFormed, IsSoundMemory}
 use Rattle.tsdb_memory.specs.Shown.{number_of}
-use Rattle.tsdb_memory.specs.Store.{Store}
+use Rattle.tsdb_memory.specs.Store.{MemoryState}
 use Rattle.tsdb_path.specs.Nodes.{device_of, measurement_of, node_count}
 
 -- ---- lists
@@ -139,71 +139,71 @@ module _ (all : List Schema) (formed : All IsFormed all) where
   formed_at : (path : List ℕ) (schema : Schema) → IsAt all path schema → IsFormed schema
   formed_at path schema is = all_at IsFormed all is.number schema formed is.at
 
-  same_names_as : (one : InputSeries) (schema : Schema) → IsNamed one → Among schema (schemas_at all (path_in one))
-      → names_in one ≡ names_of schema
+  same_names_as : (one : InputSeries) (schema : Schema) → HasPathNames one → Among schema (schemas_at all (input_path one))
+      → input_names one ≡ schema_names schema
   same_names_as one schema named has =
-      let is = is_at all (path_in one) schema has in
-      let suits = (formed_at (path_in one) schema is).suits.series in
+      let is = is_at all (input_path one) schema has in
+      let suits = (formed_at (input_path one) schema is).suits.series in
       let nodes : 2 ≤ node_count schema.path = omega (arith, suits) in
       let of_path = subst (λ (p : List ℕ). 2 ≤ node_count p) is.of_path nodes in
       ap (λ (d : List ℕ). (d, one.names.1.now)) (named.device of_path)
-      ∙ ap (λ (m : List ℕ). (device_of (path_in one), m)) (named.measurement of_path)
+      ∙ ap (λ (m : List ℕ). (device_of (input_path one), m)) (named.measurement of_path)
       ∙ ap (λ (p : List ℕ). (device_of p, measurement_of p)) (sym is.of_path)
 
-  rising : (series : List InputSeries) → Each IsNamed series → AreInNameOrder names_in series
-      → EachPair (λ a b. AreNamesBefore (names_of a) (names_of b)) (flat_map (λ one. schemas_at all (path_in one)) series)
+  rising : (series : List InputSeries) → Each HasPathNames series → AreInNameOrder input_names series
+      → EachPair (λ a b. AreNamesBefore (schema_names a) (schema_names b)) (flat_map (λ one. schemas_at all (input_path one)) series)
   rising [] named order = tt
   rising (one ∷ series) named order =
-      by (option_and_then (slice_get all) (number_of all (path_in one)))
+      by (option_and_then (slice_get all) (number_of all (input_path one)))
       (λ schema has. same_names_as one schema named.0 has) (rising series named.1 order.1)
     where
       rest : List Schema
-      rest = flat_map (λ other. schemas_at all (path_in other)) series
+      rest = flat_map (λ other. schemas_at all (input_path other)) series
 
-      later : (schema : Schema) → names_in one ≡ names_of schema
-          → Each (λ b. AreNamesBefore (names_of schema) (names_of b)) rest
-      later schema names = each_from_among (λ b. AreNamesBefore (names_of schema) (names_of b)) rest (λ b has.
-          let part = part_of (λ (other : InputSeries). schemas_at all (path_in other)) series b has in
-          let before = each_among (λ other. AreNamesBefore (names_in one) (names_in other)) series part.element order.0
+      later : (schema : Schema) → input_names one ≡ schema_names schema
+          → Each (λ b. AreNamesBefore (schema_names schema) (schema_names b)) rest
+      later schema names = each_from_among (λ b. AreNamesBefore (schema_names schema) (schema_names b)) rest (λ b has.
+          let part = part_of (λ (other : InputSeries). schemas_at all (input_path other)) series b has in
+          let before = each_among (λ other. AreNamesBefore (input_names one) (input_names other)) series part.element order.0
           part.among in
-          let other = same_names_as part.element b (each_among IsNamed series part.element named.1 part.among) part.is in
-          subst (λ (n : List ℕ × List ℕ). AreNamesBefore n (names_of b)) names
-          (subst (λ (n : List ℕ × List ℕ). AreNamesBefore (names_in one) n) other before))
+          let other = same_names_as part.element b (each_among HasPathNames series part.element named.1 part.among) part.is in
+          subst (λ (n : List ℕ × List ℕ). AreNamesBefore n (schema_names b)) names
+          (subst (λ (n : List ℕ × List ℕ). AreNamesBefore (input_names one) n) other before))
 
-      by : (o : Option Schema) → ((schema : Schema) → Among schema (if_some o) → names_in one ≡ names_of schema)
-          → EachPair (λ a b. AreNamesBefore (names_of a) (names_of b)) rest
-          → EachPair (λ a b. AreNamesBefore (names_of a) (names_of b)) (if_some o ++ rest)
+      by : (o : Option Schema) → ((schema : Schema) → Among schema (if_some o) → input_names one ≡ schema_names schema)
+          → EachPair (λ a b. AreNamesBefore (schema_names a) (schema_names b)) rest
+          → EachPair (λ a b. AreNamesBefore (schema_names a) (schema_names b)) (if_some o ++ rest)
       by None names others = others
       by (Some schema) names others = (later schema (names schema (inl refl)), others)
 
-pub of_job : (paths : List (List ℕ)) (store : Store) (series : List InputSeries) (job : JobSeries) → IsSound store
-    → HavePaths paths series → AreInNameOrder names_in series
-    → job.marks.marks ≡ filter (is_of (map path_in series)) store.marks.marks
-    → job.schemas ≡ flat_map (λ (one : InputSeries). schemas_at store.series (path_in one)) series
-    → AreOfJob paths store job
+pub of_job : (paths : List (List ℕ)) (store : MemoryState) (series : List InputSeries) (job : JobSeries) → IsSoundMemory store
+    → HavePaths paths series → AreInNameOrder input_names series
+    → job.marks.marks ≡ filter (is_of (map input_path series)) store.marks.marks
+    → job.schemas ≡ flat_map (λ (one : InputSeries). schemas_at store.series (input_path one)) series
+    → AreSeriesOfJob paths store job
 of_job paths store series job sound have order marks are = record {
-  marks = marks ∙ same_marks (map path_in series) paths have.same store.marks.marks;
+  marks = marks ∙ same_marks (map input_path series) paths have.same store.marks.marks;
   schemas = λ schema. (
     λ has.
         let part = part_of schemas_for series schema (subst (Among schema) are has) in
-        let is = is_at store.series (path_in part.element) schema part.is in (
+        let is = is_at store.series (input_path part.element) schema part.is in (
           among_got store.series is.number schema is.at,
-          (have.same schema.path).0 (subst (λ (p : List ℕ). Among p (map path_in series)) (sym is.of_path)
-              (among_map path_in series part.element part.among)),
+          (have.same schema.path).0 (subst (λ (p : List ℕ). Among p (map input_path series)) (sym is.of_path)
+              (among_map input_path series part.element part.among)),
         ),
     λ has.
-        let image = image_of path_in series schema.path ((have.same schema.path).1 has.1) in
+        let image = image_of input_path series schema.path ((have.same schema.path).1 has.1) in
         subst (Among schema) (sym are) (among_flat schemas_for series image.element schema image.among
         (subst (λ (p : List ℕ). Among schema (schemas_at store.series p)) (sym image.is)
         (there store.series sound.once schema has.0))),
   );
   formed = each_from_among IsSchema job.schemas (λ schema has.
       let part = part_of schemas_for series schema (subst (Among schema) are has) in
-      (formed_at store.series sound.formed (path_in part.element) schema
-      (is_at store.series (path_in part.element) schema part.is)).suits);
-  rising = subst (EachPair (λ a b. AreNamesBefore (names_of a) (names_of b))) (sym are)
+      (formed_at store.series sound.formed (input_path part.element) schema
+      (is_at store.series (input_path part.element) schema part.is)).suits);
+  rising = subst (EachPair (λ a b. AreNamesBefore (schema_names a) (schema_names b))) (sym are)
       (rising store.series sound.formed series have.named order);
 }
   where
     schemas_for : InputSeries → List Schema
-    schemas_for one = schemas_at store.series (path_in one)
+    schemas_for one = schemas_at store.series (input_path one)

@@ -12,9 +12,9 @@ use Rattle.tsdb_base.specs.declared.ids.Space.TheVariants.{Sequence, Unsequence}
 use Rattle.tsdb_tasks.proofs.Built.{HasPart, IsDrawn, has_part, is_drawn}
 use Rattle.tsdb_tasks.proofs.Doubts.{told_elsewhere}
 use Rattle.tsdb_tasks.proofs.Numbers.{at_itself, at_other, kept_new, kept_other}
-use Rattle.tsdb_tasks.specs.Files.{AreOfJob, IsOfPart, IsOutAs, NewFile, NewFiles, TellBytes, all_of, at_file}
-use Rattle.tsdb_tasks.specs.Files.{kept_with, known_entry, known_with, number_of, numbers_of, state_files}
-use Rattle.tsdb_tasks.specs.Files.{told_with}
+use Rattle.tsdb_tasks.specs.Files.{AreFilesOfJob, IsOfPart, IsOutAs, NewFile, NewFiles, TellBytes, all_of, at_file}
+use Rattle.tsdb_tasks.specs.Files.{kept_with, known_entry, known_with, file_number, built_numbers, state_files}
+use Rattle.tsdb_tasks.specs.Files.{told_after_flush}
 use Rattle.tsdb_tasks.specs.Files.{with_files}
 use Rattle.tsdb_fileset.specs.Held.{listed}
 use Rattle.tsdb_state.proofs.ImageLemmas.Kept.{whole_as}
@@ -26,7 +26,7 @@ use Rattle.tsdb_base.proofs.Lists.{among_left, among_map, among_right, any_among
 use Rattle.tsdb_base.proofs.Lists.{each_append}
 use Rattle.tsdb_base.proofs.Lists.{each_from_among, each_left, each_map, each_right}
 use Rattle.tsdb_base.specs.Lists.{Among, EachPair, count, if_some}
-use Rattle.tsdb_state.specs.Places.{Place}
+use Rattle.tsdb_state.specs.Places.{PointPlace}
 use Rattle.tsdb_memory.specs.Logged.{IsStoredIn, Outside}
 use Rattle.tsdb_model.specs.World.{World}
 use Rattle.tsdb_memory.proofs.Frozen.{image_of}
@@ -35,11 +35,11 @@ use Rattle.tsdb_state.proofs.Fresh.{count_here}
 use Rattle.tsdb_state.proofs.Numbering.{count_with_one}
 use Rattle.tsdb_state.proofs.Told.{value_same}
 use Rattle.tsdb_state.specs.Jobs.{drawn_by}
-use Rattle.tsdb_state.specs.Order.{files_of}
+use Rattle.tsdb_state.specs.Order.{all_files}
 use Rattle.tsdb_state.specs.Records as records
 use Rattle.tsdb_state.specs.State as state
 use Rattle.tsdb_state.specs.State.{EngineState, File}
-use Rattle.tsdb_state.specs.Worlds.{StandsFor, value_of}
+use Rattle.tsdb_state.specs.Worlds.{StandsFor, value_at_place}
 
 -- a file among the new ones is that of a part
 file_of : (P : NewFile → Type 0) (o : Option NewFile) → ((file : NewFile) → o ≡ Some file → P file) → Each P (if_some o)
@@ -49,7 +49,7 @@ file_of P (Some file) all = (all file refl, tt)
 pub number_there : (o : Option ℕ) (n : ℕ) → o ≡ Some n → Among n (if_some o)
 number_there o n is = subst (λ (p : Option ℕ). Among n (if_some p)) (sym is) (inl refl)
 
-module _ (store : Store) (job : FlushJob) (files : NewFiles) (flush : state.FlushJob) (of_job : AreOfJob store job
+module _ (store : Store) (job : FlushJob) (files : NewFiles) (flush : state.FlushState) (of_job : AreFilesOfJob store job
     files)
     (sequence : flush.sequence ≡ option_map (λ (n : FileNumber). n.0) job.sequence)
     (unsequence : flush.unsequence ≡ option_map (λ (n : FileNumber). n.0) job.unsequence) where
@@ -66,8 +66,8 @@ module _ (store : Store) (job : FlushJob) (files : NewFiles) (flush : state.Flus
   pub record OfJob (file : NewFile) : Type 0 where
     pub born_is : file.entry.born.0 ≡ job.born.0
     pub unread : file.token.rights ≡ 0
-    pub named : file.token.name.number ≡ number_of file
-    pub drawn : Among (number_of file) (drawn_by flush)
+    pub named : file.token.name.number ≡ file_number file
+    pub drawn : Among (file_number file) (drawn_by flush)
 
   pub each_of_job : Each OfJob (all_of files)
   each_of_job = each_append OfJob (if_some files.sequence) (if_some files.unsequence)
@@ -75,26 +75,26 @@ module _ (store : Store) (job : FlushJob) (files : NewFiles) (flush : state.Flus
         born_is = known.born_is;
         unread = known.unread;
         named = known.named;
-        drawn = among_left (if_some flush.sequence) (if_some flush.unsequence) (number_of file)
-            (number_there flush.sequence (number_of file) (sequence ∙ known.drawn));
+        drawn = among_left (if_some flush.sequence) (if_some flush.unsequence) (file_number file)
+            (number_there flush.sequence (file_number file) (sequence ∙ known.drawn));
       }))
       (file_of OfJob files.unsequence (λ file is. let known = drawn_unsequence file is in record {
         born_is = known.born_is;
         unread = known.unread;
         named = known.named;
-        drawn = among_right (if_some flush.sequence) (if_some flush.unsequence) (number_of file)
-            (number_there flush.unsequence (number_of file) (unsequence ∙ known.drawn));
+        drawn = among_right (if_some flush.sequence) (if_some flush.unsequence) (file_number file)
+            (number_there flush.unsequence (file_number file) (unsequence ∙ known.drawn));
       }))
 
   -- the number of a new file was drawn
-  pub drawn_number : (n : ℕ) → Among n (numbers_of files) → Among n (drawn_by flush)
+  pub drawn_number : (n : ℕ) → Among n (built_numbers files) → Among n (drawn_by flush)
   drawn_number n among =
-      let image = image_of number_of (all_of files) n among in
+      let image = image_of file_number (all_of files) n among in
       subst (λ m. Among m (drawn_by flush)) image.is (each_among OfJob (all_of files) image.element each_of_job
       image.among).drawn
 
   -- the new files have different numbers
-  pub numbers_differ : ((n : ℕ) → count n (drawn_by flush) ≤ 1) → EachPair (λ a b. number_of a ≢ number_of b) (all_of
+  pub numbers_differ : ((n : ℕ) → count n (drawn_by flush) ≤ 1) → EachPair (λ a b. file_number a ≢ file_number b) (all_of
       files)
   numbers_differ once = by files.sequence files.unsequence drawn_sequence drawn_unsequence
     where
@@ -106,24 +106,24 @@ module _ (store : Store) (job : FlushJob) (files : NewFiles) (flush : state.Flus
 
       by : (s u : Option NewFile) → ((file : NewFile) → s ≡ Some file → IsDrawn store job.born.0 job.sequence file)
           → ((file : NewFile) → u ≡ Some file → IsDrawn store job.born.0 job.unsequence file)
-          → EachPair (λ a b. number_of a ≢ number_of b) (if_some s ++ if_some u)
+          → EachPair (λ a b. file_number a ≢ file_number b) (if_some s ++ if_some u)
       by None None first second = tt
       by None (Some u) first second = (tt, tt)
       by (Some s) None first second = (tt, tt)
       by (Some s) (Some u) first second = (
         (
-          (λ same. apart flush.sequence flush.unsequence (number_of u)
+          (λ same. apart flush.sequence flush.unsequence (file_number u)
               (sequence ∙ (first s refl).drawn ∙ ap Some same) (unsequence ∙ (second u refl).drawn)
-              (once (number_of u))),
+              (once (file_number u))),
           tt,
         ),
         (tt, tt),
       )
 
-module _ (job : FlushJob) (outside : Outside) (engine : EngineState) (flush : state.FlushJob)
-    (others : List state.FlushJob) (stored : IsStoredIn outside engine) (out : IsOutAs job flush others engine) where
+module _ (job : FlushJob) (outside : Outside) (engine : EngineState) (flush : state.FlushState)
+    (others : List state.FlushState) (stored : IsStoredIn outside engine) (out : IsOutAs job flush others engine) where
   -- a number that was drawn is that of no file, and stands once among those that were drawn
-  pub drawn_once : (n : ℕ) → count n (records.numbers_of (files_of engine)) + count n (drawn_by flush) ≤ 1
+  pub drawn_once : (n : ℕ) → count n (records.numbers_of (all_files engine)) + count n (drawn_by flush) ≤ 1
   drawn_once n = omega (
     arith,
     stored.order.numbers.differ n,
@@ -134,42 +134,42 @@ module _ (job : FlushJob) (outside : Outside) (engine : EngineState) (flush : st
   pub one_at_most : (n : ℕ) → count n (drawn_by flush) ≤ 1
   one_at_most n = omega (arith, drawn_once n)
 
-  pub not_a_file : (file : File) → Among file (files_of engine) → Among file.number (drawn_by flush) → ⊥
+  pub not_a_file : (file : File) → Among file (all_files engine) → Among file.number (drawn_by flush) → ⊥
   not_a_file file there among =
       let once = drawn_once file.number in
       let one = counted_in file.number (drawn_by flush) among in
-      let other = counted_in file.number (records.numbers_of (files_of engine))
-      (among_map (λ (f : File). f.number) (files_of engine) file there) in
+      let other = counted_in file.number (records.numbers_of (all_files engine))
+      (among_map (λ (f : File). f.number) (all_files engine) file there) in
       omega (arith, once, one, other)
     where
       counted_in : (n : ℕ) (numbers : List ℕ) → Among n numbers → 1 ≤ count n numbers
       counted_in n numbers among = counted n numbers (any_among (nat_eq n) numbers n among (eq-eqb n n refl))
 
-  module _ (store : Store) (files : NewFiles) (of_job : AreOfJob store job files) where
-    pub not_new : (file : File) → Among file (files_of engine) → Among file.number (numbers_of files) → ⊥
+  module _ (store : Store) (files : NewFiles) (of_job : AreFilesOfJob store job files) where
+    pub not_new : (file : File) → Among file (all_files engine) → Among file.number (built_numbers files) → ⊥
     not_new file there among = not_a_file file there
         (drawn_number store job files flush of_job out.of.sequence out.of.unsequence file.number among)
 
     pub at_others : {X : Type 0} (value late : NewFile → X) (given : ℕ → X) (n : ℕ)
-        → (Among n (numbers_of files) → ⊥) → at_file files.unsequence late (at_file files.sequence value given) n ≡
+        → (Among n (built_numbers files) → ⊥) → at_file files.unsequence late (at_file files.sequence value given) n ≡
         given n
     at_others value late given n never =
         at_other files.unsequence late (at_file files.sequence value given) n
-        (λ among. never (subst (Among n) (sym (map-append number_of (if_some files.sequence) (if_some
+        (λ among. never (subst (Among n) (sym (map-append file_number (if_some files.sequence) (if_some
         files.unsequence)))
-        (among_right (map number_of (if_some files.sequence)) (map number_of (if_some files.unsequence)) n among)))
+        (among_right (map file_number (if_some files.sequence)) (map file_number (if_some files.unsequence)) n among)))
         ∙ at_other files.sequence value given n
-        (λ among. never (subst (Among n) (sym (map-append number_of (if_some files.sequence) (if_some
+        (λ among. never (subst (Among n) (sym (map-append file_number (if_some files.sequence) (if_some
         files.unsequence)))
-        (among_left (map number_of (if_some files.sequence)) (map number_of (if_some files.unsequence)) n among)))
+        (among_left (map file_number (if_some files.sequence)) (map file_number (if_some files.unsequence)) n among)))
 
-    pub told_same : (file : File) → Among file (files_of engine)
-        → outside.told file.number ≡ told_with flush files outside.told file.number
+    pub told_same : (file : File) → Among file (all_files engine)
+        → outside.told file.number ≡ told_after_flush flush files outside.told file.number
     told_same file there = sym (at_others (λ (f : NewFile). flush.pair.sequence) (λ (f : NewFile).
         flush.pair.unsequence)
         outside.told file.number (not_new file there))
 
-    pub known_same : (file : File) → Among file (files_of engine)
+    pub known_same : (file : File) → Among file (all_files engine)
         → outside.known file.number ≡ known_with files outside.known file.number
     known_same file there = sym (at_others known_entry known_entry outside.known file.number (not_new file there))
 
@@ -179,23 +179,23 @@ module _ (job : FlushJob) (outside : Outside) (engine : EngineState) (flush : st
       named = stored.named;
       good = stored.good;
       replayed = stored.replayed;
-      order = told_elsewhere outside.told (told_with flush files outside.told) outside.known
+      order = told_elsewhere outside.told (told_after_flush flush files outside.told) outside.known
           (known_with files outside.known) stored.named engine stored.order
-          (each_from_among _ (files_of engine) told_same)
+          (each_from_among _ (all_files engine) told_same)
           (each_from_among _ (engine.store.sequence ++ engine.store.unsequence) (λ file there. known_same file
           (among_left (engine.store.sequence ++ engine.store.unsequence) engine.outgoing file there)));
-      whole = each_from_among _ (files_of engine) (λ file there. whole_as (kept_bytes outside.kept)
-          (kept_bytes (kept_with files outside.kept)) outside.told (told_with flush files outside.told) file file refl
+      whole = each_from_among _ (all_files engine) (λ file there. whole_as (kept_bytes outside.kept)
+          (kept_bytes (kept_with files outside.kept)) outside.told (told_after_flush flush files outside.told) file file refl
           (told_same file there)
           (λ bytes is. kept_other files outside.kept file.number (not_new file there) ∙ is)
-          (each_among (IsKeptWhole outside.kept outside.told) (files_of engine) file stored.whole there));
+          (each_among (IsKeptWhole outside.kept outside.told) (all_files engine) file stored.whole there));
       doubt = stored.doubt;
     }
 
     -- it stands for the same worlds
-    pub value_with : (place : Place)
-        → value_of outside.told engine.store place ≡ value_of (told_with flush files outside.told) engine.store place
-    value_with place = value_same outside.told (told_with flush files outside.told) engine.store
+    pub value_with : (place : PointPlace)
+        → value_at_place outside.told engine.store place ≡ value_at_place (told_after_flush flush files outside.told) engine.store place
+    value_with place = value_same outside.told (told_after_flush flush files outside.told) engine.store
         (each_from_among _ engine.store.sequence (λ file there. told_same file
         (among_left (engine.store.sequence ++ engine.store.unsequence) engine.outgoing file
         (among_left engine.store.sequence engine.store.unsequence file there))))
@@ -226,52 +226,52 @@ module _ (job : FlushJob) (outside : Outside) (engine : EngineState) (flush : st
           (subst (λ (o : Option NewFile). Each (λ (f : NewFile). IsSome f.token.name.bytes) (if_some o)) is
           (each_right _ (if_some files.sequence) (if_some files.unsequence) tells)).0
 
-    pub files_differ : EachPair (λ a b. number_of a ≢ number_of b) (all_of files)
+    pub files_differ : EachPair (λ a b. file_number a ≢ file_number b) (all_of files)
     files_differ = numbers_differ store job files flush of_job out.of.sequence out.of.unsequence one_at_most
 
     -- what stands at the number of each new file
     pub at_sequence : {X : Type 0} (value late : NewFile → X) (given : ℕ → X) (file : NewFile)
         → files.sequence ≡ Some file
-        → at_file files.unsequence late (at_file files.sequence value given) (number_of file) ≡ value file
+        → at_file files.unsequence late (at_file files.sequence value given) (file_number file) ≡ value file
     at_sequence value late given file is =
-        at_other files.unsequence late (at_file files.sequence value given) (number_of file) never
-        ∙ ap (λ (o : Option NewFile). at_file o value given (number_of file)) is ∙ at_itself file value given
+        at_other files.unsequence late (at_file files.sequence value given) (file_number file) never
+        ∙ ap (λ (o : Option NewFile). at_file o value given (file_number file)) is ∙ at_itself file value given
       where
-        apart : Each (λ b. number_of file ≢ number_of b) (if_some files.unsequence)
-        apart = (subst (λ (o : Option NewFile). EachPair (λ a b. number_of a ≢ number_of b)
+        apart : Each (λ b. file_number file ≢ file_number b) (if_some files.unsequence)
+        apart = (subst (λ (o : Option NewFile). EachPair (λ a b. file_number a ≢ file_number b)
             (if_some o ++ if_some files.unsequence)) is files_differ).0
 
-        never : Among (number_of file) (map number_of (if_some files.unsequence)) → ⊥
+        never : Among (file_number file) (map file_number (if_some files.unsequence)) → ⊥
         never among =
-            let image = image_of number_of (if_some files.unsequence) (number_of file) among in
-            each_among (λ b. number_of file ≢ number_of b) (if_some files.unsequence) image.element apart image.among
+            let image = image_of file_number (if_some files.unsequence) (file_number file) among in
+            each_among (λ b. file_number file ≢ file_number b) (if_some files.unsequence) image.element apart image.among
             (sym image.is)
 
     pub at_unsequence : {X : Type 0} (value late : NewFile → X) (given : ℕ → X) (file : NewFile)
         → files.unsequence ≡ Some file
-        → at_file files.unsequence late (at_file files.sequence value given) (number_of file) ≡ late file
+        → at_file files.unsequence late (at_file files.sequence value given) (file_number file) ≡ late file
     at_unsequence value late given file is =
-        ap (λ (o : Option NewFile). at_file o late (at_file files.sequence value given) (number_of file)) is
+        ap (λ (o : Option NewFile). at_file o late (at_file files.sequence value given) (file_number file)) is
         ∙ at_itself file late (at_file files.sequence value given)
 
     -- what is kept of each new file is known
-    pub each_known : Each (λ file. known_with files outside.known (number_of file) ≡ known_entry file) (all_of files)
+    pub each_known : Each (λ file. known_with files outside.known (file_number file) ≡ known_entry file) (all_of files)
     each_known = each_append _ (if_some files.sequence) (if_some files.unsequence)
         (file_of _ files.sequence (at_sequence known_entry known_entry outside.known))
         (file_of _ files.unsequence (at_unsequence known_entry known_entry outside.known))
 
     module _ (tells : TellBytes files) where
       abbrev HasTold : NewFile → Type 0
-      HasTold file = HasPart (told_with flush files outside.told (number_of file)) file
+      HasTold file = HasPart (told_after_flush flush files outside.told (file_number file)) file
 
       pub told_sequence : (file : NewFile) → files.sequence ≡ Some file
-          → told_with flush files outside.told (number_of file) ≡ flush.pair.sequence
+          → told_after_flush flush files outside.told (file_number file) ≡ flush.pair.sequence
       told_sequence file is = at_sequence (λ (f : NewFile). flush.pair.sequence) (λ (f : NewFile).
           flush.pair.unsequence)
           outside.told file is
 
       pub told_unsequence : (file : NewFile) → files.unsequence ≡ Some file
-          → told_with flush files outside.told (number_of file) ≡ flush.pair.unsequence
+          → told_after_flush flush files outside.told (file_number file) ≡ flush.pair.unsequence
       told_unsequence file is = at_unsequence (λ (f : NewFile). flush.pair.sequence)
           (λ (f : NewFile). flush.pair.unsequence) outside.told file is
 
@@ -284,9 +284,9 @@ module _ (job : FlushJob) (outside : Outside) (engine : EngineState) (flush : st
           (sym (told_unsequence file is)) (part_of_unsequence tells file is)))
 
       -- each new file is kept, and has what is told of it
-      pub new_kept : Each (IsKeptWhole (kept_with files outside.kept) (told_with flush files outside.told)) (state_files
+      pub new_kept : Each (IsKeptWhole (kept_with files outside.kept) (told_after_flush flush files outside.told)) (state_files
           files)
-      new_kept = each_map (IsKeptWhole (kept_with files outside.kept) (told_with flush files outside.told))
+      new_kept = each_map (IsKeptWhole (kept_with files outside.kept) (told_after_flush flush files outside.told))
           (λ (file : NewFile). listed file.entry) (all_of files)
           (each_from_among _ (all_of files) (λ file there. let has = each_among HasTold (all_of files) file each_told
           there in

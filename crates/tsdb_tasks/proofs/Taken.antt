@@ -9,12 +9,12 @@ use Rattle.tsdb_base.specs.declared.ids.FileNumber.{FileNumber}
 use Rattle.tsdb_base.specs.declared.ids.Space.{Space}
 use Rattle.tsdb_base.specs.declared.ids.Space.TheVariants.{Sequence, Unsequence}
 use Rattle.tsdb_base.specs.declared.ids.Stamp.{Stamp}
-use Rattle.tsdb_tasks.specs.Inputs.{AreHeld, IsHeld, IsOneTaken, TakesInputs, TakesEntries, TakesSome}
+use Rattle.tsdb_tasks.specs.Inputs.{AreHeld, IsHeld, IsOneTaken, TakesInputs, TakesEntries, TakesSomeInputs}
 use Rattle.tsdb_tasks.specs.Inputs.{input_numbers}
 use Rattle.tsdb_compactions.specs.Jobs.{input_file}
 use Rattle.tsdb_compactions.specs.declared.job.Input.{Input}
 use Rattle.tsdb_fileset.specs.Held.{listed}
-use Rattle.tsdb_fileset.specs.Files.{AreKept, KeepsLists, KeptFiles, entries_in, entry_numbers, kept_file, numbers_of}
+use Rattle.tsdb_fileset.specs.Files.{AreKept, KeepsLists, KeptFiles, entries_in, entry_numbers, kept_file, all_numbers}
 use Rattle.tsdb_fileset.specs.Files.{outgoing_numbers}
 use Rattle.tsdb_fileset.specs.Places.{KeptFile, OthersStay}
 use Rattle.tsdb_fileset.specs.Rights.{HasChanged, IsRightTo, one_more}
@@ -24,7 +24,7 @@ use Rattle.tsdb_outside.specs.Files.{NamedFile}
 use Rattle.tsdb_pin.proofs.Changing.{LeavesNames, gives_names, gives_none, gives_then}
 use Rattle.tsdb_pin.proofs.Changing.{nothing_changed, right_stays, right_was, takes_names, takes_none, takes_one}
 use Rattle.tsdb_pin.proofs.Changing.{takes_then}
-use Rattle.tsdb_pin.specs.Changes.{ChangesFiles, GivesRights, KeepsFiles, TakesRights, fewer_rights, more_rights}
+use Rattle.tsdb_pin.specs.Changes.{ChangesFiles, GivesRights, ChangesNoFile, TakesRights, fewer_rights, more_rights}
 use Rattle.tsdb_plan.specs.declared.entry.FileEntry.{FileEntry}
 use Rattle.tsdb_plan.specs.declared.entry.Run.{Run}
 
@@ -65,7 +65,7 @@ counted_at n (e ∷ entries) zero entry within at is =
 counted_at n (e ∷ entries) (suc place) entry within at is =
     let rest = counted_at n entries place entry (omega (arith, within)) at is in omega (arith, rest)
 
-pub all_counted : (n : ℕ) (files : KeptFiles) → count n (numbers_of files)
+pub all_counted : (n : ℕ) (files : KeptFiles) → count n (all_numbers files)
     ≡ (count n (entry_numbers files.sequence) + count n (entry_numbers files.unsequence))
     + count n (outgoing_numbers files.outgoing)
 all_counted n files =
@@ -81,7 +81,7 @@ listed_is_kept space files place entry kept within at =
     by (kept_file entry.number.0 files) refl (one space within at)
   where
     one : (space : Space) → place < length (entries_in space files)
-        → entry ≡ get_or (entries_in space files) place entry → 1 ≤ count entry.number.0 (numbers_of files)
+        → entry ≡ get_or (entries_in space files) place entry → 1 ≤ count entry.number.0 (all_numbers files)
     one Sequence within at = omega (
       arith,
       all_counted entry.number.0 files,
@@ -93,7 +93,7 @@ listed_is_kept space files place entry kept within at =
       counted_at entry.number.0 files.unsequence place entry within at refl,
     )
 
-    by : (o : Option KeptFile) → kept_file entry.number.0 files ≡ o → 1 ≤ count entry.number.0 (numbers_of files)
+    by : (o : Option KeptFile) → kept_file entry.number.0 files ≡ o → 1 ≤ count entry.number.0 (all_numbers files)
         → IsSome (kept_file entry.number.0 files)
     by None e some = absurd (omega (arith, some, kept entry.number.0, ap (λ f. length (if_some f)) e))
     by (Some file) e some = subst IsSome (sym e) refl
@@ -111,7 +111,7 @@ module _ {F S R P : Type 0} (name : R → NamedFile) where
 
   -- ---- one after another
 
-  pub nothing_taken : (a b : KeptFiles) (before after : List (Input F S R P)) → KeepsFiles a b → after ≡ before
+  pub nothing_taken : (a b : KeptFiles) (before after : List (Input F S R P)) → ChangesNoFile a b → after ≡ before
       → TakesInputs name a b before after []
   nothing_taken a b before after keeps same = record {
     are = same ∙ sym (append-nil before);
@@ -200,8 +200,8 @@ module _ {F S R P : Type 0} (name : R → NamedFile) where
       subst (λ n. TakesEntries name (slice_range (entries_in space old) run.first n) old now before after) same so.taken
 
   pub one_failed : (space : Space) (first : ℕ) (old now new : KeptFiles) (before middle after : List (Input F S R P))
-      (place : ℕ) → AreTakenTo space first old now before middle place → KeepsFiles now new → after ≡ middle
-      → TakesSome name old new before after
+      (place : ℕ) → AreTakenTo space first old now before middle place → ChangesNoFile now new → after ≡ middle
+      → TakesSomeInputs name old new before after
   one_failed space first old now new before middle after place so keeps same = (
     so.taken.0 ++ [],
     taken_then old now new before middle after so.taken.0 [] so.taken.1 (nothing_taken now new middle after keeps same),

@@ -12,16 +12,16 @@ use Rattle.tsdb_tasks.proofs.Out.{fewer_counted, job_of}
 use Rattle.tsdb_tasks.proofs.Taken.{all_counted}
 use Rattle.tsdb_tasks.specs.Beginning.{AreBegun, run_files}
 use Rattle.tsdb_tasks.specs.Inputs.{IsHeld, input_numbers}
-use Rattle.tsdb_tasks.specs.Series.{AreOfJob, run_paths}
+use Rattle.tsdb_tasks.specs.Series.{AreSeriesOfJob, run_paths}
 use Rattle.tsdb_tasks.specs.declared.beginning.TakenInputs.{TakenInputs}
 use Rattle.tsdb_tasks.specs.declared.finishing.InputRuns.{InputRuns}
 use Rattle.tsdb_tasks.specs.declared.series.JobSeries.{JobSeries}
 use Rattle.tsdb_compactions.specs.Jobs.{input_file}
-use Rattle.tsdb_compactions.specs.Outputs.{IsOneTold, IsRead, TellsTruth}
+use Rattle.tsdb_compactions.specs.Outputs.{IsOneTold, IsInputRead, TellsTruth}
 use Rattle.tsdb_compactions.specs.declared.job.Input.{Input}
 use Rattle.tsdb_fileset.specs.Held.{AreFilesOf, TellTheirBytes, listed}
 use Rattle.tsdb_state.specs.Stored.{IsKeptWhole, kept_bytes}
-use Rattle.tsdb_fileset.specs.Files.{AreKept, KeptFiles, kept_file, numbers_of}
+use Rattle.tsdb_fileset.specs.Files.{AreKept, KeptFiles, kept_file, all_numbers}
 use Rattle.tsdb_fileset.specs.Places.{KeptFile}
 use Rattle.tsdb_fileset.specs.Replacing.{IsWithin}
 use Rattle.tsdb_fileset.specs.Rights.{IsRightTo}
@@ -29,20 +29,20 @@ use Rattle.tsdb_base.proofs.Lists.{among_left, among_map, among_right, count_app
 use Rattle.tsdb_state.specs.Layers.{value_in}
 use Rattle.tsdb_base.specs.Lists.{Among, EachPair, count, if_some}
 use Rattle.tsdb_memory.specs.Shown.{IsMemoryOf}
-use Rattle.tsdb_memory.specs.Store.{Store}
+use Rattle.tsdb_memory.specs.Store.{MemoryState}
 use Rattle.tsdb_outside.specs.Files.{NamedFile, StoredFile}
 use Rattle.tsdb_state.proofs.Fresh.{count_here}
-use Rattle.tsdb_state.specs.Order.{IsInOrder, files_of}
+use Rattle.tsdb_state.specs.Order.{IsInOrder, all_files}
 use Rattle.tsdb_state.specs.Records as records
-use Rattle.tsdb_state.specs.State.{EngineState, Entries, File, Told}
+use Rattle.tsdb_state.specs.State.{EngineState, KnownFiles, File, ToldContents}
 use Rattle.tsdb_state.specs.Views.{file_layers}
 
 -- ---- no two files have one number
 
-one_at_most : (files : KeptFiles) → AreKept files → (n : ℕ) → count n (numbers_of files) ≤ 1
+one_at_most : (files : KeptFiles) → AreKept files → (n : ℕ) → count n (all_numbers files) ≤ 1
 one_at_most files kept n = by (kept_file n files) (kept n)
   where
-    by : (o : Option KeptFile) → count n (numbers_of files) ≡ length (if_some o) → count n (numbers_of files) ≤ 1
+    by : (o : Option KeptFile) → count n (all_numbers files) ≡ length (if_some o) → count n (all_numbers files) ≤ 1
     by None is = omega (arith, is)
     by (Some file) is = omega (arith, is)
 
@@ -87,8 +87,8 @@ module _ {F S R P : Type 0} (name : R → NamedFile) where
         bytes = ap (λ (n : NamedFile). n.bytes) is ∙ says.1;
       }
 
-  it_reads : (kept : List StoredFile) (told : Told) (input : Input F S R P) → Tells kept input
-      → IsKeptWhole kept told (input_file input) → IsRead name told input
+  it_reads : (kept : List StoredFile) (told : ToldContents) (input : Input F S R P) → Tells kept input
+      → IsKeptWhole kept told (input_file input) → IsInputRead name told input
   it_reads kept told input tells whole = record {
     bytes = whole.bytes;
     tree = whole.tree;
@@ -122,16 +122,16 @@ module _ {F S R P : Type 0} (name : R → NamedFile) where
   module _ (space : Space) (born output : ℕ) (runs : InputRuns) (old new : KeptFiles) (taken : TakenInputs F S R P)
       (series : JobSeries) (begun : AreBegun name space output runs old new taken)
       (sequence : IsWithin runs.sequence old.sequence) (unsequence : IsWithin runs.unsequence old.unsequence)
-      (store : Store) (of : AreOfJob (run_paths runs old) store series) where
+      (store : MemoryState) (of : AreSeriesOfJob (run_paths runs old) store series) where
     -- in a stored state in order that the files show, the job is told the truth
-    pub tells_truth : (told : Told) (known : Entries) (named : List ℕ) (engine : EngineState) (kept : List StoredFile)
-        → IsInOrder told known named engine → Each (IsKeptWhole kept told) (files_of engine) → AreFilesOf old known engine
+    pub tells_truth : (told : ToldContents) (known : KnownFiles) (named : List ℕ) (engine : EngineState) (kept : List StoredFile)
+        → IsInOrder told known named engine → Each (IsKeptWhole kept told) (all_files engine) → AreFilesOf old known engine
         → AreKept old → TellTheirBytes old kept → IsMemoryOf store engine.store
         → TellsTruth name told (job_of space born runs.sequence.first taken series output)
     tells_truth told known named engine kept order whole are all tell memory = record {
-      read = each_from_among (λ input. IsSome (name input.right).bytes → IsRead name told input) taken.inputs
+      read = each_from_among (λ input. IsSome (name input.right).bytes → IsInputRead name told input) taken.inputs
           (λ input among some. it_reads kept told input (each_among (Tells kept) taken.inputs input tells among)
-          (each_among (IsKeptWhole kept told) (files_of engine) (input_file input) whole (listed_there input among)));
+          (each_among (IsKeptWhole kept told) (all_files engine) (input_file input) whole (listed_there input among)));
       apart = apart kept taken.inputs tells (λ n. subst (λ numbers. count n numbers ≤ 1)
           (ap records.numbers_of (sym begun.all.are) ∙ same_numbers taken.inputs)
           (run_once runs old all sequence unsequence n));
@@ -145,13 +145,13 @@ module _ {F S R P : Type 0} (name : R → NamedFile) where
             (each_among (IsHeld name old) taken.inputs input begun.all.held among))
 
         either : (file : File) → Among file engine.store.sequence ⊎ Among file engine.store.unsequence
-            → Among file (files_of engine)
+            → Among file (all_files engine)
         either file (inl among) = among_left (engine.store.sequence ++ engine.store.unsequence) engine.outgoing file
             (among_left engine.store.sequence engine.store.unsequence file among)
         either file (inr among) = among_left (engine.store.sequence ++ engine.store.unsequence) engine.outgoing file
             (among_right engine.store.sequence engine.store.unsequence file among)
 
-        listed_there : (input : Input F S R P) → Among input taken.inputs → Among (input_file input) (files_of engine)
+        listed_there : (input : Input F S R P) → Among input taken.inputs → Among (input_file input) (all_files engine)
         listed_there input among = either (input_file input) (input_stands old known engine are runs sequence unsequence
             (input_file input) (subst (Among (input_file input)) begun.all.are
             (among_map input_file taken.inputs input among)))

@@ -31,7 +31,7 @@ pub record HoldsMore (numbers : List ℕ) (old new : KeptFiles) : Type 0 where
 
 module _ {F S R P : Type 0} (name : R → NamedFile) where
   -- The inputs are the files of the runs, with their rights; the output has a place, and the end of the job its room.
-  pub record AreTaken (space : Space) (output : ℕ) (runs : InputRuns) (old new : KeptFiles)
+  pub record AreInputsTaken (space : Space) (output : ℕ) (runs : InputRuns) (old new : KeptFiles)
       (inputs : List (Input F S R P)) : Type 0 where
     pub are : map input_file inputs ≡ run_files runs old
     pub held : AreHeld name old inputs
@@ -51,7 +51,7 @@ module _ {F S R P : Type 0} (name : R → NamedFile) where
       (taken : TakenInputs F S R P)
       : Type 0 where
     pub before : KeptFiles
-    pub all : AreTaken space output runs old before taken.inputs
+    pub all : AreInputsTaken space output runs old before taken.inputs
     pub claimed : new ≡ record before { unsequence = claim_run runs.unsequence true before.unsequence }
     pub sequence : taken.sequence ≡ map (λ (entry : FileEntry). entry.number)
         (slice_range old.sequence runs.sequence.first runs.sequence.end)
@@ -59,7 +59,7 @@ module _ {F S R P : Type 0} (name : R → NamedFile) where
         (slice_range old.unsequence runs.unsequence.first runs.unsequence.end)
 
 -- no file and no list has changed, and there is no more room; a place that was made stays
-pub record IsUntouched (old new : KeptFiles) : Type 0 where
+pub record AreFilesUntouched (old new : KeptFiles) : Type 0 where
   pub files : (n : ℕ) → kept_file n new ≡ kept_file n old
   pub places : (n : ℕ) → IsOpen n old → IsOpen n new
   pub lists : KeepsLists old new

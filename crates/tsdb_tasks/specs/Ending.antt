@@ -9,7 +9,7 @@ use Rattle.tsdb_compactions.specs.Jobs.{plain_numbers}
 use Rattle.tsdb_compactions.specs.declared.job.Job.{Job}
 use Rattle.tsdb_compactions.specs.Built.{Built}
 use Rattle.tsdb_fileset.specs.Files.{IsOpen, KeptFiles, entry_numbers, kept_file}
-use Rattle.tsdb_fileset.specs.Places.{OthersStay, place_at}
+use Rattle.tsdb_fileset.specs.Places.{OthersStay, place_of_number}
 use Rattle.tsdb_fileset.specs.Replacing.{HasListRoom, IsWithin, claim_run, less_compaction}
 use Rattle.tsdb_fileset.specs.Room.{less_room}
 use Rattle.tsdb_base.specs.Lists.{IsRun, count, if_some}
@@ -38,7 +38,7 @@ pub record OutputEnds (space : Space) (number : ℕ) (file : Option NewFile) (ol
   pub unsequence : new.unsequence ≡ old.unsequence
   pub outgoing : new.outgoing ≡ old.outgoing ++ map outgoing_of (if_some file)
   pub here : kept_file number new ≡ option_map (λ one. one.token) file
-  pub gone : file ≡ None → place_at number new.places ≡ None
+  pub gone : file ≡ None → place_of_number number new.places ≡ None
   pub others : OthersStay number old.places new.places
   pub room : new.spare ≡ less_room space old.spare
 
@@ -64,8 +64,8 @@ module _ {F S R P : Type 0} where
     pub unsequence : AreFreed job.unsequence old.unsequence new.unsequence
     pub outgoing : new.outgoing ≡ old.outgoing ++ map outgoing_of (if_some file)
     pub here : kept_file job.output.0 new ≡ option_map (λ one. one.token) file
-    pub gone : file ≡ None → place_at job.output.0 new.places ≡ None
-    pub others : (number : ℕ) → job.output.0 ≢ number → place_at number new.places
+    pub gone : file ≡ None → place_of_number job.output.0 new.places ≡ None
+    pub others : (number : ℕ) → job.output.0 ≢ number → place_of_number number new.places
         ≡ option_map (λ place. option_map (fewer_rights (count number (input_numbers job.inputs))) place)
-        (place_at number old.places)
+        (place_of_number number old.places)
     pub room : new.spare ≡ less_compaction job.space (length job.inputs) old.spare

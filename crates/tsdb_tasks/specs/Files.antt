@@ -7,7 +7,7 @@ use Rattle.tsdb_base.specs.declared.ids.Space.TheVariants.{Sequence, Unsequence}
 use Rattle.tsdb_compactions.specs.Flushes.{IsFlushOf}
 use Rattle.tsdb_fileset.specs.Held.{entry_of, listed}
 use Rattle.tsdb_state.specs.Stored.{without_numbers}
-use Rattle.tsdb_compactions.specs.FlushBuilt.{IsBuiltOf, IsDone}
+use Rattle.tsdb_compactions.specs.FlushBuilt.{IsBuiltOf, IsPartDone}
 use Rattle.tsdb_compactions.specs.FlushJobs.{IsJob, job_part}
 use Rattle.tsdb_compactions.specs.Parts.{Filled}
 use Rattle.tsdb_compactions.specs.Built.{Built}
@@ -19,7 +19,7 @@ use Rattle.tsdb_memory.specs.Logged.{Outside}
 use Rattle.tsdb_outside.specs.Files.{NamedFile, Store, StoredFile}
 use Rattle.tsdb_plan.specs.declared.entry.FileEntry.{FileEntry}
 use Rattle.tsdb_state.specs.State as state
-use Rattle.tsdb_state.specs.State.{EngineState, Entries, Entry, File, Told}
+use Rattle.tsdb_state.specs.State.{EngineState, KnownFiles, KnownFile, File, ToldContents}
 
 -- a new file: its entry, and what is kept beside it
 pub record NewFile : Type 0 where
@@ -33,42 +33,42 @@ pub record NewFiles : Type 0 where
 
 module _ {F S R P : Type 0} (file : S → NamedFile) where
   -- a built file as a core keeps it: no right to read it is out
-  abbrev pub new_file : Built F S R P → NewFile
-  new_file built = record {
+  abbrev pub file_built : Built F S R P → NewFile
+  file_built built = record {
     entry = built.entry;
     token = record { name = file built.sealed; series = built.series; rights = 0 };
   }
 
   abbrev pub new_files : Flushed F S R P → NewFiles
   new_files files = record {
-    sequence = option_map new_file files.sequence;
-    unsequence = option_map new_file files.unsequence;
+    sequence = option_map file_built files.sequence;
+    unsequence = option_map file_built files.unsequence;
   }
 
 module _ {F S R P : Type 0} (file : S → NamedFile) (rights : S → ℕ) where
   -- the job has its files in one store, one for each number that was drawn
   pub record AreDone (job : FlushJob) (files : Flushed F S R P) : Type 0 where
     pub store : Store
-    pub sequence : IsDone file rights store job.born.0 (job_part Sequence job) job.sequence files.sequence
-    pub unsequence : IsDone file rights store job.born.0 (job_part Unsequence job) job.unsequence files.unsequence
+    pub sequence : IsPartDone file rights store job.born.0 (job_part Sequence job) job.sequence files.sequence
+    pub unsequence : IsPartDone file rights store job.born.0 (job_part Unsequence job) job.unsequence files.unsequence
 
   -- those of its files that are there are done
   pub record AreDoneSoFar (job : FlushJob) (files : Flushed F S R P) : Type 0 where
     pub store : Store
     pub sequence : (files.sequence ≡ None)
-        ⊎ IsDone file rights store job.born.0 (job_part Sequence job) job.sequence files.sequence
+        ⊎ IsPartDone file rights store job.born.0 (job_part Sequence job) job.sequence files.sequence
     pub unsequence : (files.unsequence ≡ None)
-        ⊎ IsDone file rights store job.born.0 (job_part Unsequence job) job.unsequence files.unsequence
+        ⊎ IsPartDone file rights store job.born.0 (job_part Unsequence job) job.unsequence files.unsequence
 
 -- the files, sequence before unsequence
 abbrev pub all_of : NewFiles → List NewFile
 all_of files = if_some files.sequence ++ if_some files.unsequence
 
-abbrev pub number_of : NewFile → ℕ
-number_of file = file.entry.number.0
+abbrev pub file_number : NewFile → ℕ
+file_number file = file.entry.number.0
 
-abbrev pub numbers_of : NewFiles → List ℕ
-numbers_of files = map number_of (all_of files)
+abbrev pub built_numbers : NewFiles → List ℕ
+built_numbers files = map file_number (all_of files)
 
 -- the files as an engine state has them
 abbrev pub state_files : NewFiles → List File
@@ -82,7 +82,7 @@ IsOfPart store born part (Some number) (Some file) =
     IsBuiltOf store number.0 born part file.token.name file.token.rights file.entry file.token.series
 
 -- the files that are there are those of the job's parts
-pub record AreOfJob (store : Store) (job : FlushJob) (files : NewFiles) : Type 0 where
+pub record AreFilesOfJob (store : Store) (job : FlushJob) (files : NewFiles) : Type 0 where
   pub sequence : IsOfPart store job.born.0 (job_part Sequence job) job.sequence files.sequence
   pub unsequence : IsOfPart store job.born.0 (job_part Unsequence job) job.unsequence files.unsequence
 
@@ -96,7 +96,7 @@ abbrev pub TellBytes : NewFiles → Type 0
 TellBytes files = Each (λ file. IsSome file.token.name.bytes) (all_of files)
 
 -- the job is one that a core hands out, and it is this flush of the state, beside the others
-pub record IsOutAs (job : FlushJob) (flush : state.FlushJob) (others : List state.FlushJob) (engine : EngineState)
+pub record IsOutAs (job : FlushJob) (flush : state.FlushState) (others : List state.FlushState) (engine : EngineState)
     : Type 0 where
   pub is_job : IsJob job
   pub of : IsFlushOf job flush
@@ -104,32 +104,32 @@ pub record IsOutAs (job : FlushJob) (flush : state.FlushJob) (others : List stat
 
 -- the bytes of a new file, where its token tells them
 abbrev pub stored_of : NewFile → List StoredFile
-stored_of file = map (λ bytes. record { number = number_of file; bytes = bytes }) (if_some file.token.name.bytes)
+stored_of file = map (λ bytes. record { number = file_number file; bytes = bytes }) (if_some file.token.name.bytes)
 
 -- with this at the number of the file, where there is one, and at all others as before
 abbrev pub at_file : {X : Type 0} → Option NewFile → (NewFile → X) → (ℕ → X) → ℕ → X
 at_file None value others = others
-at_file (Some file) value others = λ number. cond (nat_eq number (number_of file)) (value file) (others number)
+at_file (Some file) value others = λ number. cond (nat_eq number (file_number file)) (value file) (others number)
 
 -- a new file has a part of the flush, and what is kept of it is known
-abbrev pub told_with : state.FlushJob → NewFiles → Told → Told
-told_with flush files told = at_file files.unsequence (λ file. flush.pair.unsequence)
+abbrev pub told_after_flush : state.FlushState → NewFiles → ToldContents → ToldContents
+told_after_flush flush files told = at_file files.unsequence (λ file. flush.pair.unsequence)
     (at_file files.sequence (λ file. flush.pair.sequence) told)
 
-abbrev pub known_entry : NewFile → Entry
+abbrev pub known_entry : NewFile → KnownFile
 known_entry file = entry_of file.entry file.token.series
 
-abbrev pub known_with : NewFiles → Entries → Entries
+abbrev pub known_with : NewFiles → KnownFiles → KnownFiles
 known_with files known = at_file files.unsequence known_entry (at_file files.sequence known_entry known)
 
 -- the new files are kept, in the place of others of their numbers
 abbrev pub kept_with : NewFiles → List StoredFile → List StoredFile
-kept_with files kept = without_numbers (numbers_of files) kept ++ flat_map stored_of (all_of files)
+kept_with files kept = without_numbers (built_numbers files) kept ++ flat_map stored_of (all_of files)
 
 -- the files of the flush are kept and known, and told as its parts
-abbrev pub with_files : state.FlushJob → NewFiles → Outside → Outside
+abbrev pub with_files : state.FlushState → NewFiles → Outside → Outside
 with_files flush files outside = record outside {
   kept = kept_with files outside.kept;
-  told = told_with flush files outside.told;
+  told = told_after_flush flush files outside.told;
   known = known_with files outside.known;
 }

@@ -10,7 +10,7 @@ use Rattle.tsdb_tasks.specs.declared.finishing.InputRuns.{InputRuns}
 use Rattle.tsdb_compactions.specs.Jobs.{plain_numbers}
 use Rattle.tsdb_compactions.specs.declared.job.Job.{Job}
 use Rattle.tsdb_fileset.specs.Files.{KeptFiles, entry_numbers, kept_file}
-use Rattle.tsdb_fileset.specs.Places.{place_at}
+use Rattle.tsdb_fileset.specs.Places.{place_of_number}
 use Rattle.tsdb_fileset.specs.Replacing.{HasReplaced, IsWithin, less_compaction}
 use Rattle.tsdb_base.specs.Lists.{count}
 use Rattle.tsdb_pin.specs.Changes.{fewer_rights}
@@ -43,7 +43,7 @@ module _ {F S R P : Type 0} where
       : Type 0 where
     pub lists : HasReplaced job.space runs.sequence runs.unsequence (option_map (λ one. one.entry) file) old new
     pub here : kept_file job.output.0 new ≡ option_map (λ one. one.token) file
-    pub others : (number : ℕ) → job.output.0 ≢ number → place_at number new.places
+    pub others : (number : ℕ) → job.output.0 ≢ number → place_of_number number new.places
         ≡ option_map (λ place. option_map (fewer_rights (count number (input_numbers job.inputs))) place)
-        (place_at number old.places)
+        (place_of_number number old.places)
     pub room : new.spare ≡ less_compaction job.space (length job.inputs) old.spare

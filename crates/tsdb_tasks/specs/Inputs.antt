@@ -33,8 +33,8 @@ module _ {F S R P : Type 0} (name : R → NamedFile) where
     pub held : AreHeld old more
 
   -- some inputs came behind the others
-  abbrev pub TakesSome : KeptFiles → KeptFiles → List (Input F S R P) → List (Input F S R P) → Type 0
-  TakesSome old new before after = (more : List (Input F S R P)) × TakesInputs old new before after more
+  abbrev pub TakesSomeInputs : KeptFiles → KeptFiles → List (Input F S R P) → List (Input F S R P) → Type 0
+  TakesSomeInputs old new before after = (more : List (Input F S R P)) × TakesInputs old new before after more
 
   -- inputs that are these files came behind the others
   abbrev pub TakesFiles : List File → KeptFiles → KeptFiles → List (Input F S R P) → List (Input F S R P) → Type 0

@@ -2,7 +2,7 @@
 use Rattle.std.specs.Prelude.{◌≡◌, ◌≢◌, ℕ, List, map, Option, IfSome, None, Some, slice_range, ⊤}
 use Rattle.tsdb_base.specs.declared.ids.Space.{Space}
 use Rattle.tsdb_base.specs.declared.ids.Space.TheVariants.{Sequence, Unsequence}
-use Rattle.tsdb_tasks.specs.Files.{NewFile, number_of}
+use Rattle.tsdb_tasks.specs.Files.{NewFile, file_number}
 use Rattle.tsdb_tasks.specs.declared.finishing.InputRuns.{InputRuns}
 use Rattle.tsdb_fileset.specs.Held.{listed}
 use Rattle.tsdb_state.specs.Stored.{kept_bytes}
@@ -19,11 +19,11 @@ sent_files file = map (λ one. listed one.entry) (if_some file)
 -- no right to read a file of this number is out, and the output, where there is one, has the number
 pub record IsFresh (number : ℕ) (file : Option NewFile) (engine : EngineState) : Type 0 where
   pub unread : engine.rights number ≡ 0
-  pub is : IfSome file (λ one. (number_of one ≡ number) × (one.token.rights ≡ 0))
+  pub is : IfSome file (λ one. (file_number one ≡ number) × (one.token.rights ≡ 0))
 
 -- the file has the number, and the stamp at the beginning of the job
 pub record HasNumberAndBorn (drawn stamp : ℕ) (one : NewFile) : Type 0 where
-  pub number : number_of one ≡ drawn
+  pub number : file_number one ≡ drawn
   pub born : one.entry.born.0 ≡ stamp
 
 -- the output, where there is one, has them

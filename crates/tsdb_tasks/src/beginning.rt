@@ -1,6 +1,6 @@
 //! The begin of a job among the files. Depends on `inputs` and `finishing`.
 ghost use Rattle.std.specs.Prelude.{◌≡◌, [], IfOk, OnErr, OnOk, map};
-ghost use Rattle.tsdb_tasks.specs.Beginning.{AreBegun, AreTaken, HoldsSome, IsUntouched};
+ghost use Rattle.tsdb_tasks.specs.Beginning.{AreBegun, AreInputsTaken, HoldsSome, AreFilesUntouched};
 ghost use Rattle.tsdb_fileset.specs.Replacing.{IsWithin};
 
 use crate::finishing::InputRuns;
@@ -35,7 +35,7 @@ fn take_all<F: Files>(
     requires sequence { IsWithin runs.sequence files.old.sequence }
     requires unsequence { IsWithin runs.unsequence files.old.unsequence }
     requires none { inputs.old.items ≡ [] }
-    ensures ok { OnOk result (AreTaken F.Right.file space output.0 runs files.old files.new inputs.new.items) }
+    ensures ok { OnOk result (AreInputsTaken F.Right.file space output.0 runs files.old files.new inputs.new.items) }
     ensures memory { OnErr result (HoldsSome F.Right.file files.old files.new inputs.new.items) }
 {
     take_inputs(files, Space::Sequence, runs.sequence, inputs)?;
@@ -62,7 +62,7 @@ pub fn take_job_inputs<F: Files>(
     requires sequence { IsWithin runs.sequence files.old.sequence }
     requires unsequence { IsWithin runs.unsequence files.old.unsequence }
     ensures ok { IfOk result (AreBegun F.Right.file space output.0 runs files.old files.new) }
-    ensures memory { OnErr result (IsUntouched files.old files.new) }
+    ensures memory { OnErr result (AreFilesUntouched files.old files.new) }
 {
     let sequence = files.entries(Space::Sequence);
     let sequence = numbers_of(alloc, &sequence[runs.sequence.first..runs.sequence.end])?;

@@ -1,7 +1,7 @@
 //! The end of a job without its record. Depends on `inputs` and `runs`.
 ghost use Rattle.std.specs.Option.{option_map};
 ghost use Rattle.std.specs.Prelude.{◌≡◌, IfSome};
-ghost use Rattle.tsdb_tasks.specs.Files.{new_file};
+ghost use Rattle.tsdb_tasks.specs.Files.{file_built};
 ghost use Rattle.tsdb_compactions.specs.Jobs.{plain_numbers};
 ghost use Rattle.tsdb_tasks.specs.Ending.{FreesLate, GivesUp, IsOutIn, IsOutputNumbered, OutputEnds};
 ghost use Rattle.tsdb_fileset.specs.Files.{IsOpen, entry_numbers};
@@ -35,7 +35,7 @@ fn end_output<F: Files>(
     requires room { HasRoom space files.old.spare }
     requires numbered { IfSome output (λ built. built.entry.number.0 ≡ number.0) }
     requires unread { IfSome output (λ built. F.Sealed.rights built.sealed ≡ 0) }
-    ensures { OutputEnds space number.0 (option_map (new_file F.Sealed.file) output) files.old files.new }
+    ensures { OutputEnds space number.0 (option_map (file_built F.Sealed.file) output) files.old files.new }
 {
     match output {
         Some(built) => files.send_out(space, built),
@@ -48,7 +48,7 @@ fn end_output<F: Files>(
 pub fn give_up<F: Files>(files: &mut KeptFiles<F>, job: Job<F>, output: Option<Built<F>>)
     requires out { IsOutIn F.Right.file files.old job }
     requires output { IfSome output (IsOutputNumbered F.Sealed.rights job) }
-    ensures { GivesUp files.old files.new job (option_map (new_file F.Sealed.file) output) }
+    ensures { GivesUp files.old files.new job (option_map (file_built F.Sealed.file) output) }
 {
     let Job {
         space,

@@ -1,7 +1,7 @@
 //! The end of a job with its record. Depends on `inputs` and `runs`.
 ghost use Rattle.std.specs.Option.{option_map};
 ghost use Rattle.std.specs.Prelude.{◌≡◌, ◌+◌, [], IfSome, length};
-ghost use Rattle.tsdb_tasks.specs.Files.{new_file};
+ghost use Rattle.tsdb_tasks.specs.Files.{file_built};
 ghost use Rattle.tsdb_tasks.specs.Ending.{IsOutIn, IsOutputNumbered};
 ghost use Rattle.tsdb_tasks.specs.Finishing.{AreRunsOf, Finishes, IsRunOf, StandInSequence};
 ghost use Rattle.tsdb_compactions.specs.Jobs.{plain_numbers};
@@ -79,7 +79,7 @@ pub fn finish<F: Files>(
     requires runs { AreRunsOf job runs files.old }
     requires all { length job.sequence + length job.unsequence ≡ length job.inputs }
     requires output { IfSome output (IsOutputNumbered F.Sealed.rights job) }
-    ensures { Finishes files.old files.new job runs (option_map (new_file F.Sealed.file) output) }
+    ensures { Finishes files.old files.new job runs (option_map (file_built F.Sealed.file) output) }
 {
     let Job {
         space,

@@ -1,9 +1,9 @@
 //! Rights to read the inputs of a job. Depends on nothing here.
 ghost use Rattle.std.specs.Prelude.{◌≡◌, ◌<◌, ◌∷◌, ◌++◌, [], IsSome, OnErr, OnOk, slice_range, vec_capacity, vec_len};
-ghost use Rattle.tsdb_tasks.specs.Inputs.{AreHeld, IsHeld, IsOneTaken, TakesEntries, TakesSome, input_numbers};
+ghost use Rattle.tsdb_tasks.specs.Inputs.{AreHeld, IsHeld, IsOneTaken, TakesEntries, TakesSomeInputs, input_numbers};
 ghost use Rattle.tsdb_fileset.specs.Files.{entries_in, kept_file};
 ghost use Rattle.tsdb_fileset.specs.Replacing.{IsWithin};
-ghost use Rattle.tsdb_pin.specs.Changes.{GivesRights, KeepsFiles};
+ghost use Rattle.tsdb_pin.specs.Changes.{GivesRights, ChangesNoFile};
 
 use tsdb_base::{FileNumber, Memory, Space, Stamp};
 use tsdb_compactions::Input;
@@ -32,7 +32,7 @@ fn take_input<F: Files>(
     requires kept { IsSome (kept_file number.0 files.old) }
     ensures ok { OnOk result (IsOneTaken F.Right.file number born files.old files.new inputs.old.items
         inputs.new.items) }
-    ensures memory { OnErr result (KeepsFiles files.old files.new × (inputs.new.items ≡ inputs.old.items)) }
+    ensures memory { OnErr result (ChangesNoFile files.old files.new × (inputs.new.items ≡ inputs.old.items)) }
 {
     inputs.reserve(1)?;
     match files.share(number)? {
@@ -59,7 +59,7 @@ pub fn take_inputs<F: Files>(
     requires within { IsWithin run (entries_in space files.old) }
     ensures ok { OnOk result (TakesEntries F.Right.file (slice_range (entries_in space files.old) run.first run.end)
         files.old files.new inputs.old.items inputs.new.items) }
-    ensures memory { OnErr result (TakesSome F.Right.file files.old files.new inputs.old.items inputs.new.items) }
+    ensures memory { OnErr result (TakesSomeInputs F.Right.file files.old files.new inputs.old.items inputs.new.items) }
 {
     for place in run.first..run.end {
         let entry = &files.entries(space)[place];

@@ -2,8 +2,8 @@
 //! and tsdb_memory.
 ghost use Rattle.std.specs.Prelude.{◌≡◌, ◌++◌, IfOk, OnOk, map};
 ghost use Rattle.std.specs.List.{AllByRecursion as Each, flat_map};
-ghost use Rattle.tsdb_tasks.specs.Series.{AreOfJob, AreOfPaths, HavePaths, IsNamed, names_in};
-ghost use Rattle.tsdb_tasks.specs.Series.{path_in, run_paths, schemas_at, series_in};
+ghost use Rattle.tsdb_tasks.specs.Series.{AreSeriesOfJob, AreOfPaths, HavePaths, HasPathNames, input_names};
+ghost use Rattle.tsdb_tasks.specs.Series.{input_path, run_paths, schemas_at, series_in};
 ghost use Rattle.tsdb_fileset.specs.Replacing.{IsWithin};
 ghost use Rattle.tsdb_base.specs.Lists.{if_some};
 ghost use Rattle.tsdb_path.specs.Order.{AreInNameOrder};
@@ -29,8 +29,8 @@ struct InputSeries<'a> {
 
 /// Adds the series with these paths.
 fn add_paths<'a>(all: &mut Vec<InputSeries<'a>>, paths: &'a [Path]) -> Result<(), Memory>
-    requires { Each IsNamed all.old.items }
-    ensures { OnOk result (AreOfPaths (map path_in all.old.items ++ paths.now) all.new.items) }
+    requires { Each HasPathNames all.old.items }
+    ensures { OnOk result (AreOfPaths (map input_path all.old.items ++ paths.now) all.new.items) }
 {
     for path in paths {
         all.push(InputSeries {
@@ -47,8 +47,8 @@ fn add_files<'a, F: Files>(
     files: &'a KeptFiles<F>,
     entries: &[FileEntry],
 ) -> Result<(), Memory>
-    requires { Each IsNamed all.old.items }
-    ensures { OnOk result (AreOfPaths (map path_in all.old.items
+    requires { Each HasPathNames all.old.items }
+    ensures { OnOk result (AreOfPaths (map input_path all.old.items
         ++ flat_map (λ entry. series_in files.now entry.number.0) entries.now) all.new.items) }
 {
     for entry in entries {
@@ -68,7 +68,7 @@ fn series_in_order<'a, F: Files>(
     requires sequence { IsWithin runs.sequence files.now.sequence }
     requires unsequence { IsWithin runs.unsequence files.now.unsequence }
     ensures all { IfOk result (λ all. HavePaths (run_paths runs files.now) all.items) }
-    ensures order { IfOk result (λ all. AreInNameOrder names_in all.items) }
+    ensures order { IfOk result (λ all. AreInNameOrder input_names all.items) }
 {
     let mut all = Vec::new(alloc);
     let sequence = files.entries(Space::Sequence);
@@ -90,7 +90,7 @@ fn series_in_order<'a, F: Files>(
 
 /// The paths of the series.
 fn paths_of(alloc: Global, series: &[InputSeries<'_>]) -> Result<Vec<Path>, Memory>
-    ensures { IfOk result (λ paths. paths.items ≡ map path_in series.now) }
+    ensures { IfOk result (λ paths. paths.items ≡ map input_path series.now) }
 {
     let mut paths = Vec::with_capacity(alloc, series.len())?;
     for one in series {
@@ -120,7 +120,7 @@ fn schemas_of(
     series: &[InputSeries<'_>],
 ) -> Result<List<Schema>, Memory>
     ensures { IfOk result (λ schemas. schemas
-        ≡ flat_map (λ one. schemas_at memory.now.series (path_in one)) series.now) }
+        ≡ flat_map (λ one. schemas_at memory.now.series (input_path one)) series.now) }
 {
     let mut schemas = Vec::new(alloc);
     for one in series {
@@ -149,7 +149,7 @@ pub fn job_series<F: Files>(
 ) -> Result<JobSeries, Memory>
     requires sequence { IsWithin runs.sequence files.now.sequence }
     requires unsequence { IsWithin runs.unsequence files.now.unsequence }
-    ensures { IfOk result (AreOfJob (run_paths runs files.now) memory.now) }
+    ensures { IfOk result (AreSeriesOfJob (run_paths runs files.now) memory.now) }
 {
     // (a call that tells what always holds of memory)
     memory.sound();

@@ -4,13 +4,13 @@ use mathlib.Core.Logic.{dite}
 use native.Mathlib.Decide.{ℕ_discrete}
 use Rattle.tsdb_turn.specs.Passes.{PassState}
 use Rattle.tsdb_turn.specs.Rule.{total, times}
-use Rattle.tsdb_turn.specs.Steps.{known_of}
+use Rattle.tsdb_turn.specs.Steps.{pass_known}
 
 -- how many passes have the number
 abbrev pub passes_at : {T : Type 0} → ℕ → List (PassState T) → ℕ
 passes_at n passes = total (λ pass. cond (pass.number == n) 1 0) passes
 
-pub times-known : {T : Type 0} (n : ℕ) (passes : List (PassState T)) → times n (map known_of passes) ≡ passes_at n passes
+pub times-known : {T : Type 0} (n : ℕ) (passes : List (PassState T)) → times n (map pass_known passes) ≡ passes_at n passes
 times-known n [] = refl
 times-known n (p ∷ ps) = ap (λ (k : ℕ). cond {A = ℕ} (p.number == n) 1 0 + k) (times-known n ps)
 

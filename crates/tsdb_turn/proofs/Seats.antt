@@ -11,8 +11,8 @@ use Rattle.atomic_table.specs.Seated.{TableId}
 use Rattle.atomic_table.specs.Table.{State, Me, opening, Splits, Joins, Seen, Final}
 use Rattle.atomic_table.proofs.Lists.{set_else, at_longer}
 use Rattle.tsdb_turn.specs.Passes.{PassState, IsLastOf, AreNumbered, new_pass, new_passes}
-use Rattle.tsdb_turn.specs.Rule.{known, view, tickets, tickets_of, width_of, times, times_of, LeftAs, Stands, Knows, Rule}
-use Rattle.tsdb_turn.specs.Steps.{AreWords, dealt, first_known, but_first, rest_of, first_of, join_views, spent, known_of}
+use Rattle.tsdb_turn.specs.Rule.{known, view, tickets, tickets_of, width_of, times, ticket_times, LeftAs, StandsInQueue, Knows, Rule}
+use Rattle.tsdb_turn.specs.Steps.{AreOpeningWords, dealt, first_known, but_first, rest_of, first_view, join_views, spent, pass_known}
 use Rattle.tsdb_turn.specs.declared.view.Known.{Known}
 use Rattle.tsdb_turn.specs.declared.view.Stage.TheVariants.{Outside, Inside}
 use Rattle.tsdb_turn.specs.declared.view.View.{View}
@@ -94,7 +94,7 @@ module _ {T : Type 0} (fits : ℕ → T → T → T → Type 0) (kept : T → Ty
   only P v here zero w at = subst (λ (x : View T). P 0 x) (cc) here
   only P v here (suc i) w at = absurd (cc)
 
-  pub opens : (ticket : ℕ) (ws : List ℕ) → AreWords seats ticket ws → ticket < 2 ^ 64 → 0 < seats → seats < 2 ^ 32 → ((m : ℕ) → fits m start start start) → kept start
+  pub opens : (ticket : ℕ) (ws : List ℕ) → AreOpeningWords seats ticket ws → ticket < 2 ^ 64 → 0 < seats → seats < 2 ^ 32 → ((m : ℕ) → fits m start start start) → kept start
       → Holds (opening ws (Some start ∷ []) (view Outside (dealt start 0 seats)))
   opens ticket ws words fits_word some-one few own keeps =
       let v : View T = view Outside (dealt start 0 seats) in
@@ -114,7 +114,7 @@ module _ {T : Type 0} (fits : ℕ → T → T → T → Type 0) (kept : T → Ty
         few = few;
         holders = only (λ i w. tickets_of w ≤ width_of w) v (omega arith);
         distinct = λ n. let h = dealt_once start n 0 seats in omega arith;
-        places = only (λ i w. Stands ticket ticket (λ t. 0) false start i w.stage) v tt;
+        places = only (λ i w. StandsInQueue ticket ticket (λ t. 0) false start i w.stage) v tt;
         taken = λ out. absurd (cc);
         follows = only (λ i w. KnowsAll start w.known) v (dealt_known 0 seats (omega arith) own);
         latest = (0, v, refl, dealt_left 0 seats some-one);
@@ -127,10 +127,10 @@ module _ {T : Type 0} (fits : ℕ → T → T → T → Type 0) (kept : T → Ty
   else_inside s r id v w at out there stage e =
       let both : w.stage ≡ v.stage = ap (λ (u : View T). u.stage) (same s.views (r.holder r.served) id w v there at e) in cc
 
-  pub splits : (id : ℕ) (v : View T) → v.stage ≡ Outside → Splits Holds id v (rest_of v) (first_of v)
+  pub splits : (id : ℕ) (v : View T) → v.stage ≡ Outside → Splits Holds id v (rest_of v) (first_view v)
   splits id v out s r at =
       let left : View T = rest_of v in
-      let right : View T = first_of v in
+      let right : View T = first_view v in
       let idle : tickets_of v ≡ 0 = ap tickets out in
       let keep = set-at s.views id v left at in
       record {
@@ -159,13 +159,13 @@ module _ {T : Type 0} (fits : ℕ → T → T → T → Type 0) (kept : T → Ty
             (each-set (λ i w. tickets_of w ≤ width_of w) (λ i w. tickets_of w ≤ width_of w) s.views id left r.holders (λ i w ne there h. h) (omega arith))
             (λ i. omega arith);
         distinct = λ n.
-            let a = total-append (times_of n) (slice_set s.views id left) (right ∷ []) in
-            let b = total-set (times_of n) s.views id v left at in
+            let a = total-append (ticket_times n) (slice_set s.views id left) (right ∷ []) in
+            let b = total-set (ticket_times n) s.views id v left at in
             let c = times-parts n v.known in
             let d = r.distinct n in
             omega arith;
-        places = each-append (λ i w. Stands r.served r.drawn r.holder r.away r.value i w.stage) (slice_set s.views id left) right
-            (each-set (λ i w. Stands r.served r.drawn r.holder r.away r.value i w.stage) (λ i w. Stands r.served r.drawn r.holder r.away r.value i w.stage) s.views id left r.places (λ i w ne there h. h) (r.places id v at))
+        places = each-append (λ i w. StandsInQueue r.served r.drawn r.holder r.away r.value i w.stage) (slice_set s.views id left) right
+            (each-set (λ i w. StandsInQueue r.served r.drawn r.holder r.away r.value i w.stage) (λ i w. StandsInQueue r.served r.drawn r.holder r.away r.value i w.stage) s.views id left r.places (λ i w ne there h. h) (r.places id v at))
             (λ i. tt);
         taken = λ away. let t = r.taken away in
             (t.0, at_longer (slice_set s.views id left) (right ∷ []) (r.holder r.served) t.0 (set_else s.views id (r.holder r.served) left (else_inside s r id v t.0 at out t.1 t.2) ∙ t.1), t.2);
@@ -219,13 +219,13 @@ module _ {T : Type 0} (fits : ℕ → T → T → T → Type 0) (kept : T → Ty
             (each-set (λ i u. tickets_of u ≤ width_of u) (λ i u. tickets_of u ≤ width_of u) s.views id both r.holders (λ i u ne here h. h) (omega arith))
             (λ i u ne here h. h) (omega arith);
         distinct = λ n.
-            let a = total-set (times_of n) mid other w gone there in
-            let b = total-set (times_of n) s.views id v both at in
+            let a = total-set (ticket_times n) mid other w gone there in
+            let b = total-set (ticket_times n) s.views id v both at in
             let c = total-append (λ (k : Known T). cond {A = ℕ} (k.number == n) 1 0) w.known v.known in
             let d = r.distinct n in
             omega arith;
-        places = each-set (λ i u. Stands r.served r.drawn r.holder r.away r.value i u.stage) (λ i u. Stands r.served r.drawn r.holder r.away r.value i u.stage) mid other gone
-            (each-set (λ i u. Stands r.served r.drawn r.holder r.away r.value i u.stage) (λ i u. Stands r.served r.drawn r.holder r.away r.value i u.stage) s.views id both r.places (λ i u ne here h. h) (r.places id v at))
+        places = each-set (λ i u. StandsInQueue r.served r.drawn r.holder r.away r.value i u.stage) (λ i u. StandsInQueue r.served r.drawn r.holder r.away r.value i u.stage) mid other gone
+            (each-set (λ i u. StandsInQueue r.served r.drawn r.holder r.away r.value i u.stage) (λ i u. StandsInQueue r.served r.drawn r.holder r.away r.value i u.stage) s.views id both r.places (λ i u ne here h. h) (r.places id v at))
             (λ i u ne here h. h) tt;
         taken = λ away. let t = r.taken away in (
           t.0,
@@ -310,16 +310,16 @@ module _ {T : Type 0} (fits : ℕ → T → T → T → Type 0) (kept : T → Ty
         home = rw (r.slot, home_at_end s r id v seen.1 out all) refl;
         follows = r.follows id v seen.1;
         latest = last_at_end s r id v seen.1 all;
-        once = λ n. let most = le-total (times_of n) s.views id v seen.1 in let d = r.distinct n in omega arith;
+        once = λ n. let most = le-total (ticket_times n) s.views id v seen.1 in let d = r.distinct n in omega arith;
         keeps = r.keeps;
       }
 
 -- what is dealt next, and what is left
 pub dealt_parts : {T : Type 0} (me : Me (Option T) (View T)) (start : T) (n more left : ℕ) → left ≡ suc more → me ≡ (view Outside (dealt start n left), [])
-    → (first_of me.0 ≡ view Outside (known n start start ∷ [])) × (rest_of me.0 ≡ view Outside (dealt start (n + 1) more))
+    → (first_view me.0 ≡ view Outside (known n start start ∷ [])) × (rest_of me.0 ≡ view Outside (dealt start (n + 1) more))
 dealt_parts me start n more left one e =
     let whole = e ∙ ap (λ (l : ℕ). (view Outside (dealt start n l), [])) one in
-    (ap (λ m. first_of m.0) whole, ap (λ m. rest_of m.0) whole ∙ ap (λ (k : ℕ). view Outside (dealt start k more)) (sym (add-one n)))
+    (ap (λ m. first_view m.0) whole, ap (λ m. rest_of m.0) whole ∙ ap (λ (k : ℕ). view Outside (dealt start k more)) (sym (add-one n)))
 
 pub passes_more : {T : Type 0} (made : List (PassState T)) (id : TableId) (start : T) (n more left : ℕ) → left ≡ suc more
     → (made ++ new_pass id start n ∷ []) ++ new_passes id start (n + 1) more ≡ made ++ new_passes id start n left
@@ -330,18 +330,18 @@ passes_more made id start n more left one =
 
 -- what one pass more knows stands in front of what the others know
 pub known_more : {T : Type 0} (xs ys : List (PassState T)) (pass : PassState T) (ks : List (Known T)) → xs ≡ ys ++ pass ∷ []
-    → map known_of ys ++ known_of pass ∷ ks ≡ map known_of xs ++ ks
+    → map pass_known ys ++ pass_known pass ∷ ks ≡ map pass_known xs ++ ks
 known_more xs ys pass ks e =
-    sym (append_assoc (map known_of ys) (known_of pass ∷ []) ks)
-    ∙ ap (λ ls. ls ++ ks) (sym (map-append known_of ys (pass ∷ [])))
-    ∙ ap (λ zs. map known_of zs ++ ks) (sym e)
+    sym (append_assoc (map pass_known ys) (pass_known pass ∷ []) ks)
+    ∙ ap (λ ls. ls ++ ks) (sym (map-append pass_known ys (pass ∷ [])))
+    ∙ ap (λ zs. map pass_known zs ++ ks) (sym e)
 
 all_of : {A B : Type 0} (P : B → Type 0) (f : A → B) (xs : List A) → AllByRecursion P (map f xs) → All (λ x. P (f x)) xs
 all_of P f [] all k d h = absurd (omega arith)
 all_of P f (x ∷ xs) all zero d h = all.0
 all_of P f (x ∷ xs) all (suc k) d h = all_of P f xs all.1 k d (omega arith)
 
-left_of : {T : Type 0} (value : T) (passes : List (PassState T)) → LeftAs value (map known_of passes) → IsLastOf passes value
+left_of : {T : Type 0} (value : T) (passes : List (PassState T)) → LeftAs value (map pass_known passes) → IsLastOf passes value
 left_of value [] h = absurd h
 left_of value (p ∷ ps) h =
     ⊎_elim
@@ -351,10 +351,10 @@ left_of value (p ∷ ps) h =
 
 -- Where each number stands once at most, and as many passes as numbers have numbers below, each stands once.
 numbered_each : {T : Type 0} (passes : List (PassState T)) (seats : ℕ) → length passes ≡ seats → All (λ p. p.number < seats) passes
-    → ((n : ℕ) → times n (map known_of passes) ≤ 1) → AreNumbered seats passes
+    → ((n : ℕ) → times n (map pass_known passes) ≤ 1) → AreNumbered seats passes
 numbered_each {T} passes seats all below once =
     let at : ℕ → ℕ = λ n. passes_at n passes in
-    let same : (n : ℕ) → times n (map known_of passes) ≡ at n = λ n. times-known n passes in
+    let same : (n : ℕ) → times n (map pass_known passes) ≡ at n = λ n. times-known n passes in
     let few : (n : ℕ) → at n ≤ 1 = λ n. let h = once n in let e = same n in omega arith in
     record {
       below = below;
@@ -371,20 +371,20 @@ pub record Closes {T : Type 0} (fits : ℕ → T → T → T → Type 0) (kept :
   pub keeps : kept value
 
 pub closes : {T : Type 0} (fits : ℕ → T → T → T → Type 0) (kept : T → Type 0) (seats : ℕ) (start : T) (id : ℕ) (me : Me (Option T) (View T)) (passes : List (PassState T)) (words : List ℕ) (items : List (Option T)) (taken : Option T)
-    → me ≡ (view Outside (map known_of passes), []) → length passes ≡ seats → Final (Seen (Rule fits kept seats start) id me.0) words items → get_elem? items 0 ≡ some taken → Closes fits kept seats passes taken
+    → me ≡ (view Outside (map pass_known passes), []) → length passes ≡ seats → Final (Seen (Rule fits kept seats start) id me.0) words items → get_elem? items 0 ≡ some taken → Closes fits kept seats passes taken
 closes {T} fits kept seats start id me passes words items taken e all final at =
-    let known_all : me.0.known ≡ map known_of passes = ap (λ m. m.0.known) e in
-    let wide : length me.0.known ≡ seats = ap length known_all ∙ length-map passes known_of ∙ all in
+    let known_all : me.0.known ≡ map pass_known passes = ap (λ m. m.0.known) e in
+    let wide : length me.0.known ≡ seats = ap length known_all ∙ length-map passes pass_known ∙ all in
     let end = ends fits kept seats start id me.0 (ap (λ m. m.0.stage) e) wide final.0 final.1 in
     let there : get_elem? items 0 ≡ some (Some end.value) = final.4 0 (Some end.value) (ap (λ hs. get_elem? hs 0) end.home) in
     record {
       value = end.value;
       is = some-injective taken (Some end.value) (sym at ∙ there);
-      follows = all_of (λ (k : Known T). fits k.number k.start k.last end.value) known_of passes
+      follows = all_of (λ (k : Known T). fits k.number k.start k.last end.value) pass_known passes
           (subst (λ ks. AllByRecursion (λ (k : Known T). fits k.number k.start k.last end.value) ks) known_all (each_follows fits kept seats start end.value me.0.known end.follows));
       latest = left_of end.value passes (subst (λ ks. LeftAs end.value ks) known_all end.latest);
       numbers = numbered_each passes seats all
-          (all_of (λ (k : Known T). k.number < seats) known_of passes
+          (all_of (λ (k : Known T). k.number < seats) pass_known passes
           (subst (λ ks. AllByRecursion (λ (k : Known T). k.number < seats) ks) known_all (each_made fits kept seats start end.value me.0.known end.follows)))
           (λ n. subst (λ ks. times n ks ≤ 1) known_all (end.once n));
       keeps = end.keeps;

@@ -8,8 +8,8 @@ use native.Mathlib.Decide.{ℕ_discrete}
 use lib.ListN.{get_elem?}
 use Rattle.atomic_table.specs.Table.{State, Me, Act, keeps, takes, gives, Allows, stepped, carried_after, Valid}
 use Rattle.atomic_table.proofs.Lists.{set_else, set_again, one_turn}
-use Rattle.tsdb_turn.specs.Rule.{drawn_at, served_at, bells_at, view, tickets_of, width_of, times, times_of, LeftAs, Stands, Knows, Rule}
-use Rattle.tsdb_turn.specs.Steps.{Draws, Reads, Departs, Sits, HasTaken, Looks, MayTake}
+use Rattle.tsdb_turn.specs.Rule.{drawn_at, served_at, bells_at, view, tickets_of, width_of, times, ticket_times, LeftAs, StandsInQueue, Knows, Rule}
+use Rattle.tsdb_turn.specs.Steps.{Draws, ReadsSlot, Departs, Sits, HasTaken, Looks, MayTakeSlot}
 use Rattle.tsdb_turn.specs.declared.view.Known.{Known}
 use Rattle.tsdb_turn.specs.declared.view.Stage.{Stage}
 use Rattle.tsdb_turn.specs.declared.view.Stage.TheVariants.{Outside, Waiting, Inside}
@@ -35,7 +35,7 @@ held_value (x ∷ xs) = x.1
 module _ {T : Type 0} where
   -- a seat that waits or is inside stands as before when another draws the next ticket
   stands_drawn : (served drawn seat id : ℕ) (holder : ℕ → ℕ) (away : Bool) (value : T) (stage : Stage T)
-      → Stands served drawn holder away value seat stage → Stands served (drawn + 1) (drawn_by drawn id holder) away value seat stage
+      → StandsInQueue served drawn holder away value seat stage → StandsInQueue served (drawn + 1) (drawn_by drawn id holder) away value seat stage
   stands_drawn served drawn seat id holder away value Outside h = tt
   stands_drawn served drawn seat id holder away value (Waiting t) h =
       (h.0, (let l = h.1 in omega arith), drawn_by-else drawn id t holder (λ e. let l = h.1 in absurd (omega arith)) ∙ h.2)
@@ -44,14 +44,14 @@ module _ {T : Type 0} where
 
   -- when the slot is taken, no other seat was inside
   stands_taken : (served drawn seat : ℕ) (holder : ℕ → ℕ) (value : T) (stage : Stage T)
-      → Stands served drawn holder false value seat stage → Stands served drawn holder true value seat stage
+      → StandsInQueue served drawn holder false value seat stage → StandsInQueue served drawn holder true value seat stage
   stands_taken served drawn seat holder value Outside h = tt
   stands_taken served drawn seat holder value (Waiting t) h = h
   stands_taken served drawn seat holder value (Inside t y) h = (h.0, h.1, h.2, h.3, refl)
 
   -- when the seat with the served ticket leaves, every other one is outside or waits with a later ticket
   stands_left : (served drawn seat id : ℕ) (holder : ℕ → ℕ) (value left : T) (stage : Stage T) → seat ≢ id → holder served ≡ id
-      → Stands served drawn holder true value seat stage → Stands (served + 1) drawn holder false left seat stage
+      → StandsInQueue served drawn holder true value seat stage → StandsInQueue (served + 1) drawn holder false left seat stage
   stands_left served drawn seat id holder value left Outside apart own h = tt
   stands_left served drawn seat id holder value left (Waiting t) apart own h =
       let later : t ≢ served = λ e. apart (sym h.2 ∙ ap holder e ∙ own) in let l = h.0 in (omega arith, h.1, h.2)
@@ -108,12 +108,12 @@ module _ {T : Type 0} (fits : ℕ → T → T → T → Type 0) (kept : T → Ty
         numbers = let t = total-set width_of s.views id old new at in let n = r.numbers in omega arith;
         few = r.few;
         holders = each-set (λ i v. tickets_of v ≤ width_of v) (λ i v. tickets_of v ≤ width_of v) s.views id new r.holders (λ i v ne there h. h) (omega arith);
-        distinct = λ n. let t = total-set (times_of n) s.views id old new at in let d = r.distinct n in omega arith;
-        places = each-set (λ i v. Stands r.served r.drawn r.holder r.away r.value i v.stage) (λ i v. Stands r.served (r.drawn + 1) (drawn_by r.drawn id r.holder) r.away r.value i v.stage) s.views id new
+        distinct = λ n. let t = total-set (ticket_times n) s.views id old new at in let d = r.distinct n in omega arith;
+        places = each-set (λ i v. StandsInQueue r.served r.drawn r.holder r.away r.value i v.stage) (λ i v. StandsInQueue r.served (r.drawn + 1) (drawn_by r.drawn id r.holder) r.away r.value i v.stage) s.views id new
             r.places (λ i v ne there h. stands_drawn r.served r.drawn i id r.holder r.away r.value v.stage h) (omega arith, omega arith, drawn_by-here r.drawn id r.holder);
         taken = λ out. let t = r.taken out in
             let apart = inside_else t.0 t.1 t.2 in
-            let stands : Stands r.served r.drawn r.holder r.away r.value (r.holder r.served) (Inside r.served r.value) = subst (λ (x : Stage T). Stands r.served r.drawn r.holder r.away r.value (r.holder r.served) x) t.2 (r.places (r.holder r.served) t.0 t.1) in
+            let stands : StandsInQueue r.served r.drawn r.holder r.away r.value (r.holder r.served) (Inside r.served r.value) = subst (λ (x : Stage T). StandsInQueue r.served r.drawn r.holder r.away r.value (r.holder r.served) x) t.2 (r.places (r.holder r.served) t.0 t.1) in
             let below : r.served < r.drawn = stands.1 in
             let held : drawn_by r.drawn id r.holder r.served ≡ r.holder r.served = drawn_by-else r.drawn id r.served r.holder (λ e. absurd (omega arith)) in
             (t.0, ap (λ (i : ℕ). get_elem? (slice_set s.views id new) i) held ∙ set_else s.views id (r.holder r.served) new apart ∙ t.1, t.2);
@@ -132,7 +132,7 @@ module _ {T : Type 0} (fits : ℕ → T → T → T → Type 0) (kept : T → Ty
   -- the ticket that is served is the one that a seat waits with, where both are equal modulo 2^64
   served_is : (s : State (Option T) (View T)) (r : Holds s) (id t : ℕ) (k : Known T) → get_elem? s.views id ≡ some (view (Waiting t) (k ∷ [])) → slice_index s.words served_at ≡ t % 2 ^ 64 → r.served ≡ t
   served_is s r id t k at found =
-      let place : Stands r.served r.drawn r.holder r.away r.value id (Waiting t) = r.places id (view (Waiting t) (k ∷ [])) at in
+      let place : StandsInQueue r.served r.drawn r.holder r.away r.value id (Waiting t) = r.places id (view (Waiting t) (k ∷ [])) at in
       let out = few_out s r in
       let few = r.few in
       let word : r.served % 2 ^ 64 ≡ t % 2 ^ 64 = sym r.served_word ∙ found in
@@ -144,7 +144,7 @@ module _ {T : Type 0} (fits : ℕ → T → T → T → Type 0) (kept : T → Ty
   at_home : (s : State (Option T) (View T)) (r : Holds s) (id t : ℕ) (k : Known T) → get_elem? s.views id ≡ some (view (Waiting t) (k ∷ [])) → r.served ≡ t → r.away ≡ false
   at_home s r id t k at is =
       let old : View T = view (Waiting t) (k ∷ []) in
-      let place : Stands r.served r.drawn r.holder r.away r.value id (Waiting t) = r.places id old at in
+      let place : StandsInQueue r.served r.drawn r.holder r.away r.value id (Waiting t) = r.places id old at in
       elim r.away as (λ b. b ≡ r.away → b ≡ false) [
         | false ↦ λ e. refl
         | true ↦ λ e. let t' = r.taken (sym e) in
@@ -157,7 +157,7 @@ module _ {T : Type 0} (fits : ℕ → T → T → T → Type 0) (kept : T → Ty
   after_take s r id k at home =
       let old : View T = view (Waiting r.served) (k ∷ []) in
       let new : View T = view (Inside r.served r.value) (k ∷ []) in
-      let place : Stands r.served r.drawn r.holder r.away r.value id (Waiting r.served) = r.places id old at in
+      let place : StandsInQueue r.served r.drawn r.holder r.away r.value id (Waiting r.served) = r.places id old at in
       record {
         drawn = r.drawn;
         served = r.served;
@@ -172,10 +172,10 @@ module _ {T : Type 0} (fits : ℕ → T → T → T → Type 0) (kept : T → Ty
         numbers = let t = total-set width_of s.views id old new at in let n = r.numbers in omega arith;
         few = r.few;
         holders = each-set (λ i v. tickets_of v ≤ width_of v) (λ i v. tickets_of v ≤ width_of v) s.views id new r.holders (λ i v ne there h. h) (omega arith);
-        distinct = λ n. let t = total-set (times_of n) s.views id old new at in let d = r.distinct n in omega arith;
-        places = each-set (λ i v. Stands r.served r.drawn r.holder r.away r.value i v.stage) (λ i v. Stands r.served r.drawn r.holder true r.value i v.stage) s.views id new
+        distinct = λ n. let t = total-set (ticket_times n) s.views id old new at in let d = r.distinct n in omega arith;
+        places = each-set (λ i v. StandsInQueue r.served r.drawn r.holder r.away r.value i v.stage) (λ i v. StandsInQueue r.served r.drawn r.holder true r.value i v.stage) s.views id new
             r.places
-            (λ i v ne there h. stands_taken r.served r.drawn i r.holder r.value v.stage (subst (λ b. Stands r.served r.drawn r.holder b r.value i v.stage) home h))
+            (λ i v ne there h. stands_taken r.served r.drawn i r.holder r.value v.stage (subst (λ b. StandsInQueue r.served r.drawn r.holder b r.value i v.stage) home h))
             (refl, place.1, place.2, refl, refl);
         taken = λ out. (new, ap (λ (i : ℕ). get_elem? (slice_set s.views id new) i) place.2 ∙ set-at s.views id old new at, refl);
         follows = each-set (λ i v. AllByRecursion (Knows fits kept seats start r.value) v.known) (λ i v. AllByRecursion (Knows fits kept seats start r.value) v.known) s.views id new
@@ -229,7 +229,7 @@ module _ {T : Type 0} (fits : ℕ → T → T → T → Type 0) (kept : T → Ty
   abbrev Goes-on : (ℕ → T → T → T → Type 0) → State (Option T) (View T) → ℕ → ℕ → Known T → Type 0
   Goes-on learns s id t k =
       (w : View T) × (a : Act (Option T)) × Valid s.homes [] a × Holds (stepped s served_at (slice_index s.words served_at) id [] w a)
-      × Reads learns t (view (Waiting t) (k ∷ []), []) (slice_index s.words served_at) (w, carried_after [] a)
+      × ReadsSlot learns t (view (Waiting t) (k ∷ []), []) (slice_index s.words served_at) (w, carried_after [] a)
 
   goes_in : (learns : ℕ → T → T → T → Type 0) → IsLearnt learns → (s : State (Option T) (View T)) (r : Holds s) (id : ℕ) (k : Known T) → get_elem? s.views id ≡ some (view (Waiting r.served) (k ∷ [])) → r.away ≡ false → Goes-on learns s id r.served k
   goes_in learns learn s r id k at home =
@@ -252,16 +252,16 @@ module _ {T : Type 0} (fits : ℕ → T → T → T → Type 0) (kept : T → Ty
       (λ ne. (view (Waiting t) (k ∷ []), keeps, tt, same_state s r id (view (Waiting t) (k ∷ [])) at, record { hit = λ e. absurd (ne e); miss = λ _. refl }))
 
   pub reads : (learns : ℕ → T → T → T → Type 0) → IsLearnt learns → (slots id : ℕ) (me : Me (Option T) (View T)) (t : ℕ) (k : Known T) → me ≡ (view (Waiting t) (k ∷ []), [])
-      → Allows Holds slots id me served_at (λ n. n) (λ found after. (u : ℕ) → me.0.stage ≡ Waiting u → Reads learns u me found after)
+      → Allows Holds slots id me served_at (λ n. n) (λ found after. (u : ℕ) → me.0.stage ≡ Waiting u → ReadsSlot learns u me found after)
   reads learns learn slots id me t k e =
-      subst (λ (m : Me (Option T) (View T)). Allows Holds slots id m served_at (λ n. n) (λ found after. (u : ℕ) → m.0.stage ≡ Waiting u → Reads learns u m found after)) (sym e)
+      subst (λ (m : Me (Option T) (View T)). Allows Holds slots id m served_at (λ n. n) (λ found after. (u : ℕ) → m.0.stage ≡ Waiting u → ReadsSlot learns u m found after)) (sym e)
       (λ s r wide at fits_word. let g = reads_for learns learn s r id t k at in (
         g.0,
         g.1,
         g.2,
         g.3,
         λ u is. let same_ticket : t ≡ u = cc in
-            subst (λ (x : ℕ). Reads learns x (view (Waiting t) (k ∷ []), []) (slice_index s.words served_at) (g.0, carried_after [] g.1)) same_ticket g.4,
+            subst (λ (x : ℕ). ReadsSlot learns x (view (Waiting t) (k ∷ []), []) (slice_index s.words served_at) (g.0, carried_after [] g.1)) same_ticket g.4,
       ))
 
   counts_one : (m n : ℕ) → m ≡ n → cond {A = ℕ} (m == n) 1 0 ≡ 1
@@ -286,7 +286,7 @@ module _ {T : Type 0} (fits : ℕ → T → T → T → Type 0) (kept : T → Ty
   after_leave s r id t k y left at own others more =
       let old : View T = view (Inside t y) (k ∷ []) in
       let new : View T = view Outside (record k { last = left } ∷ []) in
-      let place : Stands r.served r.drawn r.holder r.away r.value id (Inside t y) = r.places id old at in
+      let place : StandsInQueue r.served r.drawn r.holder r.away r.value id (Inside t y) = r.places id old at in
       let known_here : Knows fits kept seats start r.value k = (r.follows id old at).0 in
       let owner : r.holder r.served ≡ id = sym (ap r.holder place.0) ∙ place.2 in
       record {
@@ -303,16 +303,16 @@ module _ {T : Type 0} (fits : ℕ → T → T → T → Type 0) (kept : T → Ty
         numbers = let n = total-set width_of s.views id old new at in let m = r.numbers in omega arith;
         few = r.few;
         holders = each-set (λ i v. tickets_of v ≤ width_of v) (λ i v. tickets_of v ≤ width_of v) s.views id new r.holders (λ i v ne there h. h) (omega arith);
-        distinct = λ n. let m = total-set (times_of n) s.views id old new at in let d = r.distinct n in omega arith;
-        places = each-set (λ i v. Stands r.served r.drawn r.holder r.away r.value i v.stage) (λ i v. Stands (r.served + 1) r.drawn r.holder false left i v.stage) s.views id new
+        distinct = λ n. let m = total-set (ticket_times n) s.views id old new at in let d = r.distinct n in omega arith;
+        places = each-set (λ i v. StandsInQueue r.served r.drawn r.holder r.away r.value i v.stage) (λ i v. StandsInQueue (r.served + 1) r.drawn r.holder false left i v.stage) s.views id new
             r.places
-            (λ i v ne there h. stands_left r.served r.drawn i id r.holder r.value left v.stage ne owner (subst (λ b. Stands r.served r.drawn r.holder b r.value i v.stage) place.4 h))
+            (λ i v ne there h. stands_left r.served r.drawn i id r.holder r.value left v.stage ne owner (subst (λ b. StandsInQueue r.served r.drawn r.holder b r.value i v.stage) place.4 h))
             tt;
         taken = λ out. absurd (cc);
         follows = each-set (λ i v. AllByRecursion (Knows fits kept seats start r.value) v.known) (λ i v. AllByRecursion (Knows fits kept seats start left) v.known) s.views id new
             r.follows
             (λ i v ne there h.
-            let two = two-le-total (times_of k.number) s.views id i old v (λ e. ne (sym e)) at there in
+            let two = two-le-total (ticket_times k.number) s.views id i old v (λ e. ne (sym e)) at there in
             let most = r.distinct k.number in
             let here = counts_one k.number k.number refl in
             let nowhere : times k.number v.known ≡ 0 = omega arith in
@@ -346,21 +346,21 @@ module _ {T : Type 0} (fits : ℕ → T → T → T → Type 0) (kept : T → Ty
 
 -- What a look finds is what a pass needs that has not changed before.
 pub took : {T : Type 0} (learns : ℕ → T → T → T → Type 0) (ticket found : ℕ) (first me after : Me (Option T) (View T)) → me ≡ first → Looks learns ticket me found after
-    → found ≡ ticket → MayTake learns first true after
+    → found ≡ ticket → MayTakeSlot learns first true after
 took {T} learns ticket found first me after e look is = record {
   hit = λ _. subst (λ (m : Me (Option T) (View T)). HasTaken learns m after) e (look.hit is);
   miss = λ e. absurd (cc);
 }
 
-pub waits : {T : Type 0} (learns : ℕ → T → T → T → Type 0) (first after : Me (Option T) (View T)) → after ≡ first → MayTake learns first false after
+pub waits : {T : Type 0} (learns : ℕ → T → T → T → Type 0) (first after : Me (Option T) (View T)) → after ≡ first → MayTakeSlot learns first false after
 waits learns first after e = record { hit = λ e. absurd (cc); miss = λ _. e }
 
 pub looked : {T : Type 0} (learns : ℕ → T → T → T → Type 0) (ticket found : ℕ) (first me after : Me (Option T) (View T)) → me ≡ first → Looks learns ticket me found after
-    → MayTake learns first (found == ticket) after
+    → MayTakeSlot learns first (found == ticket) after
 looked {T} learns ticket found first me after e look =
     dite (ℕ_discrete found ticket)
-    (λ is. subst (λ b. MayTake learns first b after) (sym (eq-eqb found ticket is)) (took learns ticket found first me after e look is))
-    (λ ne. subst (λ b. MayTake learns first b after) (sym (ne_eqb found ticket ne)) (waits learns first after (look.miss ne ∙ e)))
+    (λ is. subst (λ b. MayTakeSlot learns first b after) (sym (eq-eqb found ticket is)) (took learns ticket found first me after e look is))
+    (λ ne. subst (λ b. MayTakeSlot learns first b after) (sym (ne_eqb found ticket ne)) (waits learns first after (look.miss ne ∙ e)))
 
 -- how a seat with one number departs
 pub departed : {T : Type 0} (me after : Me (Option T) (View T)) (t : ℕ) (k k' : Known T) (y left : T) → me ≡ (view (Inside t y) (k ∷ []), (0, Some left) ∷ []) → k ∷ [] ≡ k' ∷ [] → Departs me after

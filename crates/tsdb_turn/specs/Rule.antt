@@ -50,8 +50,8 @@ module _ {T : Type 0} where
   abbrev pub times : ℕ → List (Known T) → ℕ
   times n ks = total (λ k. cond (k.number == n) 1 0) ks
 
-  abbrev pub times_of : ℕ → View T → ℕ
-  times_of n v = times n v.known
+  abbrev pub ticket_times : ℕ → View T → ℕ
+  ticket_times n v = times n v.known
 
   -- under some number the value was left so
   abbrev pub LeftAs : T → List (Known T) → Type 0
@@ -59,10 +59,10 @@ module _ {T : Type 0} where
   LeftAs value (k ∷ ks) = (k.last ≡ value) ⊎ LeftAs value ks
 
   -- where the seat stands: a ticket that it waits with is in the queue, and the one that it is inside with is served
-  abbrev pub Stands : ℕ → ℕ → (ℕ → ℕ) → Bool → T → ℕ → Stage T → Type 0
-  Stands served drawn holder away value seat Outside = Unit {0}
-  Stands served drawn holder away value seat (Waiting t) = (served ≤ t) × (t < drawn) × (holder t ≡ seat)
-  Stands served drawn holder away value seat (Inside t y) =
+  abbrev pub StandsInQueue : ℕ → ℕ → (ℕ → ℕ) → Bool → T → ℕ → Stage T → Type 0
+  StandsInQueue served drawn holder away value seat Outside = Unit {0}
+  StandsInQueue served drawn holder away value seat (Waiting t) = (served ≤ t) × (t < drawn) × (holder t ≡ seat)
+  StandsInQueue served drawn holder away value seat (Inside t y) =
       (t ≡ served) × (t < drawn) × (holder t ≡ seat) × (y ≡ value) × (away ≡ true)
 
 module _ {T : Type 0} (fits : ℕ → T → T → T → Type 0) (kept : T → Type 0) (seats : ℕ) (start : T) where
@@ -94,9 +94,10 @@ module _ {T : Type 0} (fits : ℕ → T → T → T → Type 0) (kept : T → Ty
     -- A seat with a ticket knows a number: a seat that was joined into another one has neither.
     pub holders : (i : ℕ) (v : View T) → get_elem? s.views i ≡ some v → tickets_of v ≤ width_of v
     -- No number is known twice.
-    pub distinct : (n : ℕ) → total (times_of n) s.views ≤ 1
+    pub distinct : (n : ℕ) → total (ticket_times n) s.views ≤ 1
     -- A seat waits with a ticket of its own that is in the queue, or is inside with the one that is served.
-    pub places : (i : ℕ) (v : View T) → get_elem? s.views i ≡ some v → Stands served drawn holder away value i v.stage
+    pub places : (i : ℕ) (v : View T) → get_elem? s.views i ≡ some v
+        → StandsInQueue served drawn holder away value i v.stage
     -- While the slot is out, the seat whose ticket is served is inside.
     pub taken : away ≡ true
         → (v : View T) × (get_elem? s.views (holder served) ≡ some v) × (v.stage ≡ Inside served value)

@@ -7,7 +7,7 @@ use Rattle.atomic_table.specs.Seated.{TableId}
 use Rattle.atomic_table.specs.Table.{State, Me}
 use Rattle.tsdb_turn.specs.declared.logged.Logged as logged
 use Rattle.tsdb_turn.specs.declared.view.Known.{Known}
-use Rattle.tsdb_turn.specs.declared.view.Marks.{Marks}
+use Rattle.tsdb_turn.specs.declared.view.PassMarks.{PassMarks}
 use Rattle.tsdb_turn.specs.declared.view.Opened.{Opened}
 use Rattle.tsdb_turn.specs.declared.view.Stage.TheVariants.{Outside, Waiting, Inside}
 use Rattle.tsdb_turn.specs.declared.view.View.{View}
@@ -37,8 +37,8 @@ module _ {T : Type 0} where
   abbrev pub rest_of : View T → View T
   rest_of v = view v.stage (but_first v.known)
 
-  abbrev pub first_of : View T → View T
-  first_of v = view Outside (first_known v.known)
+  abbrev pub first_view : View T → View T
+  first_view v = view Outside (first_known v.known)
 
   -- a seat that is joined into another brings its numbers and is left with nothing
   abbrev pub join_views : View T → View T → View T
@@ -62,7 +62,7 @@ module _ {T : Type 0} where
   HasTaken learns me after = (t : ℕ) × TakesSlot learns t me.0.known after
 
   -- A seat that waits takes the slot where its ticket is served, and else nothing changes.
-  pub record Reads (learns : ℕ → T → T → T → Type 0) (t : ℕ) (me : SeatState T) (found : ℕ) (after : SeatState T)
+  pub record ReadsSlot (learns : ℕ → T → T → T → Type 0) (t : ℕ) (me : SeatState T) (found : ℕ) (after : SeatState T)
       : Type 0 where
     pub hit : found ≡ t % 2 ^ 64 → TakesSlot learns t me.0.known after
     pub miss : found ≢ t % 2 ^ 64 → after ≡ me
@@ -83,7 +83,7 @@ module _ {T : Type 0} where
     pub miss : found ≢ ticket → after ≡ me
 
   -- The seat has taken the slot where this is so, and else nothing changes.
-  pub record MayTake (learns : ℕ → T → T → T → Type 0) (me : SeatState T) (taken : Bool) (after : SeatState T)
+  pub record MayTakeSlot (learns : ℕ → T → T → T → Type 0) (me : SeatState T) (taken : Bool) (after : SeatState T)
       : Type 0 where
     pub hit : taken ≡ true → HasTaken learns me after
     pub miss : taken ≡ false → after ≡ me
@@ -106,19 +106,19 @@ module _ {T : Type 0} where
   HasSlot me = (value : T) × (me.1 ≡ (0, Some value) ∷ [])
 
   -- a seat that has left the value under its one number
-  abbrev pub Leaves : SeatState T → T → SeatState T → Type 0
-  Leaves me value after = (k : Known T) → me.0.known ≡ k ∷ [] → after ≡ left_as k value
+  abbrev pub LeavesValue : SeatState T → T → SeatState T → Type 0
+  LeavesValue me value after = (k : Known T) → me.0.known ≡ k ∷ [] → after ≡ left_as k value
 
   -- what a pass knows under its number
-  abbrev pub known_of : PassState T → Known T
-  known_of pass = known pass.number pass.start pass.last
+  abbrev pub pass_known : PassState T → Known T
+  pass_known pass = known pass.number pass.start pass.last
 
   -- the state of a turn, by its table and what the table was told
   abbrev pub turn_state : TableId → Opened T → TurnState T
   turn_state id key = record { id = id; start = key.start.value; seats = key.seats }
 
   -- the state of a pass, by what it has
-  abbrev pub pass_state : TableId → ℕ → Marks T → Option (Snapshot T) → PassState T
+  abbrev pub pass_state : TableId → ℕ → PassMarks T → Option (Snapshot T) → PassState T
   pass_state id number marks entered =
       record {
         turn = id;
@@ -130,7 +130,7 @@ module _ {T : Type 0} where
 
   -- the seat of a pass has what the pass knows
   abbrev pub SitsAs : PassState T → SeatState T → Type 0
-  SitsAs pass me = Sits (known_of pass) pass.entered me
+  SitsAs pass me = Sits (pass_known pass) pass.entered me
 
   -- The same, and the number of the pass is below the number of seats.
   pub record HasSeat (pass : PassState T) (me : SeatState T) : Type 0 where
@@ -144,7 +144,7 @@ MayPutBack {T} means me value =
     × Extends means k.number k.start entered value
 
 -- the marks are of this value
-abbrev pub IsMarkedBy : {T : Type 0} → T → Marks T → Type 0
+abbrev pub IsMarkedBy : {T : Type 0} → T → PassMarks T → Type 0
 IsMarkedBy value marks = (marks.start.value ≡ value) × (marks.last.value ≡ value)
 
 -- the rule of a turn, over what its users mean by a value
@@ -167,7 +167,7 @@ Teaches {T} means turn learns =
     (n : ℕ) (start last value : T) → Learns means turn n start last value → learns n start last value
 
 -- the words at the opening
-pub record AreWords (seats ticket : ℕ) (words : List ℕ) : Type 0 where
+pub record AreOpeningWords (seats ticket : ℕ) (words : List ℕ) : Type 0 where
   pub count : length words ≡ bells_at + seats
   pub drawn : slice_index words drawn_at ≡ ticket
   pub served : slice_index words served_at ≡ ticket

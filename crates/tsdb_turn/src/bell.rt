@@ -5,7 +5,7 @@
 //! park, and only on the word that it left at its announcement: where the bell was rung since, it does not sleep.
 ghost use Rattle.std.specs.Prelude.{◌≡◌, ◌<◌, ◌≤◌, IfSome, is_none};
 ghost use Rattle.tsdb_turn.specs.Rule.{bells_at};
-ghost use Rattle.tsdb_turn.specs.Steps.{MayTake, SitsWaiting, Teaches};
+ghost use Rattle.tsdb_turn.specs.Steps.{MayTakeSlot, SitsWaiting, Teaches};
 
 use crate::logged::Logged;
 use crate::turn::{BELLS, Turn};
@@ -53,7 +53,7 @@ impl<V: Logged> Turn<V> {
         requires waiting { SitsWaiting ticket seat.old.me }
         requires lesson { Teaches V.Logged self.now L.learns }
         ensures own { (seat.new.table_id ≡ seat.old.table_id) × (seat.new.id ≡ seat.old.id) }
-        ensures takes { MayTake L.learns seat.old.me (is_none result) seat.new.me }
+        ensures takes { MayTakeSlot L.learns seat.old.me (is_none result) seat.new.me }
         ensures missed { IfSome result (λ missed. missed.announced ≡ announced) }
     {
         if self.look::<L>(seat, ticket) == ticket {

@@ -2,10 +2,10 @@
 ghost use Rattle.std.specs.Prelude.{◌≡◌, ◌<◌, ◌∷◌, [], None};
 ghost use Rattle.tsdb_turn.specs.Passes.{seats_of};
 ghost use Rattle.tsdb_turn.specs.Rule.{view};
-ghost use Rattle.tsdb_turn.specs.Steps.{HasSeat, known_of, pass_state};
+ghost use Rattle.tsdb_turn.specs.Steps.{HasSeat, pass_known, pass_state};
 ghost use Rattle.tsdb_turn.specs.declared.view.Stage.TheVariants.{Outside};
 
-use crate::view::{Marks, View};
+use crate::view::{PassMarks, View};
 use atomic_table::Seat;
 use std::marker::Model;
 use std::snapshot::Snapshot;
@@ -18,7 +18,7 @@ use std::snapshot::Snapshot;
 pub struct Pass<V> {
     pub(crate) number: u32,
     pub(crate) seat: Seat<Option<V>, View<V>>,
-    pub(crate) marks: Marks<V>,
+    pub(crate) marks: PassMarks<V>,
     pub(crate) entered: Option<Snapshot<V>>,
 }
 
@@ -35,7 +35,11 @@ impl<V> Model for Pass<V> {
 
 impl<V> Pass<V> {
     // A pass whose seat has one number and is outside.
-    pub(crate) fn outside(number: u32, seat: Seat<Option<V>, View<V>>, marks: Marks<V>) -> Pass<V>
+    pub(crate) fn outside(
+        number: u32,
+        seat: Seat<Option<V>, View<V>>,
+        marks: PassMarks<V>,
+    ) -> Pass<V>
         requires { HasSeat (pass_state seat.table_id number marks None) seat.me }
         ensures { result ≡ pass_state seat.table_id number marks None }
     {
@@ -51,7 +55,7 @@ impl<V> Pass<V> {
     pub(crate) fn into_seat(self) -> Seat<Option<V>, View<V>>
         requires { self.entered ≡ None }
         ensures own { result.table_id ≡ self.turn }
-        ensures seat { result.me ≡ (view Outside (known_of self ∷ []), []) }
+        ensures seat { result.me ≡ (view Outside (pass_known self ∷ []), []) }
     {
         let Pass {
             number: _,

@@ -8,14 +8,14 @@ ghost use Rattle.std.specs.Prelude.{◌≡◌, ◌<◌, ◌^◌, [], ◌∷◌, 
 ghost use Rattle.std.specs.Vec.{vec_capacity};
 ghost use Rattle.tsdb_turn.specs.Passes.{FollowsPass, MayLeave, IsOutside, IsLastOf, AreNumbered, new_passes, seats_of};
 ghost use Rattle.tsdb_turn.specs.Rule.{view};
-ghost use Rattle.tsdb_turn.specs.Steps.{Draws, Leaves, SitsOutside, HasSlot, MayPutBack};
-ghost use Rattle.tsdb_turn.specs.Steps.{IsMarkedBy, AreWords, dealt, known_of};
+ghost use Rattle.tsdb_turn.specs.Steps.{Draws, LeavesValue, SitsOutside, HasSlot, MayPutBack};
+ghost use Rattle.tsdb_turn.specs.Steps.{IsMarkedBy, AreOpeningWords, dealt, pass_known};
 ghost use Rattle.tsdb_turn.specs.Values.{IsTurnKept};
 ghost use Rattle.tsdb_turn.specs.declared.view.Stage.TheVariants.{Outside};
 
 use crate::logged::Logged;
 use crate::pass::Pass;
-use crate::view::{Deal, Depart, Draw, Gather, Marks, Opened, TurnRule, View};
+use crate::view::{Deal, Depart, Draw, Gather, Opened, PassMarks, TurnRule, View};
 use atomic_table::{Refused as NoTable, Seat, Table};
 use std::alloc::{AllocError, Global};
 use std::marker::{Brand, Model};
@@ -121,7 +121,7 @@ impl<V: Logged> Turn<V> {
     fn deal(
         &self,
         mut seat: Seat<Option<V>, View<V>>,
-        mut marks: Vec<Marks<V>>,
+        mut marks: Vec<PassMarks<V>>,
         passes: &mut Vec<Pass<V>>,
     )
         requires own { seat.table_id ≡ self.now.id }
@@ -208,7 +208,7 @@ impl<V: Logged> Turn<V> {
         requires own { seat.old.table_id ≡ self.now.id }
         requires inside { MayPutBack V.Logged seat.old.me value }
         ensures own { (seat.new.table_id ≡ seat.old.table_id) × (seat.new.id ≡ seat.old.id) }
-        ensures left { Leaves seat.old.me value seat.new.me }
+        ensures left { LeavesValue seat.old.me value seat.new.me }
     {
         let shared = &self.table.shared;
         let empty = shared.exchange(seat, 0, Some(value));
@@ -243,7 +243,7 @@ impl<V: Logged> Turn<V> {
         requires some { 0 < vec_len passes }
         requires outside { All (IsOutside self.now.id) passes.items }
         ensures own { result.table_id ≡ self.now.id }
-        ensures seat { result.me ≡ (view Outside (map known_of passes.items), []) }
+        ensures seat { result.me ≡ (view Outside (map pass_known passes.items), []) }
     {
         let Some(first) = passes.pop() else {
             unreachable!()
@@ -259,20 +259,20 @@ impl<V: Logged> Turn<V> {
 }
 
 // Marks for each pass.
-fn marks_of<V>(alloc: Global, value: &V, seats: u32) -> Result<Vec<Marks<V>>, AllocError>
+fn marks_of<V>(alloc: Global, value: &V, seats: u32) -> Result<Vec<PassMarks<V>>, AllocError>
     ensures count { IfOk result (λ marks. vec_len marks ≡ seats) }
     ensures marks { IfOk result (λ marks. All (IsMarkedBy value.now) marks.items) }
 {
     let mut marks = Vec::with_capacity(alloc, seats as usize)?;
     for _ in 0..seats {
-        marks.push_reserved(Marks::of(value));
+        marks.push_reserved(PassMarks::of(value));
     }
     Ok(marks)
 }
 
 // The words at the opening: the first ticket at two places, and bells that nobody waits for.
 fn words_of(alloc: Global, seats: u32) -> Result<Vec<u64>, AllocError>
-    ensures { IfOk result (λ words. AreWords seats FIRST_TICKET words.items) }
+    ensures { IfOk result (λ words. AreOpeningWords seats FIRST_TICKET words.items) }
 {
     let mut words = vec![in alloc; 0u64; BELLS + seats as usize]?;
     words[DRAWN] = FIRST_TICKET;

@@ -2,7 +2,8 @@
 //! `atomic_table`.
 ghost use Rattle.std.specs.Prelude.{◌≡◌, ℕ};
 ghost use Rattle.tsdb_turn.specs.Rule.{view};
-ghost use Rattle.tsdb_turn.specs.Steps.{RuleOf, dealt, rest_of, first_of, join_views, spent, Draws, Reads, Departs};
+ghost use Rattle.tsdb_turn.specs.Steps.{RuleOf, dealt, rest_of, first_view, join_views, spent, Draws, ReadsSlot};
+ghost use Rattle.tsdb_turn.specs.Steps.{Departs};
 ghost use Rattle.tsdb_turn.specs.declared.view.Stage.TheVariants.{Outside, Waiting};
 
 use crate::logged::Logged;
@@ -41,17 +42,17 @@ pub struct Opened<T> {
 
 /// What a pass remembers: the value at the opening, and the value as the pass last left it.
 #[derive(Drop)]
-pub struct Marks<V> {
+pub struct PassMarks<V> {
     pub start: Snapshot<V>,
     pub last: Snapshot<V>,
 }
 
-impl<V> Marks<V> {
+impl<V> PassMarks<V> {
     /// The marks of a pass that has not entered yet.
-    pub fn of(value: &V) -> Marks<V>
+    pub fn of(value: &V) -> PassMarks<V>
         ensures { (result.start.value ≡ value.now) × (result.last.value ≡ value.now) }
     {
-        Marks {
+        PassMarks {
             start: Snapshot::of(value),
             last: Snapshot::of(value),
         }
@@ -73,7 +74,7 @@ pub struct Deal;
 impl<T> Split<View<T>> for Deal {
     ghost left = { rest_of };
 
-    ghost right = { first_of };
+    ghost right = { first_view };
 }
 
 /// Takes in the numbers of another seat.
@@ -108,7 +109,7 @@ pub struct Await<L> {
 }
 
 impl<T, L: Lesson<T>> Play<Option<T>, View<T>> for Await<L> {
-    ghost then = { λ st me found after. (t : ℕ) → me.0.stage ≡ Waiting t → Reads L.learns t me found after };
+    ghost then = { λ st me found after. (t : ℕ) → me.0.stage ≡ Waiting t → ReadsSlot L.learns t me found after };
 }
 
 /// Changes a bell, which tells nothing.

@@ -5,7 +5,7 @@
 //! first that sleeps next, which clears that bit, and wakes it. Each ticket that is out has a bell of its own; where
 //! the tickets pass 2^64 two may share one, and both are woken.
 ghost use Rattle.std.specs.Prelude.{◌≡◌};
-ghost use Rattle.tsdb_turn.specs.Steps.{HasTaken, Looks, MayTake, SitsWaiting, Teaches};
+ghost use Rattle.tsdb_turn.specs.Steps.{HasTaken, Looks, MayTakeSlot, SitsWaiting, Teaches};
 
 use crate::bell::ASLEEP;
 use crate::logged::Logged;
@@ -70,7 +70,7 @@ impl<V: Logged> Turn<V> {
         requires waiting { SitsWaiting ticket seat.old.me }
         requires lesson { Teaches V.Logged self.now L.learns }
         ensures own { (seat.new.table_id ≡ seat.old.table_id) × (seat.new.id ≡ seat.old.id) }
-        ensures takes { MayTake L.learns seat.old.me result seat.new.me }
+        ensures takes { MayTakeSlot L.learns seat.old.me result seat.new.me }
     {
         for looks in 0..NEXT_LOOKS {
             let served = self.look::<L>(seat, ticket);
@@ -96,7 +96,7 @@ impl<V: Logged> Turn<V> {
         requires waiting { SitsWaiting ticket seat.old.me }
         requires lesson { Teaches V.Logged self.now L.learns }
         ensures own { (seat.new.table_id ≡ seat.old.table_id) × (seat.new.id ≡ seat.old.id) }
-        ensures takes { MayTake L.learns seat.old.me result seat.new.me }
+        ensures takes { MayTakeSlot L.learns seat.old.me result seat.new.me }
     {
         let announced = self.announce(seat, ticket);
         match self.look_again::<L>(seat, ticket, announced) {

@@ -8,8 +8,8 @@ use Rattle.tsdb_base.specs.Fields.{number64}
 use Rattle.tsdb_index.specs.declared.index.IndexEntry.{IndexEntry}
 use Rattle.tsdb_index.specs.declared.pointer.Pointer.{Pointer}
 use Rattle.tsdb_base.specs.Limits.{max_leaf_entries}
-use Rattle.tsdb_index.specs.Parts.{IsFirstBadLeaf, end_of}
-use Rattle.tsdb_index.specs.Spelling.{IsSpelling}
+use Rattle.tsdb_index.specs.Parts.{IsFirstBadLeaf, leaf_end}
+use Rattle.tsdb_index.specs.Spelling.{IsIndexSpelling}
 use Rattle.tsdb_index.proofs.OneSpelling.{one_index}
 use Rattle.tsdb_pages.specs.declared.tree.Chunk.{Chunk}
 use Rattle.tsdb_pages.specs.declared.tree.Group.{Group}
@@ -35,7 +35,7 @@ one_bad_leaf root [] bytes x y a b = absurd a
 one_bad_leaf root (p ∷ ps) bytes x y (inl a) (inl b) = a.0 ∙ sym b.0
 one_bad_leaf root (p ∷ ps) bytes x y (inl a) (inr b) = absurd (a.1 b.0.0 b.0.1)
 one_bad_leaf root (p ∷ ps) bytes x y (inr a) (inl b) = absurd (b.1 a.0.0 a.0.1)
-one_bad_leaf root (p ∷ ps) bytes x y (inr a) (inr b) = one_bad_leaf root ps (drop (end_of root ps - p.place) bytes) x y a.1 b.1
+one_bad_leaf root (p ∷ ps) bytes x y (inr a) (inr b) = one_bad_leaf root ps (drop (leaf_end root ps - p.place) bytes) x y a.1 b.1
 
 one_bad_front : (b : List ℕ) (x y : ℕ) → length b < 2 ^ 64 → IsBadFront b x → IsBadFront b y → x ≡ y
 one_bad_front b x y room (short less) (short other) = refl
@@ -292,7 +292,7 @@ tree_of b root place ps es said tree has groups same =
         root = root;
         index_bytes = between place (tail_place b) b;
         say = say;
-        index_is = subst (λ (p : ℕ). IsSpelling p root es (between place (tail_place b) b)) place_is has.index.spelling;
+        index_is = subst (λ (p : ℕ). IsIndexSpelling p root es (between place (tail_place b) b)) place_is has.index.spelling;
         bytes_are =
             split ∙ ap (λ (l : List ℕ). (l ++ between place (tail_place b) b) ++ drop (tail_place b) b) front ∙ ap (λ (l : List ℕ). (data_field tree ++ between place (tail_place b) b) ++ l) tail
             ∙ sym (append_assoc (data_field tree ++ between place (tail_place b) b) (number64 root) magic);

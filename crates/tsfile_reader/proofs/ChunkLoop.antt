@@ -13,13 +13,13 @@ use Rattle.tsdb_fields.specs.Reading.{TakesBytes}
 use Rattle.tsdb_fields.proofs.Taken.{takes_both, takes_same}
 use Rattle.tsdb_index.specs.declared.index.IndexEntry.{IndexEntry}
 use Rattle.tsdb_pages.specs.declared.tree.Chunk.{Chunk}
-use Rattle.tsdb_pages.specs.File.{ArePageEntries, AreEntries, IsEntry, chunk_field, chunk_head, page_field}
+use Rattle.tsdb_pages.specs.File.{ArePageEntries, AreEntries, IsChunkEntry, chunk_field, chunk_head, page_field}
 use Rattle.tsdb_pages.specs.Trees.{HasParts, IsBefore, IsChunk}
 use Rattle.tsdb_pages.proofs.Files.{IsWholeChunk}
 use Rattle.tsdb_pages.proofs.Order.{names_rise, pairs_push}
 use Rattle.tsfile_reader.specs.declared.page.ChunkHead.{ChunkHead}
 use Rattle.tsfile_reader.specs.declared.parts.Pages.{Pages}
-use Rattle.tsfile_reader.specs.Parts.{IsBehindChunk, MayFollow, Part, part_field, parts_field}
+use Rattle.tsfile_reader.specs.Parts.{IsBehindChunk, MayFollow, FilePart, part_field, parts_field}
 use Rattle.tsfile_reader.specs.Steps.{BeginsWithMark, IsChunkHead, IsLaterHead, ReadsChunk, ReadsChunks, ReadsPages, StopsAt, StopsBehind, chunk_part}
 use Rattle.tsdb_pages.proofs.Entries.{chunks_push, flat_push}
 use Rattle.tsfile_reader.proofs.Later.{head_bytes}
@@ -28,7 +28,7 @@ use Rattle.tsfile_reader.proofs.Rows.{after_chunks, chunks_text, good_chunks, la
 
 -- ---- a stop behind what was read before
 
-pub stop_behind : (before middle : List Part) (left behind : Rest) (text : List ℕ) (at : ℕ) → parts_field middle ≡ parts_field before ++ text → TakesBytes left text behind → StopsAt middle behind at → StopsAt before left at
+pub stop_behind : (before middle : List FilePart) (left behind : Rest) (text : List ℕ) (at : ℕ) → parts_field middle ≡ parts_field before ++ text → TakesBytes left text behind → StopsAt middle behind at → StopsAt before left at
 stop_behind before middle left behind text at grown takes stops = record {
   parts = stops.parts;
   good = stops.good;
@@ -55,7 +55,7 @@ chunk_read device head place left behind found entry is at pages entry_is =
       encoding_is = refl;
       good = record { suits = is.1; some = r.some; few = r.few; pages = r.good; rising = r.rising };
       parts = record { measurement = is.0; points = r.ranges };
-      say = subst (λ (e : IndexEntry). IsEntry device place chunk e) (sym entry_is) (record {
+      say = subst (λ (e : IndexEntry). IsChunkEntry device place chunk e) (sym entry_is) (record {
         device_is = refl;
         measurement_is = refl;
         type_is = refl;
@@ -113,7 +113,7 @@ chunk_taken c head left middle behind m t e head_is pages =
   where
     head_same : (c : Chunk) (head : ChunkHead) → c.measurement ≡ head.measurement → c.data_type ≡ head.data_type → c.encoding ≡ head.encoding → head_bytes head ≡ chunk_head c
     head_same c head m t e =
-        ap (λ (x : List ℕ). part_field (Part.Chunk x head.data_type head.encoding)) (sym m) ∙ ap (λ (x : DataType). part_field (Part.Chunk c.measurement x head.encoding)) (sym t) ∙ ap (λ (x : Encoding). part_field (Part.Chunk c.measurement c.data_type x)) (sym e)
+        ap (λ (x : List ℕ). part_field (FilePart.Chunk x head.data_type head.encoding)) (sym m) ∙ ap (λ (x : DataType). part_field (FilePart.Chunk c.measurement x head.encoding)) (sym t) ∙ ap (λ (x : Encoding). part_field (FilePart.Chunk c.measurement c.data_type x)) (sym e)
 
 pub first_chunk : (device : List ℕ) (rest middle left : Rest) (head : ChunkHead) (entry : IndexEntry) (entries : List IndexEntry) → entries ≡ entry ∷ [] → TakesBytes rest (head_bytes head) middle → ReadsChunk device head rest.at middle left entry → ChunksSoFar device rest left entries
 first_chunk device rest middle left head entry entries is head_is r = record {
@@ -145,7 +145,7 @@ next_chunk_read device rest left middle behind head entry old new so_far is head
       final = entry;
       entries_are = is;
       final-is = r.say.measurement_is;
-      say = subst (λ (l : List IndexEntry). AreEntries device rest.at ((so_far.front ++ so_far.last ∷ []) ++ r.chunk ∷ []) l) (sym is) (chunks_push device rest.at chunks old r.chunk entry so_far.say (subst (λ (n : ℕ). IsEntry device n r.chunk entry) place r.say));
+      say = subst (λ (l : List IndexEntry). AreEntries device rest.at ((so_far.front ++ so_far.last ∷ []) ++ r.chunk ∷ []) l) (sym is) (chunks_push device rest.at chunks old r.chunk entry so_far.say (subst (λ (n : ℕ). IsChunkEntry device n r.chunk entry) place r.say));
       takes = takes_same rest behind (flat_map chunk_field (so_far.front ++ so_far.last ∷ []) ++ chunk_field r.chunk) (flat_map chunk_field ((so_far.front ++ so_far.last ∷ []) ++ r.chunk ∷ [])) (sym (chunks_more_text chunks r.chunk))
           (takes_both rest left behind (flat_map chunk_field chunks) (chunk_field r.chunk) so_far.takes (chunk_taken r.chunk head left middle behind r.measurement_is r.type_is r.encoding_is head_is r.takes));
       no_page = r.ends;
@@ -175,12 +175,12 @@ some_entries device rest left entries so_far =
 -- ---- where reading chunks stops
 
 -- behind the head of a group stands no chunk
-pub no_first_chunk : (device : List ℕ) (left : Rest) → BeginsWithNone head_bytes IsChunkHead left.bytes.now → StopsBehind (Part.Group device) left left.at
+pub no_first_chunk : (device : List ℕ) (left : Rest) → BeginsWithNone head_bytes IsChunkHead left.bytes.now → StopsBehind (FilePart.Group device) left left.at
 no_first_chunk device left none = λ before are. record {
-  parts = Part.Group device ∷ before;
+  parts = FilePart.Group device ∷ before;
   good = are;
   text = [];
-  grown = sym (append-nil (parts_field (Part.Group device ∷ before)));
+  grown = sym (append-nil (parts_field (FilePart.Group device ∷ before)));
   rest = left.bytes.now;
   split = refl;
   place = omega arith;
@@ -188,62 +188,62 @@ no_first_chunk device left none = λ before are. record {
   unfinished = λ nil may. may;
 }
   where
-    next_of : (device : List ℕ) (bytes : List ℕ) → BeginsWithNone head_bytes IsChunkHead bytes → (before : List Part) (part : Part) (behind : List ℕ) → MayFollow (Part.Group device ∷ before) part → bytes ≡ part_field part ++ behind → ⊥
-    next_of device bytes none before (Part.Group other) behind may is = may
-    next_of device bytes none before (Part.Chunk name kind form) behind may is = none (record { measurement = name; data_type = kind; encoding = form }) behind may is
-    next_of device bytes none before (Part.Page kind form points) behind may is = may
+    next_of : (device : List ℕ) (bytes : List ℕ) → BeginsWithNone head_bytes IsChunkHead bytes → (before : List FilePart) (part : FilePart) (behind : List ℕ) → MayFollow (FilePart.Group device ∷ before) part → bytes ≡ part_field part ++ behind → ⊥
+    next_of device bytes none before (FilePart.Group other) behind may is = may
+    next_of device bytes none before (FilePart.Chunk name kind form) behind may is = none (record { measurement = name; data_type = kind; encoding = form }) behind may is
+    next_of device bytes none before (FilePart.Page kind form points) behind may is = may
 
 -- inside the first chunk
-pub in_first_chunk : (device : List ℕ) (rest middle : Rest) (head : ChunkHead) (at : ℕ) → IsChunkHead head → TakesBytes rest (head_bytes head) middle → StopsBehind (chunk_part head) middle at → StopsBehind (Part.Group device) rest at
+pub in_first_chunk : (device : List ℕ) (rest middle : Rest) (head : ChunkHead) (at : ℕ) → IsChunkHead head → TakesBytes rest (head_bytes head) middle → StopsBehind (chunk_part head) middle at → StopsBehind (FilePart.Group device) rest at
 in_first_chunk device rest middle head at is takes stops = λ before are.
-    stop_behind (Part.Group device ∷ before) (chunk_part head ∷ Part.Group device ∷ before) rest middle (head_bytes head) at refl takes (stops (Part.Group device ∷ before) (is, are))
+    stop_behind (FilePart.Group device ∷ before) (chunk_part head ∷ FilePart.Group device ∷ before) rest middle (head_bytes head) at refl takes (stops (FilePart.Group device ∷ before) (is, are))
 
 -- behind chunks stands no later one
-pub no_next_chunk : (device : List ℕ) (rest left : Rest) (entries : List IndexEntry) (so_far : ChunksSoFar device rest left entries) → BeginsWithMark 67 left.bytes.now → BeginsWithNone head_bytes (IsLaterHead so_far.final.measurement) left.bytes.now → StopsBehind (Part.Group device) rest left.at
+pub no_next_chunk : (device : List ℕ) (rest left : Rest) (entries : List IndexEntry) (so_far : ChunksSoFar device rest left entries) → BeginsWithMark 67 left.bytes.now → BeginsWithNone head_bytes (IsLaterHead so_far.final.measurement) left.bytes.now → StopsBehind (FilePart.Group device) rest left.at
 no_next_chunk device rest left entries so_far mark none = λ before are.
     let chunks = so_far.front ++ so_far.last ∷ [] in
     let n = length-append so_far.front (so_far.last ∷ []) in
-    let l = last_of chunks (Part.Group device ∷ before) (omega (arith, n)) so_far.whole in
+    let l = last_of chunks (FilePart.Group device ∷ before) (omega (arith, n)) so_far.whole in
     let same : l.last ≡ so_far.last = last_same l.front so_far.front l.last so_far.last (sym l.chunks-are) in
     record {
-      parts = after_chunks chunks (Part.Group device ∷ before);
+      parts = after_chunks chunks (FilePart.Group device ∷ before);
       good = good_chunks device chunks before are so_far.whole so_far.rising;
       text = flat_map chunk_field chunks;
-      grown = chunks_text chunks (Part.Group device ∷ before);
+      grown = chunks_text chunks (FilePart.Group device ∷ before);
       rest = left.bytes.now;
       split = so_far.takes.bytes;
       place = so_far.takes.place;
       next = λ part behind may is.
           next_of so_far.final.measurement left.bytes.now mark none l.chunk.t l.chunk.e l.chunk.points l.chunk.rest
           (λ x b. subst (λ (y : List ℕ). IsBefore y x) (ap (λ (c : Chunk). c.measurement) same ∙ sym so_far.final-is) (l.chunk.to_chunk x b))
-          part behind (subst (λ (ps : List Part). MayFollow ps part) l.chunk.is may) is;
+          part behind (subst (λ (ps : List FilePart). MayFollow ps part) l.chunk.is may) is;
       unfinished = λ nil may. no_mark left.bytes.now mark nil;
     }
   where
     no_mark : (bytes : List ℕ) → BeginsWithMark 67 bytes → bytes ≡ [] → ⊥
     no_mark bytes mark nil = let both : 67 ∷ mark.0 ≡ [] = sym mark.1 ∙ nil in absurd cc
 
-    next_of : (last bytes : List ℕ) → BeginsWithMark 67 bytes → BeginsWithNone head_bytes (IsLaterHead last) bytes → (t : DataType) (e : Encoding) (points : List Point) (rest : List Part) → ((x : List ℕ) → IsBehindChunk rest x → IsBefore last x)
-        → (part : Part) (behind : List ℕ) → MayFollow (Part.Page t e points ∷ rest) part → bytes ≡ part_field part ++ behind → ⊥
-    next_of last bytes mark none t e points rest to (Part.Group device) behind may is = other_part 67 71 bytes mark.0 (plain_text device ++ behind) (λ same. absurd (omega (arith, same))) mark.1 is
-    next_of last bytes mark none t e points rest to (Part.Chunk name kind form) behind may is = none (record { measurement = name; data_type = kind; encoding = form }) behind ((may.0, may.1), to name may.2) is
-    next_of last bytes mark none t e points rest to (Part.Page kind form more) behind may is = other_part 67 80 bytes mark.0 _ (λ same. absurd (omega (arith, same))) mark.1 is
+    next_of : (last bytes : List ℕ) → BeginsWithMark 67 bytes → BeginsWithNone head_bytes (IsLaterHead last) bytes → (t : DataType) (e : Encoding) (points : List Point) (rest : List FilePart) → ((x : List ℕ) → IsBehindChunk rest x → IsBefore last x)
+        → (part : FilePart) (behind : List ℕ) → MayFollow (FilePart.Page t e points ∷ rest) part → bytes ≡ part_field part ++ behind → ⊥
+    next_of last bytes mark none t e points rest to (FilePart.Group device) behind may is = other_part 67 71 bytes mark.0 (plain_text device ++ behind) (λ same. absurd (omega (arith, same))) mark.1 is
+    next_of last bytes mark none t e points rest to (FilePart.Chunk name kind form) behind may is = none (record { measurement = name; data_type = kind; encoding = form }) behind ((may.0, may.1), to name may.2) is
+    next_of last bytes mark none t e points rest to (FilePart.Page kind form more) behind may is = other_part 67 80 bytes mark.0 _ (λ same. absurd (omega (arith, same))) mark.1 is
 
 -- inside a later chunk
 pub in_next_chunk : (device : List ℕ) (rest left middle : Rest) (entries : List IndexEntry) (so_far : ChunksSoFar device rest left entries) (head : ChunkHead) (at : ℕ) → IsLaterHead so_far.final.measurement head → TakesBytes left (head_bytes head) middle → StopsBehind (chunk_part head) middle at
-    → StopsBehind (Part.Group device) rest at
+    → StopsBehind (FilePart.Group device) rest at
 in_next_chunk device rest left middle entries so_far head at later takes stops = λ before are.
     let chunks = so_far.front ++ so_far.last ∷ [] in
     let n = length-append so_far.front (so_far.last ∷ []) in
-    let l = last_of chunks (Part.Group device ∷ before) (omega (arith, n)) so_far.whole in
+    let l = last_of chunks (FilePart.Group device ∷ before) (omega (arith, n)) so_far.whole in
     let same : l.last ≡ so_far.last = last_same l.front so_far.front l.last so_far.last (sym l.chunks-are) in
-    let parts = after_chunks chunks (Part.Group device ∷ before) in
+    let parts = after_chunks chunks (FilePart.Group device ∷ before) in
     let good = good_chunks device chunks before are so_far.whole so_far.rising in
     let less : IsBefore l.last.measurement head.measurement = subst (λ (x : List ℕ). IsBefore x head.measurement) (so_far.final-is ∙ ap (λ (c : Chunk). c.measurement) (sym same)) later.1 in
-    let may : MayFollow (after_chunks (so_far.front ++ so_far.last ∷ []) (Part.Group device ∷ before)) (chunk_part head) =
-    subst (λ (ps : List Part). MayFollow ps (chunk_part head)) (sym l.chunk.is) (later.0.0, later.0.1, l.chunk.from_chunk head.measurement less) in
-    stop_behind (Part.Group device ∷ before) (chunk_part head ∷ parts) rest middle (flat_map chunk_field chunks ++ head_bytes head) at
-    (ap (λ (l : List ℕ). l ++ head_bytes head) (chunks_text chunks (Part.Group device ∷ before)) ∙ append_assoc (parts_field (Part.Group device ∷ before)) (flat_map chunk_field chunks) (head_bytes head))
+    let may : MayFollow (after_chunks (so_far.front ++ so_far.last ∷ []) (FilePart.Group device ∷ before)) (chunk_part head) =
+    subst (λ (ps : List FilePart). MayFollow ps (chunk_part head)) (sym l.chunk.is) (later.0.0, later.0.1, l.chunk.from_chunk head.measurement less) in
+    stop_behind (FilePart.Group device ∷ before) (chunk_part head ∷ parts) rest middle (flat_map chunk_field chunks ++ head_bytes head) at
+    (ap (λ (l : List ℕ). l ++ head_bytes head) (chunks_text chunks (FilePart.Group device ∷ before)) ∙ append_assoc (parts_field (FilePart.Group device ∷ before)) (flat_map chunk_field chunks) (head_bytes head))
     (takes_both rest left middle (flat_map chunk_field chunks) (head_bytes head) so_far.takes takes) (stops parts (may, good))
 
 pub all_chunks : (device : List ℕ) (rest left : Rest) (entries : List IndexEntry) → ChunksSoFar device rest left entries → (BeginsWithMark 67 left.bytes.now → ⊥) → ReadsChunks device rest left entries

@@ -11,7 +11,7 @@ use Rattle.tsdb_index.specs.Entries.{AreInOrder, IsEntry, names_of}
 use Rattle.tsdb_path.specs.Order.{AreNamesBefore}
 use Rattle.tsdb_index.specs.Faults.{ReadsWhole}
 use Rattle.tsdb_index.specs.Finding.{AreBehind, IsEntryFor, IsLeafFor}
-use Rattle.tsdb_index.specs.Parts.{AreLeavesAt, BeginAt, IsLeaf, IsPointerBefore, end_of, next_names}
+use Rattle.tsdb_index.specs.Parts.{AreLeavesAt, BeginAt, IsLeaf, IsPointerBefore, leaf_end, next_names}
 use Rattle.tsdb_index.specs.Steps.{AreSpread}
 use Rattle.tsdb_index.proofs.LeafOfNames.{IsAmong, among, leaf_decides, none_decides}
 use Rattle.tsdb_index.proofs.Orders.{order_back, order_left}
@@ -38,8 +38,8 @@ Names = List ℕ × List ℕ
 
 -- where the leaf stands
 pub record HasBounds (root : ℕ) (pointer : Pointer) (behind : List Pointer) : Type 0 where
-  pub from : pointer.place ≤ end_of root behind
-  pub to : end_of root behind ≤ root
+  pub from : pointer.place ≤ leaf_end root behind
+  pub to : leaf_end root behind ≤ root
 
 pub leaf_bounds : (front : Front) (names : Names) (ps : List Pointer) (pointer : Pointer) (behind : List Pointer) → ps ≡ front.root.pointers.items → HasSomeRoot front → IsLeafFor names ps pointer behind → HasBounds front.ends.root pointer behind
 leaf_bounds front names ps pointer behind same root is =
@@ -52,13 +52,13 @@ leaf_bounds front names ps pointer behind same root is =
     bounds [] order low inside = record { from = omega (arith, low); to = omega arith }
     bounds (q ∷ qs) order low inside = let less = order.0.1 in let next = inside.0 in record { from = omega (arith, less); to = omega (arith, next) }
 
-pub one_leaf_found : (o : Option (List ℕ)) (pointer : Pointer) (behind : List Pointer) (root end : ℕ) (part slice : List ℕ) (entries : List IndexEntry) → end ≡ end_of root behind → slice ≡ part → IfSome o (λ b. part ≡ take (end - pointer.place) (drop pointer.place b))
+pub one_leaf_found : (o : Option (List ℕ)) (pointer : Pointer) (behind : List Pointer) (root end : ℕ) (part slice : List ℕ) (entries : List IndexEntry) → end ≡ leaf_end root behind → slice ≡ part → IfSome o (λ b. part ≡ take (end - pointer.place) (drop pointer.place b))
     → IsLeaf pointer behind slice entries → IfSome o (λ b. IsLeaf pointer behind (leaf_bytes root pointer behind b) entries)
 one_leaf_found None pointer behind root end part slice entries end_is same is leaf = tt
 one_leaf_found (Some b) pointer behind root end part slice entries end_is same is leaf =
     subst (λ (l : List ℕ). IsLeaf pointer behind l entries) (same ∙ is ∙ ap (λ (n : ℕ). take (n - pointer.place) (drop pointer.place b)) end_is) leaf
 
-pub one_leaf_bad : {T B : Type 0} (Is : List ℕ → T → Type 0) (o : Option (List ℕ)) (pointer : Pointer) (behind : List Pointer) (root end : ℕ) (part slice : List ℕ) (view : B → List IndexEntry) (fault : FieldFault) (answer : ReadFault) → end ≡ end_of root behind → slice ≡ part
+pub one_leaf_bad : {T B : Type 0} (Is : List ℕ → T → Type 0) (o : Option (List ℕ)) (pointer : Pointer) (behind : List Pointer) (root end : ℕ) (part slice : List ℕ) (view : B → List IndexEntry) (fault : FieldFault) (answer : ReadFault) → end ≡ leaf_end root behind → slice ≡ part
     → IfSome o (λ b. part ≡ take (end - pointer.place) (drop pointer.place b)) → ReadsWhole (IsLeaf pointer behind slice) view (Err fault) → answer ≡ as_read_fault pointer.place fault
     → Answers Is (λ b at. (at ≡ pointer.place) × ((entries : List IndexEntry) → IsLeaf pointer behind (leaf_bytes root pointer behind b) entries → ⊥)) o (Err answer)
 one_leaf_bad Is None pointer behind root end part slice view (field.Bad at) answer end_is same is none answer_is = rw answer_is tt
@@ -129,7 +129,7 @@ record IsThere (b : List ℕ) (root place : ℕ) (ps : List Pointer) (es : List 
   leaves : List (List IndexEntry)
   among-them : IsAmong root place pointer behind (between place root b) leaves
   all : es ≡ flat_map (λ leaf. leaf) leaves
-  bytes : leaf_bytes root pointer behind b ≡ take (end_of root behind - pointer.place) (drop (pointer.place - place) (between place root b))
+  bytes : leaf_bytes root pointer behind b ≡ take (leaf_end root behind - pointer.place) (drop (pointer.place - place) (between place root b))
 
 leaf_there : (b : List ℕ) (root place : ℕ) (ps : List Pointer) (es : List IndexEntry) (names : Names) (pointer : Pointer) (behind : List Pointer) → length b < 2 ^ 64 → HasOutline b root place ps es → IsLeafFor names ps pointer behind → IsThere b root place ps es pointer behind
 leaf_there b root place ps es names pointer behind room has is =
@@ -146,12 +146,12 @@ leaf_there b root place ps es names pointer behind room has is =
     let to = a.to in
     let end = a.end in
     let apart : drop (pointer.place - place) (between place root b) ≡ between pointer.place root b = between_back b place pointer.place root from (omega (arith, to, end)) in
-    let short : take (end_of root behind - pointer.place) (between pointer.place root b) ≡ leaf_bytes root pointer behind b = between_front b pointer.place (end_of root behind) root to end in
+    let short : take (leaf_end root behind - pointer.place) (between pointer.place root b) ≡ leaf_bytes root pointer behind b = between_front b pointer.place (leaf_end root behind) root to end in
     record {
       leaves = leaves.0;
       among-them = a;
       all = leaves.2;
-      bytes = sym short ∙ ap (λ (l : List ℕ). take (end_of root behind - pointer.place) l) (sym apart);
+      bytes = sym short ∙ ap (λ (l : List ℕ). take (leaf_end root behind - pointer.place) l) (sym apart);
     }
 
 -- the root of a look-up is that of the index

@@ -21,7 +21,7 @@ use Rattle.tsdb_pages.specs.Trees.{HasParts, IsBefore, IsChunk, IsGroup, chunks_
 use Rattle.tsdb_pages.proofs.Files.{IsWholeChunk}
 use Rattle.tsdb_pages.proofs.Entries.{count_all, flat_push, groups_push}
 use Rattle.tsfile_reader.specs.Blame.{HasGroups, IsFirstBadPart}
-use Rattle.tsfile_reader.specs.Parts.{IsBehindGroup, MayFollow, Part, part_field}
+use Rattle.tsfile_reader.specs.Parts.{IsBehindGroup, MayFollow, FilePart, part_field}
 use Rattle.tsfile_reader.specs.Steps.{BeginsWithMark, ReadsChunks, StopsAt, StopsBehind}
 use Rattle.tsfile_reader.proofs.ChunkLoop.{all_below, pairs_more, recursion_more, stop_behind}
 use Rattle.tsfile_reader.proofs.Later.{group_bytes}
@@ -140,13 +140,13 @@ no_first_group rest none = record {
   unfinished = λ nil may. may;
 }
   where
-    next_of : (bytes : List ℕ) → BeginsWithNone group_bytes IsPath bytes → (part : Part) (behind : List ℕ) → MayFollow [] part → bytes ≡ part_field part ++ behind → ⊥
-    next_of bytes none (Part.Group device) behind may is = none device behind may is
-    next_of bytes none (Part.Chunk name kind form) behind may is = may
-    next_of bytes none (Part.Page kind form points) behind may is = may
+    next_of : (bytes : List ℕ) → BeginsWithNone group_bytes IsPath bytes → (part : FilePart) (behind : List ℕ) → MayFollow [] part → bytes ≡ part_field part ++ behind → ⊥
+    next_of bytes none (FilePart.Group device) behind may is = none device behind may is
+    next_of bytes none (FilePart.Chunk name kind form) behind may is = may
+    next_of bytes none (FilePart.Page kind form points) behind may is = may
 
-pub in_first_group : (rest middle : Rest) (device : List ℕ) (at : ℕ) → IsPath device → TakesBytes rest (group_bytes device) middle → StopsBehind (Part.Group device) middle at → IsFirstBadPart rest.at rest.bytes.now at
-in_first_group rest middle device at is head stops = first_bad rest at (stop_behind [] (Part.Group device ∷ []) rest middle (group_bytes device) at refl head (stops [] (is, tt)))
+pub in_first_group : (rest middle : Rest) (device : List ℕ) (at : ℕ) → IsPath device → TakesBytes rest (group_bytes device) middle → StopsBehind (FilePart.Group device) middle at → IsFirstBadPart rest.at rest.bytes.now at
+in_first_group rest middle device at is head stops = first_bad rest at (stop_behind [] (FilePart.Group device ∷ []) rest middle (group_bytes device) at refl head (stops [] (is, tt)))
 
 pub no_next_group : (rest left : Rest) (entries : List IndexEntry) (last : List ℕ) → GroupsSoFar rest left entries last → (left.bytes.now ≡ [] → ⊥) → BeginsWithNone group_bytes (λ x. IsPath x × IsBefore last x) left.bytes.now → IsFirstBadPart rest.at rest.bytes.now left.at
 no_next_group rest left entries last so_far some none =
@@ -163,17 +163,17 @@ no_next_group rest left entries last so_far some none =
       next = λ part behind may is.
           next_of last left.bytes.now so_far.no_page so_far.no_chunk none l.group.t l.group.e l.group.points l.group.rest
           (λ x b. subst (λ (y : List ℕ). IsBefore y x) (ap (λ (g : Group). g.device) same ∙ so_far.final-is) (l.group.to_group x b))
-          part behind (subst (λ (ps : List Part). MayFollow ps part) l.group.is may) is;
+          part behind (subst (λ (ps : List FilePart). MayFollow ps part) l.group.is may) is;
       unfinished = λ nil may. some nil;
     }
   where
-    next_of : (last bytes : List ℕ) → (BeginsWithMark 80 bytes → ⊥) → (BeginsWithMark 67 bytes → ⊥) → BeginsWithNone group_bytes (λ x. IsPath x × IsBefore last x) bytes → (t : DataType) (e : Encoding) (points : List Point) (rest : List Part)
-        → ((x : List ℕ) → IsBehindGroup rest x → IsBefore last x) → (part : Part) (behind : List ℕ) → MayFollow (Part.Page t e points ∷ rest) part → bytes ≡ part_field part ++ behind → ⊥
-    next_of last bytes no_page no_chunk none t e points rest to (Part.Group device) behind may is = none device behind (may.0, to device may.1) is
-    next_of last bytes no_page no_chunk none t e points rest to (Part.Chunk name kind form) behind may is = no_chunk (_, is)
-    next_of last bytes no_page no_chunk none t e points rest to (Part.Page kind form more) behind may is = no_page (_, is)
+    next_of : (last bytes : List ℕ) → (BeginsWithMark 80 bytes → ⊥) → (BeginsWithMark 67 bytes → ⊥) → BeginsWithNone group_bytes (λ x. IsPath x × IsBefore last x) bytes → (t : DataType) (e : Encoding) (points : List Point) (rest : List FilePart)
+        → ((x : List ℕ) → IsBehindGroup rest x → IsBefore last x) → (part : FilePart) (behind : List ℕ) → MayFollow (FilePart.Page t e points ∷ rest) part → bytes ≡ part_field part ++ behind → ⊥
+    next_of last bytes no_page no_chunk none t e points rest to (FilePart.Group device) behind may is = none device behind (may.0, to device may.1) is
+    next_of last bytes no_page no_chunk none t e points rest to (FilePart.Chunk name kind form) behind may is = no_chunk (_, is)
+    next_of last bytes no_page no_chunk none t e points rest to (FilePart.Page kind form more) behind may is = no_page (_, is)
 
-pub in_next_group : (rest left middle : Rest) (entries : List IndexEntry) (last device : List ℕ) (at : ℕ) → GroupsSoFar rest left entries last → IsPath device → IsBefore last device → TakesBytes left (group_bytes device) middle → StopsBehind (Part.Group device) middle at → IsFirstBadPart rest.at rest.bytes.now at
+pub in_next_group : (rest left middle : Rest) (entries : List IndexEntry) (last device : List ℕ) (at : ℕ) → GroupsSoFar rest left entries last → IsPath device → IsBefore last device → TakesBytes left (group_bytes device) middle → StopsBehind (FilePart.Group device) middle at → IsFirstBadPart rest.at rest.bytes.now at
 in_next_group rest left middle entries last device at so_far is less head stops =
     let groups = so_far.front ++ so_far.final ∷ [] in
     let n = length-append so_far.front (so_far.final ∷ []) in
@@ -182,8 +182,8 @@ in_next_group rest left middle entries last device at so_far is less head stops 
     let parts = after_groups groups [] in
     let good = good_groups groups so_far.full so_far.rising in
     let above : IsBefore l.last.device device = subst (λ (x : List ℕ). IsBefore x device) (sym so_far.final-is ∙ ap (λ (g : Group). g.device) (sym same)) less in
-    let may : MayFollow (after_groups (so_far.front ++ so_far.final ∷ []) []) (Part.Group device) = subst (λ (ps : List Part). MayFollow ps (Part.Group device)) (sym l.group.is) (is, l.group.from_group device above) in
-    first_bad rest at (stop_behind [] (Part.Group device ∷ parts) rest middle (flat_map group_field groups ++ group_bytes device) at (ap (λ (t : List ℕ). t ++ group_bytes device) (groups_text groups []))
+    let may : MayFollow (after_groups (so_far.front ++ so_far.final ∷ []) []) (FilePart.Group device) = subst (λ (ps : List FilePart). MayFollow ps (FilePart.Group device)) (sym l.group.is) (is, l.group.from_group device above) in
+    first_bad rest at (stop_behind [] (FilePart.Group device ∷ parts) rest middle (flat_map group_field groups ++ group_bytes device) at (ap (λ (t : List ℕ). t ++ group_bytes device) (groups_text groups []))
     (takes_both rest left middle (flat_map group_field groups) (group_bytes device) so_far.takes head) (stops parts (may, good)))
 
 -- ---- all groups

@@ -14,7 +14,7 @@ use Rattle.tsdb_pages.proofs.Bodies.{body_is_short, parts_same}
 use Rattle.tsfile_reader.specs.declared.page.ChunkHead.{ChunkHead}
 use Rattle.tsdb_pages.specs.File.{page_bytes}
 use Rattle.tsfile_reader.specs.Page.{AreGood}
-use Rattle.tsfile_reader.specs.Parts.{Part, part_field}
+use Rattle.tsfile_reader.specs.Parts.{FilePart, part_field}
 use Rattle.tsfile_reader.specs.Steps.{IsBodySize, IsChunkHead, body_bytes, chunk_part}
 
 pub short_name : (name : List ℕ) → IsName name → IsText name
@@ -34,7 +34,7 @@ kind_field = pair_field type_field encoding_field
 abbrev pub IsKind : DataType × Encoding → Type 0
 IsKind = IsPair (λ t. Unit {0}) (λ e. Unit {0})
 
-pub chunk_apart : (m : List ℕ) (t : DataType) (e : Encoding) (x : List ℕ) → part_field (Part.Chunk m t e) ++ x ≡ 67 ∷ (plain_text m ++ (type_field t ++ (encoding_field e ++ x)))
+pub chunk_apart : (m : List ℕ) (t : DataType) (e : Encoding) (x : List ℕ) → part_field (FilePart.Chunk m t e) ++ x ≡ 67 ∷ (plain_text m ++ (type_field t ++ (encoding_field e ++ x)))
 chunk_apart m t e x =
     let front = 67 ∷ plain_text m in
     append_assoc (front ++ type_field t) (encoding_field e) x ∙ append_assoc front (type_field t) (encoding_field e ++ x)

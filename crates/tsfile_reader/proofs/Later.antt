@@ -21,21 +21,21 @@ use Rattle.tsdb_pages.specs.File.{ArePageEntries, page_bytes, page_field}
 use Rattle.tsdb_base.specs.Limits.{max_pages}
 use Rattle.tsdb_base.specs.Points.{IsRising}
 use Rattle.tsdb_pages.specs.Pages.{ArePoints, IsInRange, body}
-use Rattle.tsdb_pages.specs.Trees.{IsBefore, points_of}
+use Rattle.tsdb_pages.specs.Trees.{IsBefore, page_points}
 use Rattle.tsdb_pages.proofs.Bodies.{body_is_short, one_body, parts_same}
 use Rattle.tsdb_pages.proofs.Order.{at_least_first, at_most_last, pairs_append}
 use Rattle.tsdb_stats.specs.Statistics.{AreStatsOf}
 use Rattle.tsfile_reader.specs.declared.page.ChunkHead.{ChunkHead}
 use Rattle.tsfile_reader.specs.declared.parts.Pages.{Pages}
 use Rattle.tsfile_reader.specs.Page.{AreGood}
-use Rattle.tsfile_reader.specs.Parts.{Part, part_field}
+use Rattle.tsfile_reader.specs.Parts.{FilePart, part_field}
 use Rattle.tsfile_reader.specs.Steps.{AreLaterPoints, ArePagesRead, IsChunkHead, IsLaterHead, chunk_part}
 use Rattle.tsdb_pages.proofs.Statistics.{last_gives}
 use Rattle.tsdb_pages.proofs.Entries.{count_pages, flat_push, pages_push}
 use Rattle.tsfile_reader.proofs.Heads.{chunk_apart, short_name, short_path, tail_same}
 
 abbrev pub group_bytes : List ℕ → List ℕ
-group_bytes device = part_field (Part.Group device)
+group_bytes device = part_field (FilePart.Group device)
 
 pub no_later_group : (bytes behind d last : List ℕ) → bytes ≡ group_bytes d ++ behind → IsPath d → (IsBefore last d → ⊥) → BeginsWithNone group_bytes (λ x. IsPath x × IsBefore last x) bytes
 no_later_group bytes behind d last found is not = λ x y later e.
@@ -75,7 +75,7 @@ no_later_page t e suits bytes behind points before found good not = λ xs y late
 
 -- ---- one page more
 
-pub points_more : (pages : List Page) (page : Page) → points_of (pages ++ page ∷ []) ≡ points_of pages ++ page.points
+pub points_more : (pages : List Page) (page : Page) → page_points (pages ++ page ∷ []) ≡ page_points pages ++ page.points
 points_more pages page = flat_push (λ (p : Page). p.points) pages page
 
 -- the end that statistics say is the last time
@@ -107,25 +107,25 @@ rise_further before (f ∷ fs) end rise_b rise_p some last later =
     less_all a b c d e ab bc cd de = omega (arith, ints, ab, bc, cd, de)
 
 pub page_added : (t : DataType) (e : Encoding) (from place : ℕ) (before : List Page) (page : Page) (points : List Point) (old new : Pages) (stats : Stats) (entry : PageEntry) → page.points ≡ points → ArePagesRead t e from before old → AreLaterPoints t old points
-    → place ≡ from + length (flat_map (page_field e) before) → entry.place ≡ place → AreStatsOf points entry.stats → AreStatsOf (points_of before ++ points) new.stats → new.entries.items ≡ old.entries.items ++ entry ∷ []
+    → place ≡ from + length (flat_map (page_field e) before) → entry.place ≡ place → AreStatsOf points entry.stats → AreStatsOf (page_points before ++ points) new.stats → new.entries.items ≡ old.entries.items ++ entry ∷ []
     → ArePagesRead t e from (before ++ page ∷ []) new
 page_added t e from place before page points old new stats entry same read later place_is entry_place entry_stats all_stats entries =
     let good : AreGood t page.points = subst (AreGood t) (sym same) later.good in
     let n = length-append before (page ∷ []) in
     let count = count_pages e from before old.entries.items read.say in
     let few = later.few in
-    let points_is : points_of (before ++ page ∷ []) ≡ points_of before ++ page.points = points_more before page in
-    let some_points : 0 < length (points_of before) = some_of t before read.some (recursion_from_All (λ (p : Page). ArePoints t p.points) before read.good) in
+    let points_is : page_points (before ++ page ∷ []) ≡ page_points before ++ page.points = points_more before page in
+    let some_points : 0 < length (page_points before) = some_of t before read.some (recursion_from_All (λ (p : Page). ArePoints t p.points) before read.good) in
     record {
       some = omega (arith, n);
       few = omega (arith, n, count, few);
       good = All-append (λ (p : Page). ArePoints t p.points) before (page ∷ []) read.good (All-cons (λ (p : Page). ArePoints t p.points) page [] good.0 (All-nil (λ (p : Page). ArePoints t p.points)));
-      ranges = subst (λ (l : List Point). All IsInRange l) (sym points_is) (All-append IsInRange (points_of before) page.points read.ranges good.1);
-      rising = subst IsRising (sym points_is) (subst (λ (l : List Point). IsRising (points_of before ++ l)) (sym same) (rise_further (points_of before) points old.stats.end read.rising later.good.0.rising some_points (λ d. end_time (points_of before) old.stats d some_points read.stats) later.later));
-      stats = subst (λ (l : List Point). AreStatsOf l new.stats) (sym (points_is ∙ ap (λ (l : List Point). points_of before ++ l) same)) all_stats;
+      ranges = subst (λ (l : List Point). All IsInRange l) (sym points_is) (All-append IsInRange (page_points before) page.points read.ranges good.1);
+      rising = subst IsRising (sym points_is) (subst (λ (l : List Point). IsRising (page_points before ++ l)) (sym same) (rise_further (page_points before) points old.stats.end read.rising later.good.0.rising some_points (λ d. end_time (page_points before) old.stats d some_points read.stats) later.later));
+      stats = subst (λ (l : List Point). AreStatsOf l new.stats) (sym (points_is ∙ ap (λ (l : List Point). page_points before ++ l) same)) all_stats;
       say = subst (λ (l : List PageEntry). ArePageEntries e from (before ++ page ∷ []) l) (sym entries) (pages_push e from before old.entries.items page entry read.say (record { place_is = entry_place ∙ place_is; stats = subst (λ (l : List Point). AreStatsOf l entry.stats) (sym same) entry_stats }));
     }
   where
-    some_of : (t : DataType) (pages : List Page) → 0 < length pages → AllByRecursion (λ (p : Page). ArePoints t p.points) pages → 0 < length (points_of pages)
+    some_of : (t : DataType) (pages : List Page) → 0 < length pages → AllByRecursion (λ (p : Page). ArePoints t p.points) pages → 0 < length (page_points pages)
     some_of t [] some are = absurd (omega (arith, some))
-    some_of t (p ∷ ps) some are = let n = length-append p.points (points_of ps) in let m = are.0.some in omega (arith, n, m)
+    some_of t (p ∷ ps) some are = let n = length-append p.points (page_points ps) in let m = are.0.some in omega (arith, n, m)

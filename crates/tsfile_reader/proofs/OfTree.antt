@@ -15,7 +15,7 @@ use Rattle.tsdb_pages.specs.declared.tree.Page.{Page}
 use Rattle.tsdb_pages.specs.declared.tree.Chunk.{Chunk}
 use Rattle.tsdb_pages.specs.declared.tree.Group.{Group}
 use Rattle.tsdb_pages.specs.declared.tree.Tree.{Tree}
-use Rattle.tsdb_pages.specs.File.{IsEntry, IsFile, page_bytes, page_field}
+use Rattle.tsdb_pages.specs.File.{IsChunkEntry, IsFile, page_bytes, page_field}
 use Rattle.tsdb_pages.specs.Places.{HasPlaces}
 use Rattle.tsdb_pages.specs.Trees.{IsMade, IsTree}
 use Rattle.tsdb_stats.specs.Statistics.{AreStatsOf}
@@ -24,7 +24,7 @@ use Rattle.tsdb_pages.proofs.Places.{entries_stand}
 use Rattle.tsfile_reader.specs.declared.fault.ReadFault.{ReadFault}
 use Rattle.tsfile_reader.specs.declared.fault.ReadFault.TheVariants.{Failed, Damaged, Memory}
 use Rattle.tsfile_reader.specs.Answers.{Answers, IfDamaged, IsNotDamaged}
-use Rattle.tsfile_reader.specs.Page.{ArePointsOf, BeginsWithPage, HasNoPage, HasPage, IsEntryOf, LieIn, SaysOfPage}
+use Rattle.tsfile_reader.specs.Page.{ArePagePoints, BeginsWithPage, HasNoPage, HasPage, IsEntryOf, LieIn, SaysOfPage}
 use Rattle.tsfile_reader.proofs.PageTimes.{stats_lie}
 
 -- the page of the tree that the entry speaks of stands there
@@ -33,7 +33,7 @@ pub record PageStands (tree : Tree) (bytes : List ℕ) (entry : IndexEntry) (num
   pub chunk : Chunk
   pub in_tree : Contains tree.groups group
   pub in_group : Contains group.chunks chunk
-  pub says : IsEntry group.device entry.place chunk entry
+  pub says : IsChunkEntry group.device entry.place chunk entry
   pub page : Page
   pub page_is : slice_get chunk.pages number ≡ Some page
   pub inside : said.place ≤ length bytes
@@ -177,7 +177,7 @@ bad_page o entry number page (Err Memory) says answers = tt
 
 pub tree_points : (o : Option (List ℕ)) (entry : IndexEntry) (number : ℕ) (page : PageEntry) (r : Result (Vec Point Global) ReadFault) → SaysOfPage entry number page
     → Answers (λ b points. HasPage b entry page points.items) (λ b at. (at ≡ page.place) × HasNoPage b entry page) o r
-    → IfSome o (λ b. (tree : Tree) → IsTree tree → IsMade tree → IsFile tree b → IsEntryOf tree entry → IsNotDamaged r × IfOk r (λ points. ArePointsOf tree entry number points.items))
+    → IfSome o (λ b. (tree : Tree) → IsTree tree → IsMade tree → IsFile tree b → IsEntryOf tree entry → IsNotDamaged r × IfOk r (λ points. ArePagePoints tree entry number points.items))
 tree_points None entry number page r says answers = tt
 tree_points (Some b) entry number page (Ok points) says answers = λ tree is made file of.
     let s = page_stands tree b entry number page is made file of says in

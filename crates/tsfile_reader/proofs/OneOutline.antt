@@ -6,7 +6,7 @@ use Rattle.tsdb_base.specs.FieldLaws.{number64-prefix_free}
 use Rattle.tsdb_index.specs.declared.index.Index.{Index}
 use Rattle.tsdb_index.specs.declared.index.IndexEntry.{IndexEntry}
 use Rattle.tsdb_index.specs.declared.pointer.Pointer.{Pointer}
-use Rattle.tsdb_index.specs.Faults.{IsRead}
+use Rattle.tsdb_index.specs.Faults.{IsIndexRead}
 use Rattle.tsdb_index.specs.Parts.{AreLeavesAt, BeginAt, IsFirstBadLeaf, IsRoot}
 use Rattle.tsdb_index.proofs.Roots.{pointers_same, root_counted}
 use Rattle.tsdb_index.proofs.Whole.{index_parts, no_bad_leaf}
@@ -106,7 +106,7 @@ tree_outline tree b room is made file =
     let inside = ends.begins.inside in
     let tail_is : tail_place b - length (data_field tree) ≡ length file.index_bytes = omega (arith, size) in
     let index : between (length (data_field tree)) (tail_place b) b ≡ file.index_bytes = ap (λ (n : ℕ). take n (drop (length (data_field tree)) b)) tail_is ∙ ends.index_stands.bytes_are in
-    let read : IsRead (length (data_field tree)) file.root file.index_bytes file.entries = record { index = entries_are_index tree file.entries is made file.say (omega (arith, size, room)); spelling = file.index_is } in
+    let read : IsIndexRead (length (data_field tree)) file.root file.index_bytes file.entries = record { index = entries_are_index tree file.entries is made file.say (omega (arith, size, room)); spelling = file.index_is } in
     let parts = index_parts place file.root file.index_bytes file.entries (omega (arith, above)) (omega (arith, inside)) (omega (arith, size, room)) read in
     let back : drop (file.root - length (data_field tree)) file.index_bytes ≡ between file.root (tail_place b) b =
     ap (λ (l : List ℕ). drop (file.root - length (data_field tree)) l) (sym index) ∙ between_back b place file.root (tail_place b) (omega (arith, above)) (omega (arith, inside, size)) in
@@ -117,7 +117,7 @@ tree_outline tree b room is made file =
         tail = record { behind_head = omega (arith, some, above); inside = omega (arith, inside, size); bytes_are = ends.tail };
         starts = ends.head.bytes_are;
         points = record { behind_head = some; is = subst (λ (l : List ℕ). IsRoot (length (data_field tree)) file.root l parts.pointers_are) back parts.is-root };
-        index = subst (λ (l : List ℕ). IsRead (length (data_field tree)) file.root l file.entries) (sym index) read;
+        index = subst (λ (l : List ℕ). IsIndexRead (length (data_field tree)) file.root l file.entries) (sym index) read;
       };
       index_is = index;
     }
@@ -134,8 +134,8 @@ outline_of_tree tree b root place ps es room is made file has =
     let points = subst (λ (r : ℕ). HasRoot b r place ps) same has.points in
     let one = root_same b file.root place (length (data_field tree)) ps t.pointers points t.outline.points in
     let size = (file_ends tree b file).size in
-    let read : IsRead (length (data_field tree)) file.root file.index_bytes es =
-    subst (λ (l : List ℕ). IsRead (length (data_field tree)) file.root l es) t.index_is (subst (λ (p : ℕ). IsRead p file.root (between p (tail_place b) b) es) one.1 (subst (λ (r : ℕ). IsRead place r (between place (tail_place b) b) es) same has.index)) in
+    let read : IsIndexRead (length (data_field tree)) file.root file.index_bytes es =
+    subst (λ (l : List ℕ). IsIndexRead (length (data_field tree)) file.root l es) t.index_is (subst (λ (p : ℕ). IsIndexRead p file.root (between p (tail_place b) b) es) one.1 (subst (λ (r : ℕ). IsIndexRead place r (between place (tail_place b) b) es) same has.index)) in
     (one.1, read_entries tree b es is made file (omega (arith, size, room)) read)
 
 -- no part of the outline of a tree's file is bad

@@ -15,7 +15,7 @@ use Rattle.tsdb_index.specs.declared.pointer.Pointer.{Pointer}
 use Rattle.tsdb_index.specs.Entries.{AreInOrder}
 use Rattle.tsdb_index.specs.Faults.{ReadsWhole}
 use Rattle.tsdb_index.specs.Parts.{AreLeavesAt, BeginAt, IsFirstBadLeaf, IsPointer, IsPointerBefore, IsRoot, pointer_bytes}
-use Rattle.tsdb_index.specs.Steps.{AreSpread, IsCounted, ReadsLeaves}
+use Rattle.tsdb_index.specs.Steps.{AreSpread, IsCountedList, ReadsLeaves}
 use Rattle.tsdb_index.proofs.Roots.{AreRoot, pointers_same, root_counted}
 use Rattle.tsdb_index.proofs.Whole.{found_index, spread_at}
 use Rattle.tsdb_pages.specs.File.{head}
@@ -26,7 +26,7 @@ use Rattle.tsfile_reader.specs.declared.fault.ReadFault.{ReadFault}
 use Rattle.tsfile_reader.specs.declared.fault.ReadFault.TheVariants.{Failed, Damaged, Memory}
 use Rattle.tsfile_reader.specs.Answers.{Answers, IfDamaged, as_read_fault, of_index}
 use Rattle.tsfile_reader.specs.Outline.{HasFront, HasOutline, HasTail, IsBadFront, IsBadOutline, IsTail, between, in_front, no_head, no_leaf, no_root, no_tail, short, tail_place}
-use Rattle.tsfile_reader.specs.Steps.{HasEnds, HasSomeRoot, IsFrontIn}
+use Rattle.tsfile_reader.specs.Steps.{HasFileEnds, HasSomeRoot, IsFrontIn}
 
 pub is_short : (o : Option (List ℕ)) (size : ℕ) → ForSome o (λ b. size ≡ length b) → size < 21 → IfSome o (λ b. IsBadFront b 0)
 is_short None size len small = tt
@@ -61,7 +61,7 @@ head_bad (Some b) size root tail start len long is read start_is other =
     no_head (omega (arith, n, long)) root (has_tail b tail size root n is read) (λ has. other (start_is ∙ has))
 
 pub has_ends : (o : Option (List ℕ)) (ends : Ends) (size root : ℕ) (tail start : List ℕ) → ForSome o (λ b. size ≡ length b) → 21 ≤ size → IfSome o (λ b. tail ≡ take 14 (drop (size - 14) b)) → IsTail size tail root
-    → IfSome o (λ b. start ≡ take 7 (drop 0 b)) → start ≡ head → ends.size ≡ size → ends.root ≡ root → IfSome o (λ b. HasEnds b ends)
+    → IfSome o (λ b. start ≡ take 7 (drop 0 b)) → start ≡ head → ends.size ≡ size → ends.root ≡ root → IfSome o (λ b. HasFileEnds b ends)
 has_ends None ends size root tail start len long is read start_is same size_is root_is = tt
 has_ends (Some b) ends size root tail start len long is read start_is same size_is root_is =
     let n = len b refl in
@@ -75,26 +75,26 @@ has_ends (Some b) ends size root tail start len long is read start_is same size_
 -- ---- the root
 
 abbrev IsPointers : List ℕ → List Pointer → Type 0
-IsPointers = IsCounted 82 number32 (2 ^ 32) pointer_bytes IsPointer
+IsPointers = IsCountedList 82 number32 (2 ^ 32) pointer_bytes IsPointer
 
 -- the bytes of the root as they were read
 root_bytes : (b bytes : List ℕ) (size root count : ℕ) → size ≡ length b → count ≡ size - 14 - root → bytes ≡ take count (drop root b) → bytes ≡ between root (tail_place b) b
 root_bytes b bytes size root count len count_is is =
     is ∙ ap (λ (n : ℕ). take n (drop root b)) (count_is ∙ ap (λ (n : ℕ). n - 14 - root) len)
 
-no_root_there : (b bytes : List ℕ) (ends : Ends) → HasEnds b ends → bytes ≡ between ends.root (tail_place b) b → ((place : ℕ) (ps : List Pointer) → 7 ≤ place → IsRoot place ends.root bytes ps → ⊥) → IsBadFront b ends.root
+no_root_there : (b bytes : List ℕ) (ends : Ends) → HasFileEnds b ends → bytes ≡ between ends.root (tail_place b) b → ((place : ℕ) (ps : List Pointer) → 7 ≤ place → IsRoot place ends.root bytes ps → ⊥) → IsBadFront b ends.root
 no_root_there b bytes ends has is none =
     no_root has.long ends.root has.tail has.starts (λ place ps root. none place ps root.behind_head (subst (λ (l : List ℕ). IsRoot place ends.root l ps) (sym is) root.is))
 
 pub root_bad : {T B : Type 0} (Is : List ℕ → T → Type 0) (o : Option (List ℕ)) (ends : Ends) (count : ℕ) (bytes slice : List ℕ) (view : B → ℕ × List Pointer) (fault : FieldFault) (answer : ReadFault)
-    → IfSome o (λ b. HasEnds b ends) → count ≡ ends.size - 14 - ends.root → IfSome o (λ b. bytes ≡ take count (drop ends.root b)) → slice ≡ bytes → ReadsWhole (λ root. (length head ≤ root.0) × IsRoot root.0 ends.root slice root.1) view (Err fault)
+    → IfSome o (λ b. HasFileEnds b ends) → count ≡ ends.size - 14 - ends.root → IfSome o (λ b. bytes ≡ take count (drop ends.root b)) → slice ≡ bytes → ReadsWhole (λ root. (length head ≤ root.0) × IsRoot root.0 ends.root slice root.1) view (Err fault)
     → answer ≡ as_read_fault ends.root fault → Answers Is IsBadFront o (Err answer)
 root_bad Is None ends count bytes slice view (field.Bad at) answer has count_is is same none answer_is = rw answer_is tt
 root_bad Is (Some b) ends count bytes slice view (field.Bad at) answer has count_is is same none answer_is =
     rw answer_is (no_root_there b slice ends has (same ∙ root_bytes b bytes ends.size ends.root count has.size count_is is) (λ place ps low root. none (place, ps) (low, root)))
 root_bad Is o ends count bytes slice view field.Memory answer has count_is is same none answer_is = rw answer_is tt
 
-pub root_found : (o : Option (List ℕ)) (ends : Ends) (root : Root) (count : ℕ) (bytes slice : List ℕ) → IfSome o (λ b. HasEnds b ends) → count ≡ ends.size - 14 - ends.root → IfSome o (λ b. bytes ≡ take count (drop ends.root b)) → slice ≡ bytes
+pub root_found : (o : Option (List ℕ)) (ends : Ends) (root : Root) (count : ℕ) (bytes slice : List ℕ) → IfSome o (λ b. HasFileEnds b ends) → count ≡ ends.size - 14 - ends.root → IfSome o (λ b. bytes ≡ take count (drop ends.root b)) → slice ≡ bytes
     → length head ≤ root.place → IsRoot root.place ends.root slice root.pointers.items → IfSome o (λ b. (ends.size ≡ length b) × HasFront b ends.root root.place root.pointers.items)
 root_found None ends root count bytes slice has count_is is same low there = tt
 root_found (Some b) ends root count bytes slice has count_is is same low there = (

@@ -18,7 +18,7 @@ use Rattle.tsdb_pages.specs.File.{page_bytes, page_field}
 use Rattle.tsdb_base.specs.Limits.{max_pages}
 use Rattle.tsdb_base.specs.Points.{IsRising}
 use Rattle.tsdb_pages.specs.Pages.{ArePoints, IsInRange}
-use Rattle.tsdb_pages.specs.Trees.{points_of}
+use Rattle.tsdb_pages.specs.Trees.{page_points}
 use Rattle.tsdb_pages.proofs.Files.{IsPageOf, of_each_page}
 use Rattle.tsdb_pages.proofs.Order.{pairs_across}
 use Rattle.tsfile_reader.specs.declared.fault.ReadFault.{ReadFault}
@@ -26,7 +26,7 @@ use Rattle.tsfile_reader.specs.declared.fault.ReadFault.TheVariants as read
 use Rattle.tsfile_reader.specs.declared.parts.Pages.{Pages}
 use Rattle.tsfile_reader.specs.Answers.{as_read_fault}
 use Rattle.tsfile_reader.specs.Page.{AreGood}
-use Rattle.tsfile_reader.specs.Parts.{MayFollow, Part, page_count, part_field, parts_field}
+use Rattle.tsfile_reader.specs.Parts.{MayFollow, FilePart, page_count, part_field, parts_field}
 use Rattle.tsfile_reader.specs.Steps.{AreLaterPoints, ArePagesRead, BeginsWithMark, ReadsOrStops, StopsBehind}
 use Rattle.tsdb_pages.proofs.Entries.{count_pages, flat_push}
 use Rattle.tsfile_reader.proofs.Later.{end_time}
@@ -74,12 +74,12 @@ other_part m n bytes x y different a b =
     different same
 
 -- behind the head of a chunk stands no page
-pub none_first : (t : DataType) (e : Encoding) (left : Rest) → BeginsWithNone (page_bytes e) (AreGood t) left.bytes.now → (m : List ℕ) → StopsBehind (Part.Chunk m t e) left left.at
+pub none_first : (t : DataType) (e : Encoding) (left : Rest) → BeginsWithNone (page_bytes e) (AreGood t) left.bytes.now → (m : List ℕ) → StopsBehind (FilePart.Chunk m t e) left left.at
 none_first t e left none m = λ before are. record {
-  parts = Part.Chunk m t e ∷ before;
+  parts = FilePart.Chunk m t e ∷ before;
   good = are;
   text = [];
-  grown = sym (append-nil (parts_field (Part.Chunk m t e ∷ before)));
+  grown = sym (append-nil (parts_field (FilePart.Chunk m t e ∷ before)));
   rest = left.bytes.now;
   split = refl;
   place = omega arith;
@@ -87,14 +87,14 @@ none_first t e left none m = λ before are. record {
   unfinished = λ nil may. may;
 }
   where
-    next_of : (t : DataType) (e : Encoding) (bytes : List ℕ) → BeginsWithNone (page_bytes e) (AreGood t) bytes → (m : List ℕ) (before : List Part) → (part : Part) (behind : List ℕ) → MayFollow (Part.Chunk m t e ∷ before) part → bytes ≡ part_field part ++ behind → ⊥
-    next_of t e bytes none m before (Part.Group device) behind may is = may
-    next_of t e bytes none m before (Part.Chunk name kind form) behind may is = may
-    next_of t e bytes none m before (Part.Page kind form points) behind may is =
+    next_of : (t : DataType) (e : Encoding) (bytes : List ℕ) → BeginsWithNone (page_bytes e) (AreGood t) bytes → (m : List ℕ) (before : List FilePart) → (part : FilePart) (behind : List ℕ) → MayFollow (FilePart.Chunk m t e ∷ before) part → bytes ≡ part_field part ++ behind → ⊥
+    next_of t e bytes none m before (FilePart.Group device) behind may is = may
+    next_of t e bytes none m before (FilePart.Chunk name kind form) behind may is = may
+    next_of t e bytes none m before (FilePart.Page kind form points) behind may is =
         none points behind may.2 (is ∙ ap (λ (k : Encoding). page_bytes k points ++ behind) may.1)
 
 -- the last point before has the end as its time, and points of a page that may follow are later
-later_points : (t : DataType) (pages : List Page) (found : Pages) (front last points : List Point) (rest_count : ℕ) (e : Encoding) (place : ℕ) → ArePagesRead t e place pages found → points_of pages ≡ front ++ last → 0 < length last
+later_points : (t : DataType) (pages : List Page) (found : Pages) (front last points : List Point) (rest_count : ℕ) (e : Encoding) (place : ℕ) → ArePagesRead t e place pages found → page_points pages ≡ front ++ last → 0 < length last
     → 1 + rest_count ≡ length pages → AreGood t points → IsRising (last ++ points) → 1 + rest_count < max_pages → AreLaterPoints t found points
 later_points t pages found front last points rest_count e place read split some count good rising few = record {
   good = good;
@@ -103,10 +103,10 @@ later_points t pages found front last points rest_count e place read split some 
       let n = length-append front last in
       let m = ap length split in
       let k = length last - 1 in
-      let at : length (points_of pages) - 1 ≡ length front + (length last - 1) = omega (arith, n, m, some) in
-      let end = end_time (points_of pages) found.stats first (omega (arith, n, m, some)) read.stats in
-      let there : get_or (points_of pages) (length (points_of pages) - 1) first ≡ get_or last (length last - 1) first =
-      ap (λ (i : ℕ). get_or (points_of pages) i first) at ∙ ap (λ (l : List Point). get_or l (length front + (length last - 1)) first) split ∙ get_or-append-add front last k first in
+      let at : length (page_points pages) - 1 ≡ length front + (length last - 1) = omega (arith, n, m, some) in
+      let end = end_time (page_points pages) found.stats first (omega (arith, n, m, some)) read.stats in
+      let there : get_or (page_points pages) (length (page_points pages) - 1) first ≡ get_or last (length last - 1) first =
+      ap (λ (i : ℕ). get_or (page_points pages) i first) at ∙ ap (λ (l : List Point). get_or l (length front + (length last - 1)) first) split ∙ get_or-append-add front last k first in
       let less : (get_or last (length last - 1) first).time <ℤ first.time =
       pairs_across (λ (a b : Point). a.time <ℤ b.time) last points (get_or last (length last - 1) first) first rising (Contains-get_or last k first (omega (arith, some))) (subst (λ (l : List Point). Contains l first) (sym is) (0, omega arith, refl)) in
       subst (λ time. time <ℤ first.time) (sym (ap (λ (p : Point). p.time) there) ∙ end) less;
@@ -117,25 +117,25 @@ some_each t [] good = tt
 some_each t (p ∷ ps) good = (good.0.0.some, some_each t ps good.1)
 
 -- behind pages stands no later one
-pub none_later : (t : DataType) (e : Encoding) (rest left : Rest) (found : Pages) → PagesSoFar t e rest left found → BeginsWithMark 80 left.bytes.now → BeginsWithNone (page_bytes e) (AreLaterPoints t found) left.bytes.now → (m : List ℕ) → StopsBehind (Part.Chunk m t e) rest left.at
+pub none_later : (t : DataType) (e : Encoding) (rest left : Rest) (found : Pages) → PagesSoFar t e rest left found → BeginsWithMark 80 left.bytes.now → BeginsWithNone (page_bytes e) (AreLaterPoints t found) left.bytes.now → (m : List ℕ) → StopsBehind (FilePart.Chunk m t e) rest left.at
 none_later t e rest left found so_far mark none m = λ before are.
     let pages = so_far.pages in
     let r = so_far.read in
     let each : AllByRecursion (λ (p : Page). All IsInRange p.points) so_far.pages = of_each_page so_far.pages r.ranges in
     let good : AllByRecursion (IsPageOf t) so_far.pages = both_of t so_far.pages (recursion_from_All (λ (p : Page). ArePoints t p.points) so_far.pages r.good) each in
     record {
-      parts = after_pages t e pages (Part.Chunk m t e ∷ before);
+      parts = after_pages t e pages (FilePart.Chunk m t e ∷ before);
       good = good_pages t e m pages before are good r.rising r.few;
       text = flat_map (page_field e) pages;
-      grown = pages_field t e pages (Part.Chunk m t e ∷ before);
+      grown = pages_field t e pages (FilePart.Chunk m t e ∷ before);
       rest = left.bytes.now;
       split = so_far.takes.bytes;
       place = so_far.takes.place;
       next =
-          let l = last_page t e pages (Part.Chunk m t e ∷ before) r.some in
+          let l = last_page t e pages (FilePart.Chunk m t e ∷ before) r.some in
           let some : 0 < length l.last.points = l.some (some_each t pages good) in
           λ part behind may is.
-          next_of t e rest.at pages found l.front l.last.points l.rest left.bytes.now mark none r l.points some (let n = l.count in omega (arith, n)) part behind (subst (λ (ps : List Part). MayFollow ps part) l.is may) is;
+          next_of t e rest.at pages found l.front l.last.points l.rest left.bytes.now mark none r l.points some (let n = l.count in omega (arith, n)) part behind (subst (λ (ps : List FilePart). MayFollow ps part) l.is may) is;
       unfinished = λ nil may. no_mark left.bytes.now mark nil;
     }
   where
@@ -146,12 +146,12 @@ none_later t e rest left found so_far mark none m = λ before are.
     both_of t [] a b = tt
     both_of t (p ∷ ps) a b = ((a.0, b.0), both_of t ps a.1 b.1)
 
-    next_of : (t : DataType) (e : Encoding) (place : ℕ) (pages : List Page) (found : Pages) (front last : List Point) (rest : List Part) (bytes : List ℕ) → BeginsWithMark 80 bytes → BeginsWithNone (page_bytes e) (AreLaterPoints t found) bytes
-        → ArePagesRead t e place pages found → points_of pages ≡ front ++ last → 0 < length last → 1 + page_count rest ≡ length pages
-        → (part : Part) (behind : List ℕ) → MayFollow (Part.Page t e last ∷ rest) part → bytes ≡ part_field part ++ behind → ⊥
-    next_of t e place pages found front last rest bytes mark none read split some count (Part.Group device) behind may is = other_part 80 71 bytes mark.0 (plain_text device ++ behind) (λ same. absurd (omega (arith, same))) mark.1 is
-    next_of t e place pages found front last rest bytes mark none read split some count (Part.Chunk name kind form) behind may is = other_part 80 67 bytes mark.0 _ (λ same. absurd (omega (arith, same))) mark.1 is
-    next_of t e place pages found front last rest bytes mark none read split some count (Part.Page kind form points) behind may is =
+    next_of : (t : DataType) (e : Encoding) (place : ℕ) (pages : List Page) (found : Pages) (front last : List Point) (rest : List FilePart) (bytes : List ℕ) → BeginsWithMark 80 bytes → BeginsWithNone (page_bytes e) (AreLaterPoints t found) bytes
+        → ArePagesRead t e place pages found → page_points pages ≡ front ++ last → 0 < length last → 1 + page_count rest ≡ length pages
+        → (part : FilePart) (behind : List ℕ) → MayFollow (FilePart.Page t e last ∷ rest) part → bytes ≡ part_field part ++ behind → ⊥
+    next_of t e place pages found front last rest bytes mark none read split some count (FilePart.Group device) behind may is = other_part 80 71 bytes mark.0 (plain_text device ++ behind) (λ same. absurd (omega (arith, same))) mark.1 is
+    next_of t e place pages found front last rest bytes mark none read split some count (FilePart.Chunk name kind form) behind may is = other_part 80 67 bytes mark.0 _ (λ same. absurd (omega (arith, same))) mark.1 is
+    next_of t e place pages found front last rest bytes mark none read split some count (FilePart.Page kind form points) behind may is =
         none points behind (later_points t pages found front last points (page_count rest) e place read split some count may.2 may.3 may.4) (is ∙ ap (λ (k : Encoding). page_bytes k points ++ behind) may.1)
 
 -- a part that cannot be read, where reading then stops

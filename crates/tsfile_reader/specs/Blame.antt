@@ -13,7 +13,7 @@ use Rattle.tsdb_pages.specs.Trees.{HasParts, IsBefore, IsGroup, IsMade, IsTree, 
 use Rattle.tsdb_path.specs.Nodes.{IsPath}
 use Rattle.tsfile_reader.specs.Meta.{IsMetaOf}
 use Rattle.tsfile_reader.specs.Outline.{HasOutline, IsBadOutline, between}
-use Rattle.tsfile_reader.specs.Parts.{AreParts, MayEnd, MayFollow, Part, part_field, parts_field}
+use Rattle.tsfile_reader.specs.Parts.{AreParts, MayEnd, MayFollow, FilePart, part_field, parts_field}
 
 -- the bytes between the head and the first leaf, which stands at this place
 abbrev pub data_in : ℕ → List ℕ → List ℕ
@@ -22,12 +22,12 @@ data_in place bytes = between (length head) place bytes
 -- From a place on these bytes begin with parts, each of which may stand behind those before it. Behind them, at this
 -- place, stands no part that may, nor may the parts end there.
 pub record IsFirstBadPart (from : ℕ) (bytes : List ℕ) (at : ℕ) : Type 0 where
-  pub parts : List Part
+  pub parts : List FilePart
   pub good : AreParts parts
   pub rest : List ℕ
   pub split : bytes ≡ parts_field parts ++ rest
   pub place : at ≡ from + length (parts_field parts)
-  pub next : (part : Part) (behind : List ℕ) → MayFollow parts part → rest ≡ part_field part ++ behind → ⊥
+  pub next : (part : FilePart) (behind : List ℕ) → MayFollow parts part → rest ≡ part_field part ++ behind → ⊥
   pub unfinished : rest ≡ [] → MayEnd parts → ⊥
 
 -- groups as a tree has them, of any number of chunks in all

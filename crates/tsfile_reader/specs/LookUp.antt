@@ -4,7 +4,7 @@ use Rattle.tsdb_index.specs.declared.index.IndexEntry.{IndexEntry}
 use Rattle.tsdb_index.specs.declared.pointer.Pointer.{Pointer}
 use Rattle.tsdb_index.specs.Entries.{names_of}
 use Rattle.tsdb_index.specs.Finding.{AreBehind, IsEntryFor, IsLeafFor}
-use Rattle.tsdb_index.specs.Parts.{IsLeaf, end_of}
+use Rattle.tsdb_index.specs.Parts.{IsLeaf, leaf_end}
 use Rattle.tsdb_pages.specs.declared.tree.Chunk.{Chunk}
 use Rattle.tsdb_pages.specs.declared.tree.Group.{Group}
 use Rattle.tsdb_pages.specs.declared.tree.Tree.{Tree}
@@ -13,7 +13,7 @@ use Rattle.tsfile_reader.specs.Page.{IsEntryOf}
 
 -- the bytes from a pointer's place to the next leaf or the root
 abbrev pub leaf_bytes : ℕ → Pointer → List Pointer → List ℕ → List ℕ
-leaf_bytes root pointer behind bytes = between pointer.place (end_of root behind) bytes
+leaf_bytes root pointer behind bytes = between pointer.place (leaf_end root behind) bytes
 
 -- The parts of the file that a look-up takes are as defined, and have this entry of the names.
 pub data IsLookedUp (bytes : List ℕ) (names : List ℕ × List ℕ) : Option IndexEntry → Type 0 where

@@ -3,7 +3,7 @@ use Rattle.std.specs.Prelude.{◌≡◌, ℕ, ◌-◌, ◌<◌, ◌≤◌, List,
 use Rattle.tsdb_base.specs.Fields.{number64}
 use Rattle.tsdb_index.specs.declared.index.IndexEntry.{IndexEntry}
 use Rattle.tsdb_index.specs.declared.pointer.Pointer.{Pointer}
-use Rattle.tsdb_index.specs.Faults.{IsRead}
+use Rattle.tsdb_index.specs.Faults.{IsIndexRead}
 use Rattle.tsdb_index.specs.Parts.{IsFirstBadLeaf, IsRoot}
 use Rattle.tsdb_pages.specs.File.{head, magic}
 
@@ -41,7 +41,7 @@ pub record HasRoot (bytes : List ℕ) (root place : ℕ) (pointers : List Pointe
 
 -- from the place of the first leaf to the tail stands an index with these entries
 abbrev pub HasIndex : List ℕ → ℕ → ℕ → List IndexEntry → Type 0
-HasIndex bytes root place entries = IsRead place root (between place (tail_place bytes) bytes) entries
+HasIndex bytes root place entries = IsIndexRead place root (between place (tail_place bytes) bytes) entries
 
 -- all of these parts are as defined
 pub record HasOutline (bytes : List ℕ) (root place : ℕ) (pointers : List Pointer)

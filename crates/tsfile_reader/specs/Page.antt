@@ -11,7 +11,7 @@ use Rattle.tsdb_pages.specs.declared.tree.Chunk.{Chunk}
 use Rattle.tsdb_pages.specs.declared.tree.Group.{Group}
 use Rattle.tsdb_pages.specs.declared.tree.Page.{Page}
 use Rattle.tsdb_pages.specs.declared.tree.Tree.{Tree}
-use Rattle.tsdb_pages.specs.File.{AreEntriesIn, IsEntry, page_bytes}
+use Rattle.tsdb_pages.specs.File.{AreEntriesIn, IsChunkEntry, page_bytes}
 use Rattle.tsdb_pages.specs.Pages.{ArePoints, IsInRange}
 
 -- points of a page of this type
@@ -50,12 +50,12 @@ pub record IsEntryOf (tree : Tree) (entry : IndexEntry) : Type 0 where
   pub there : Contains entries entry
 
 -- these are the points of the page with this number in the tree's chunk of which the entry speaks
-pub record ArePointsOf (tree : Tree) (entry : IndexEntry) (number : ℕ) (points : List Point) : Type 0 where
+pub record ArePagePoints (tree : Tree) (entry : IndexEntry) (number : ℕ) (points : List Point) : Type 0 where
   pub group : Group
   pub chunk : Chunk
   pub in_tree : Contains tree.groups group
   pub in_group : Contains group.chunks chunk
-  pub says : IsEntry group.device entry.place chunk entry
+  pub says : IsChunkEntry group.device entry.place chunk entry
   pub page : Page
   pub page_is : slice_get chunk.pages number ≡ Some page
   pub points_are : points ≡ page.points

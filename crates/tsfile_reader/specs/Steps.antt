@@ -17,10 +17,10 @@ use Rattle.tsdb_index.specs.Parts.{IsRoot}
 use Rattle.tsdb_index.specs.declared.marks.TheConstants.{PAGE}
 use Rattle.tsdb_pages.specs.declared.tree.Chunk.{Chunk}
 use Rattle.tsdb_pages.specs.declared.tree.Page.{Page}
-use Rattle.tsdb_pages.specs.File.{ArePageEntries, AreEntries, IsEntry, chunk_field, head, page_field}
+use Rattle.tsdb_pages.specs.File.{ArePageEntries, AreEntries, IsChunkEntry, chunk_field, head, page_field}
 use Rattle.tsdb_base.specs.Points.{IsRising}
 use Rattle.tsdb_pages.specs.Pages.{ArePoints, IsInRange}
-use Rattle.tsdb_pages.specs.Trees.{HasParts, IsBefore, IsChunk, points_of}
+use Rattle.tsdb_pages.specs.Trees.{HasParts, IsBefore, IsChunk, page_points}
 use Rattle.tsdb_path.specs.Nodes.{IsName}
 use Rattle.tsdb_stats.specs.Statistics.{AreStatsOf}
 use Rattle.tsfile_reader.specs.declared.fault.ReadFault.{ReadFault}
@@ -32,15 +32,15 @@ use Rattle.tsfile_reader.specs.declared.ends.Front.{Front}
 use Rattle.tsfile_reader.specs.Blame.{AreAlike}
 use Rattle.tsfile_reader.specs.Outline.{HasFront, HasHead, HasOutline, HasTail, least_length}
 use Rattle.tsfile_reader.specs.Page.{AreGood}
-use Rattle.tsfile_reader.specs.Parts.{AreParts, MayEnd, MayFollow, Part, part_field, parts_field}
+use Rattle.tsfile_reader.specs.Parts.{AreParts, MayEnd, MayFollow, FilePart, part_field, parts_field}
 
 -- the bytes begin with this one
 abbrev pub BeginsWithMark : ℕ → List ℕ → Type 0
 BeginsWithMark mark bytes = (fields : List ℕ) × (bytes ≡ mark ∷ fields)
 
 -- the part that the head of a chunk is
-abbrev pub chunk_part : ChunkHead → Part
-chunk_part head = Part.Chunk head.measurement head.data_type head.encoding
+abbrev pub chunk_part : ChunkHead → FilePart
+chunk_part head = FilePart.Chunk head.measurement head.data_type head.encoding
 
 -- a name, and an encoding that suits the type
 abbrev pub IsChunkHead : ChunkHead → Type 0
@@ -62,20 +62,20 @@ ReadsOrStops Is Stop (Err Failed) = ⊥
 ReadsOrStops Is Stop (Err Memory) = Unit {0}
 
 -- Behind these parts more stand in what is left, up to this place, and there stands none that may, nor may they end.
-pub record StopsAt (before : List Part) (left : Rest) (at : ℕ) : Type 0 where
-  pub parts : List Part
+pub record StopsAt (before : List FilePart) (left : Rest) (at : ℕ) : Type 0 where
+  pub parts : List FilePart
   pub good : AreParts parts
   pub text : List ℕ
   pub grown : parts_field parts ≡ parts_field before ++ text
   pub rest : List ℕ
   pub split : left.bytes.now ≡ text ++ rest
   pub place : at ≡ left.at + length text
-  pub next : (part : Part) (behind : List ℕ) → MayFollow parts part → rest ≡ part_field part ++ behind → ⊥
+  pub next : (part : FilePart) (behind : List ℕ) → MayFollow parts part → rest ≡ part_field part ++ behind → ⊥
   pub unfinished : rest ≡ [] → MayEnd parts → ⊥
 
 -- behind a part after any others, reading stops at this place
-abbrev pub StopsBehind : Part → Rest → ℕ → Type 0
-StopsBehind part left at = (before : List Part) → AreParts (part ∷ before) → StopsAt (part ∷ before) left at
+abbrev pub StopsBehind : FilePart → Rest → ℕ → Type 0
+StopsBehind part left at = (before : List FilePart) → AreParts (part ∷ before) → StopsAt (part ∷ before) left at
 
 -- this is read of pages of one chunk, of which the first stands at this place
 pub record ArePagesRead (data_type : DataType) (encoding : Encoding) (place : ℕ) (pages : List Page) (found : Pages)
@@ -83,9 +83,9 @@ pub record ArePagesRead (data_type : DataType) (encoding : Encoding) (place : �
   pub some : 0 < length pages
   pub few : length pages ≤ max_pages
   pub good : All (λ page. ArePoints data_type page.points) pages
-  pub ranges : All IsInRange (points_of pages)
-  pub rising : IsRising (points_of pages)
-  pub stats : AreStatsOf (points_of pages) found.stats
+  pub ranges : All IsInRange (page_points pages)
+  pub rising : IsRising (page_points pages)
+  pub stats : AreStatsOf (page_points pages) found.stats
   pub say : ArePageEntries encoding place pages found.entries.items
 
 -- points of a page that may stand behind these pages
@@ -114,7 +114,7 @@ pub record ReadsChunk (device : List ℕ) (head : ChunkHead) (place : ℕ) (left
   pub encoding_is : chunk.encoding ≡ head.encoding
   pub good : IsChunk chunk
   pub parts : HasParts chunk
-  pub say : IsEntry device place chunk entry
+  pub say : IsChunkEntry device place chunk entry
   pub takes : TakesBytes left (flat_map (page_field chunk.encoding) chunk.pages) behind
   pub ends : BeginsWithMark PAGE behind.bytes.now → ⊥
 
@@ -135,7 +135,7 @@ pub record ReadsChunks (device : List ℕ) (left behind : Rest) (entries : List 
   pub no_chunk : BeginsWithMark 67 behind.bytes.now → ⊥
 
 -- the file has this length, tail and head
-pub record HasEnds (bytes : List ℕ) (ends : Ends) : Type 0 where
+pub record HasFileEnds (bytes : List ℕ) (ends : Ends) : Type 0 where
   pub size : ends.size ≡ length bytes
   pub long : least_length ≤ length bytes
   pub tail : HasTail bytes ends.root

@@ -4,7 +4,7 @@ ghost use Rattle.std.specs.Prelude.{◌≡◌, ◌<◌, ◌≤◌, ◌^◌, List
 ghost use Rattle.tsdb_index.specs.declared.index.IndexEntry.{IndexEntry as Entry};
 ghost use Rattle.tsdb_index.specs.Entries.{AreInOrder, IsEntry, names_of};
 ghost use Rattle.tsdb_path.specs.Order.{AreNamesBefore};
-ghost use Rattle.tsdb_index.specs.Parts.{IsLeaf, end_of as leaf_end};
+ghost use Rattle.tsdb_index.specs.Parts.{IsLeaf, leaf_end};
 ghost use Rattle.tsdb_pages.specs.declared.tree.Tree.{Tree as TreeIn};
 ghost use Rattle.tsdb_pages.specs.File.{IsFile};
 ghost use Rattle.tsdb_pages.specs.Trees.{IsMade, IsTree};

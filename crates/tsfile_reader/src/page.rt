@@ -6,7 +6,7 @@ ghost use Rattle.tsdb_fields.specs.Reading.{ReadsParts, TakesBytes};
 ghost use Rattle.tsdb_path.specs.Nodes.{IsPath};
 ghost use Rattle.tsdb_pages.specs.File.{page_bytes};
 ghost use Rattle.tsfile_reader.specs.Page.{AreGood};
-ghost use Rattle.tsfile_reader.specs.Parts.{Part, part_field};
+ghost use Rattle.tsfile_reader.specs.Parts.{FilePart, part_field};
 ghost use Rattle.tsfile_reader.specs.Steps.{BeginsWithMark, IsBodySize, IsChunkHead, body_bytes, chunk_part};
 
 use std::alloc::Global;
@@ -25,7 +25,7 @@ pub struct ChunkHead {
 }
 
 /// Whether the bytes that are left begin with the mark.
-pub fn begins_with(mark: u8, rest: Rest<'_>) -> bool
+pub fn begins_with_mark(mark: u8, rest: Rest<'_>) -> bool
     ensures { IsTrue result ↔ BeginsWithMark mark rest.entry.bytes.now }
 {
     match rest.bytes {
@@ -53,7 +53,7 @@ fn behind_mark(mark: u8, rest: Rest<'_>) -> Option<Rest<'_>>
 
 /// Reads what stands in a group before its chunks.
 pub fn read_group_head<'a>(alloc: Global, rest: Rest<'a>) -> Result<(Path, Rest<'a>), FieldFault>
-    ensures parts { ReadsParts (λ device. part_field (Part.Group device)) IsPath rest.entry (λ device. device) result }
+    ensures parts { ReadsParts (λ device. part_field (FilePart.Group device)) IsPath rest.entry (λ device. device) result }
 {
     let Some(fields) = behind_mark(GROUP, rest) else {
         return Err(FieldFault::Bad { at: rest.at });

@@ -13,12 +13,14 @@ ghost use Rattle.tsdb_path.specs.Nodes.{IsPath};
 ghost use Rattle.tsdb_pages.specs.Trees.{IsBefore};
 ghost use Rattle.tsfile_reader.specs.Blame.{HasGroups, IsFirstBadPart};
 ghost use Rattle.tsfile_reader.specs.Page.{AreGood};
-ghost use Rattle.tsfile_reader.specs.Parts.{Part, part_field};
+ghost use Rattle.tsfile_reader.specs.Parts.{FilePart, part_field};
 ghost use Rattle.tsfile_reader.specs.Steps.{AreLaterPoints, ArePagesRead, IsChunkHead, IsLaterHead, chunk_part};
 ghost use Rattle.tsfile_reader.specs.Steps.{ReadsChunk, ReadsChunks, ReadsOrStops, ReadsPages, StopsBehind};
 
 use crate::fault::ReadFault;
-use crate::page::{ChunkHead, begins_with, read_chunk_head, read_group_head, read_marked_page};
+use crate::page::{
+    ChunkHead, begins_with_mark, read_chunk_head, read_group_head, read_marked_page,
+};
 use std::alloc::Global;
 use tsdb_base::limits::MAX_PAGES;
 use tsdb_base::{DataType, Encoding, List, Memory, Point, Stats};
@@ -95,7 +97,7 @@ fn read_pages<'a>(
 ) -> Result<(Pages, Rest<'a>), ReadFault>
     requires suits { is_suitable data_type encoding ≡ true }
     ensures { ReadsOrStops (λ r. ReadsPages data_type encoding rest.entry r.1 r.0)
-        (λ at. (measurement : List ℕ) → StopsBehind (Part.Chunk measurement data_type encoding) rest.entry at) result }
+        (λ at. (measurement : List ℕ) → StopsBehind (FilePart.Chunk measurement data_type encoding) rest.entry at) result }
 {
     let (points, behind) = match read_marked_page(alloc, data_type, encoding, rest) {
         Ok(read) => read,
@@ -103,7 +105,7 @@ fn read_pages<'a>(
     };
     let mut pages = first_page(alloc, rest.at, &points)?;
     let mut left = behind;
-    'pages: while begins_with(PAGE, left) {
+    'pages: while begins_with_mark(PAGE, left) {
         match read_next_page(alloc, data_type, encoding, &pages, left) {
             Ok((points, behind)) => {
                 add_page(left.at, &points, &mut pages)?;
@@ -164,7 +166,7 @@ fn read_chunks<'a>(
     rest: Rest<'a>,
 ) -> Result<(Vec<IndexEntry>, Rest<'a>), ReadFault>
     ensures { ReadsOrStops (λ r. ReadsChunks device.now rest.entry r.1 r.0.items)
-        (StopsBehind (Part.Group device.now) rest.entry) result }
+        (StopsBehind (FilePart.Group device.now) rest.entry) result }
 {
     let (head, behind) = match read_chunk_head(alloc, rest) {
         Ok(read) => read,
@@ -173,7 +175,7 @@ fn read_chunks<'a>(
     let (entry, behind) = read_chunk(alloc, device, head, rest.at, behind)?;
     let mut entries = vec![in alloc; entry]?;
     let mut left = behind;
-    'chunks: while begins_with(CHUNK, left) {
+    'chunks: while begins_with_mark(CHUNK, left) {
         let last = &entries[entries.len() - 1].measurement;
         let (head, behind) = match read_next_head(alloc, last, left) {
             Ok(read) => read,
@@ -192,7 +194,7 @@ fn read_next_group<'a>(
     last: &Path,
     rest: Rest<'a>,
 ) -> Result<(Path, Rest<'a>), FieldFault>
-    ensures parts { ReadsParts (λ device. part_field (Part.Group device))
+    ensures parts { ReadsParts (λ device. part_field (FilePart.Group device))
         (λ device. IsPath device × IsBefore last.now device) rest.entry (λ device. device) result }
 {
     let (device, behind) = read_group_head(alloc, rest)?;

@@ -4,7 +4,7 @@ ghost use Rattle.std.specs.Prelude.{◌≡◌, ℕ, ◌+◌, ◌-◌, ◌<◌, �
 ghost use Rattle.std.specs.Option.{ForSome};
 ghost use Rattle.tsfile_reader.specs.Answers.{Answers, HasReadCause, IfDamaged, IsNotDamaged};
 ghost use Rattle.tsfile_reader.specs.Outline.{IsBadFront, IsBadOutline};
-ghost use Rattle.tsfile_reader.specs.Steps.{HasEnds, HasSomeRoot, IsFrontIn, IsOutlineIn};
+ghost use Rattle.tsfile_reader.specs.Steps.{HasFileEnds, HasSomeRoot, IsFrontIn, IsOutlineIn};
 
 use crate::ends::{Ends, Front, Outline};
 use crate::fault::ReadFault;
@@ -39,7 +39,7 @@ pub fn read_part<P: Port>(
 /// Reads the tail and the head.
 fn read_ends<P: Port>(alloc: Global, port: &mut P, right: &P::Right) -> Result<Ends, ReadFault>
     requires store { (P.Right.file right.now).store ≡ P.store port.old }
-    ensures answers { Answers HasEnds IsBadFront (P.Right.file right.now).bytes result }
+    ensures answers { Answers HasFileEnds IsBadFront (P.Right.file right.now).bytes result }
     ensures limit { IfDamaged result (λ at. IfSome (P.Right.file right.now).bytes (λ bytes. length bytes < 2 ^ 63)) }
     ensures same_store { P.store port.new ≡ P.store port.old }
     ensures cause { HasReadCause (P.faults port.old) (P.faults port.new) result }
@@ -67,7 +67,7 @@ fn read_root<P: Port>(
     right: &P::Right,
     ends: Ends,
 ) -> Result<Front, ReadFault>
-    requires ends { IfSome (P.Right.file right.now).bytes (λ bytes. HasEnds bytes ends) }
+    requires ends { IfSome (P.Right.file right.now).bytes (λ bytes. HasFileEnds bytes ends) }
     requires store { (P.Right.file right.now).store ≡ P.store port.old }
     ensures answers { Answers IsFrontIn IsBadFront (P.Right.file right.now).bytes result }
     ensures root { IfOk result HasSomeRoot }

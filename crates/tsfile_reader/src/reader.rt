@@ -11,7 +11,7 @@ ghost use Rattle.tsfile_reader.specs.Answers.{Answers, HasReadCause, IfDamaged, 
 ghost use Rattle.tsfile_reader.specs.Blame.{AreAlike, IsBlamed, IsMetaOfTree, IsNoFile};
 ghost use Rattle.tsfile_reader.specs.Meta.{IsMetaIn, IsMetaOf};
 ghost use Rattle.tsfile_reader.specs.Outline.{IsBadOutline};
-ghost use Rattle.tsfile_reader.specs.Page.{AreGood, ArePointsOf, HasNoPage, HasPage, IsEntryOf, LieIn, SaysOfPage};
+ghost use Rattle.tsfile_reader.specs.Page.{AreGood, ArePagePoints, HasNoPage, HasPage, IsEntryOf, LieIn, SaysOfPage};
 ghost use Rattle.tsfile_reader.specs.Steps.{HasPageBytes, IsFirstWrong, SaysSize};
 
 use crate::ends::Outline;
@@ -187,7 +187,7 @@ pub fn read_points<P: Port>(
         (said : Said) → SaysOfPage entry.now page said → HasNoPage bytes entry.now said)) }
     ensures tree { IfSome (P.Right.file right.now).bytes (λ bytes. (tree : TreeIn) → IsTree tree → IsMade tree
         → IsFile tree bytes → IsEntryOf tree entry.now
-        → IsNotDamaged result × IfOk result (λ points. ArePointsOf tree entry.now page points.items)) }
+        → IsNotDamaged result × IfOk result (λ points. ArePagePoints tree entry.now page points.items)) }
     ensures same_store { P.store port.new ≡ P.store port.old }
     ensures cause { HasReadCause (P.faults port.old) (P.faults port.new) result }
 {

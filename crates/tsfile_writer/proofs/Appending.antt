@@ -15,12 +15,12 @@ use Rattle.tsdb_pages.specs.declared.tree.Page.{Page}
 use Rattle.tsdb_pages.specs.declared.tree.Chunk.{Chunk}
 use Rattle.tsdb_pages.specs.declared.tree.Group.{Group}
 use Rattle.tsdb_pages.specs.declared.tree.Tree.{Tree}
-use Rattle.tsdb_pages.specs.File.{AreEntries, ArePageEntries, IsEntry, IsFile, IsPageEntry, chunk_field, chunk_start, group_field, group_head, group_start, head, magic, page_bytes, page_field}
-use Rattle.tsdb_pages.specs.Trees.{IsGroup, chunks_of, points_of}
+use Rattle.tsdb_pages.specs.File.{AreEntries, ArePageEntries, IsChunkEntry, IsFile, IsPageEntry, chunk_field, chunk_start, group_field, group_head, group_start, head, magic, page_bytes, page_field}
+use Rattle.tsdb_pages.specs.Trees.{IsGroup, chunks_of, page_points}
 use Rattle.tsdb_pages.proofs.Entries.{chunks_push, count_all, flat_push, groups_push, pages_push}
 use Rattle.tsdb_stats.specs.Statistics.{AreStatsOf}
 use Rattle.tsfile_writer.specs.declared.layout.OpenChunk.{OpenChunk}
-use Rattle.tsfile_writer.specs.Steps.{AreChunks, AreGroups, ArePages, IsBegun, IsLonger, SameChunk}
+use Rattle.tsfile_writer.specs.Steps.{AreChunks, AreGroupsWritten, ArePages, IsChunkBegun, IsLonger, SameChunk}
 
 -- the items that a loop has taken, and the next
 pub more_taken : {A : Type 0} (front items others : List A) (i : ℕ) (item : A) → others ≡ items → i < length others → item ≡ get_or others i item → (front ++ take i items) ++ item ∷ [] ≡ front ++ take (i + 1) items
@@ -52,7 +52,7 @@ always_on_err (Err e) is = is
 
 -- ---- how many
 
-pub count_entries : (groups : List Group) (bytes : List ℕ) (entries : List IndexEntry) → AreGroups groups bytes entries → length entries ≡ length (chunks_of groups)
+pub count_entries : (groups : List Group) (bytes : List ℕ) (entries : List IndexEntry) → AreGroupsWritten groups bytes entries → length entries ≡ length (chunks_of groups)
 count_entries groups bytes entries layout = sym (ap length layout.all) ∙ count_all (length head) groups layout.by_group layout.say
 
 -- a tree has a chunk
@@ -63,15 +63,15 @@ some_chunk (g ∷ gs) some good =
     let m : length (g.chunks ++ chunks_of gs) ≡ length g.chunks + length (chunks_of gs) = length-append g.chunks (chunks_of gs) in
     omega (arith, here, m)
 
-pub some_entry : (groups : List Group) (bytes : List ℕ) (entries : List IndexEntry) → AreGroups groups bytes entries → 0 < length groups → All IsGroup groups → 0 < length entries
+pub some_entry : (groups : List Group) (bytes : List ℕ) (entries : List IndexEntry) → AreGroupsWritten groups bytes entries → 0 < length groups → All IsGroup groups → 0 < length entries
 some_entry groups bytes entries layout some good = subst (λ n. 0 < n) (sym (count_entries groups bytes entries layout)) (some_chunk groups some good)
 
 -- ---- the steps
 
-pub no_groups : (bytes : List ℕ) (entries : List IndexEntry) → bytes ≡ head → entries ≡ [] → AreGroups [] bytes entries
+pub no_groups : (bytes : List ℕ) (entries : List IndexEntry) → bytes ≡ head → entries ≡ [] → AreGroupsWritten [] bytes entries
 no_groups bytes entries is none = record { bytes_are = is ∙ sym (append-nil head); by_group = []; all = sym none; say = tt }
 
-pub group_begun : (groups : List Group) (device : List ℕ) (old new : List ℕ) (entries : List IndexEntry) → AreGroups groups old entries → new ≡ old ++ group_start device → AreChunks groups device [] new entries
+pub group_begun : (groups : List Group) (device : List ℕ) (old new : List ℕ) (entries : List IndexEntry) → AreGroupsWritten groups old entries → new ≡ old ++ group_start device → AreChunks groups device [] new entries
 group_begun groups device old new entries layout added = record {
   bytes_before = old;
   entries_before = entries;
@@ -83,7 +83,7 @@ group_begun groups device old new entries layout added = record {
 }
 
 pub chunk_begun : (groups : List Group) (device : List ℕ) (chunks : List Chunk) (measurement : List ℕ) (data_type : DataType) (encoding : Encoding) (page : Page) (points : List Point) (old new : List ℕ) (entries : List IndexEntry) (chunk : OpenChunk)
-    → AreChunks groups device chunks old entries → page.points ≡ points → new ≡ old ++ (chunk_start measurement data_type encoding ++ page_bytes encoding points) → IsBegun (length old) (length (chunk_start measurement data_type encoding)) points chunk
+    → AreChunks groups device chunks old entries → page.points ≡ points → new ≡ old ++ (chunk_start measurement data_type encoding ++ page_bytes encoding points) → IsChunkBegun (length old) (length (chunk_start measurement data_type encoding)) points chunk
     → ArePages groups device chunks measurement data_type encoding (page ∷ []) new entries chunk
 chunk_begun groups device chunks measurement data_type encoding page points old new entries chunk layout same added begun = record {
   bytes_before = old;
@@ -128,7 +128,7 @@ page_added groups device chunks measurement data_type encoding pages page points
           ∙ ap (λ (l : List ℕ). layout.bytes_before ++ (start ++ l)) (sym (flat_push (page_field encoding) pages page));
       is = record {
         place_is = longer.place_is ∙ layout.is.place_is;
-        stats = subst (λ (p : List Point). AreStatsOf p new.stats) (ap (λ (p : List Point). points_of pages ++ p) (sym same) ∙ sym (flat_push (λ (p : Page). p.points) pages page)) (longer.stats (points_of pages) layout.is.stats);
+        stats = subst (λ (p : List Point). AreStatsOf p new.stats) (ap (λ (p : List Point). page_points pages ++ p) (sym same) ∙ sym (flat_push (λ (p : Page). p.points) pages page)) (longer.stats (page_points pages) layout.is.stats);
         say = subst (λ (l : List PageEntry). ArePageEntries encoding (length layout.bytes_before + length (chunk_start measurement data_type encoding)) (pages ++ page ∷ []) l) (sym longer.pages_are)
             (pages_push encoding first pages old.pages.items page longer.entry layout.is.say here);
       };
@@ -143,7 +143,7 @@ same_pages groups device chunks measurement data_type encoding pages before afte
   bytes_are = same ∙ layout.bytes_are;
   is = record {
     place_is = same_chunk.place_is ∙ layout.is.place_is;
-    stats = subst (AreStatsOf (points_of pages)) (sym same_chunk.stats) layout.is.stats;
+    stats = subst (AreStatsOf (page_points pages)) (sym same_chunk.stats) layout.is.stats;
     say = subst (λ (l : List PageEntry). ArePageEntries encoding (length layout.bytes_before + length (chunk_start measurement data_type encoding)) pages l) (sym same_chunk.pages_are) layout.is.say;
   };
 }
@@ -165,13 +165,13 @@ chunk_ended groups device chunks chunk bytes before after open_chunk entry layou
     let start = chunk_start chunk.measurement chunk.data_type chunk.encoding in
     let chunk_fields = flat_map chunk_field chunks in
     let place : length layout.bytes_before ≡ length layout.before.bytes_before + length (group_start device) + length (flat_map chunk_field chunks) = place_behind layout.bytes_before layout.before.bytes_before (group_start device) chunk_fields layout.before.bytes_are in
-    let here : IsEntry device (length layout.bytes_before) chunk entry = record {
+    let here : IsChunkEntry device (length layout.bytes_before) chunk entry = record {
       device_is = is.device_is;
       measurement_is = is.measurement_is;
       type_is = is.type_is;
       encoding_is = is.encoding_is;
       place_is = is.place_is ∙ layout.is.place_is;
-      stats = subst (AreStatsOf (points_of chunk.pages)) (sym is.stats) layout.is.stats;
+      stats = subst (AreStatsOf (page_points chunk.pages)) (sym is.stats) layout.is.stats;
       pages = subst (λ (l : List PageEntry). ArePageEntries chunk.encoding (length layout.bytes_before + length (chunk_start chunk.measurement chunk.data_type chunk.encoding)) chunk.pages l) (sym is.pages_are) layout.is.say;
     }
     in
@@ -183,10 +183,10 @@ chunk_ended groups device chunks chunk bytes before after open_chunk entry layou
           ∙ ap (λ (l : List ℕ). layout.before.bytes_before ++ (group_start device ++ l)) (sym (flat_push chunk_field chunks chunk));
       own = layout.before.own ++ entry ∷ [];
       all = added ∙ ap (λ (l : List IndexEntry). l ++ entry ∷ []) layout.before.all ∙ append_assoc layout.before.entries_before layout.before.own (entry ∷ []);
-      say = chunks_push device (length layout.before.bytes_before + length (group_start device)) chunks layout.before.own chunk entry layout.before.say (subst (λ n. IsEntry device n chunk entry) place here);
+      say = chunks_push device (length layout.before.bytes_before + length (group_start device)) chunks layout.before.own chunk entry layout.before.say (subst (λ n. IsChunkEntry device n chunk entry) place here);
     }
 
-pub group_ended : (groups : List Group) (group : Group) (bytes : List ℕ) (entries : List IndexEntry) → AreChunks groups group.device group.chunks bytes entries → AreGroups (groups ++ group ∷ []) bytes entries
+pub group_ended : (groups : List Group) (group : Group) (bytes : List ℕ) (entries : List IndexEntry) → AreChunks groups group.device group.chunks bytes entries → AreGroupsWritten (groups ++ group ∷ []) bytes entries
 group_ended groups group bytes entries layout =
     let place : length layout.bytes_before ≡ length head + length (flat_map group_field groups) = ap length layout.before.bytes_are ∙ length-append head (flat_map group_field groups) in
     record {
@@ -198,13 +198,13 @@ group_ended groups group bytes entries layout =
     }
 
 -- index and tail behind the groups of a tree make its file
-pub file_made : (tree : Tree) (bytes file index_bytes : List ℕ) (root : ℕ) (entries : List IndexEntry) → AreGroups tree.groups bytes entries → index.IsSpelling (length bytes) root entries index_bytes
+pub file_made : (tree : Tree) (bytes file index_bytes : List ℕ) (root : ℕ) (entries : List IndexEntry) → AreGroupsWritten tree.groups bytes entries → index.IsIndexSpelling (length bytes) root entries index_bytes
     → file ≡ bytes ++ index_bytes ++ number64 root ++ magic → IsFile tree file
 file_made tree bytes file index_bytes root entries layout index_is is = record {
   entries = entries;
   root = root;
   index_bytes = index_bytes;
   say = record { by_group = layout.by_group; all = layout.all; say = layout.say };
-  index_is = subst (λ (l : List ℕ). index.IsSpelling (length l) root entries index_bytes) layout.bytes_are index_is;
+  index_is = subst (λ (l : List ℕ). index.IsIndexSpelling (length l) root entries index_bytes) layout.bytes_are index_is;
   bytes_are = is ∙ ap (λ (l : List ℕ). l ++ index_bytes ++ number64 root ++ magic) layout.bytes_are;
 }

@@ -17,7 +17,7 @@ use Rattle.tsdb_path.specs.Nodes.{IsPath, device_of, measurement_of, node_count}
 use Rattle.tsdb_path.proofs.Parts.{IsName-measurement_of, IsPath-device_of}
 use Rattle.tsdb_index.specs.declared.index.IndexEntry.{IndexEntry}
 use Rattle.tsdb_path.specs.Order.{AreNamesBefore}
-use Rattle.tsdb_index.specs.Spelling.{IsSpelling}
+use Rattle.tsdb_index.specs.Spelling.{IsIndexSpelling}
 use Rattle.tsdb_pages.specs.declared.tree.Page.{Page}
 use Rattle.tsdb_pages.specs.declared.tree.Chunk.{Chunk}
 use Rattle.tsdb_pages.specs.declared.tree.Group.{Group}
@@ -25,10 +25,10 @@ use Rattle.tsdb_pages.specs.declared.tree.Tree.{Tree}
 use Rattle.tsdb_pages.specs.File.{IsFile, group_start, head, magic}
 use Rattle.tsdb_base.specs.Points.{IsRising}
 use Rattle.tsdb_pages.specs.Pages.{ArePoints, IsInRange}
-use Rattle.tsdb_pages.specs.Trees.{IsBefore, IsChunk, IsGroup, IsMade, chunks_of, points_of}
+use Rattle.tsdb_pages.specs.Trees.{IsBefore, IsChunk, IsGroup, IsMade, chunks_of, page_points}
 use Rattle.tsfile_writer.specs.declared.layout.OpenChunk.{OpenChunk}
-use Rattle.tsfile_writer.specs.Given.{AreChunksOf, IsChunkOf, IsMadeSeries, IsTreeOf, MayBeFollowedBy, Series, placed, series_at}
-use Rattle.tsfile_writer.specs.Steps.{AreChunks, AreGroups, start_if}
+use Rattle.tsfile_writer.specs.Given.{AreChunksOf, IsChunkOf, IsMadeSeries, IsTreeOf, MayBeFollowedBy, GivenSeries, placed, given_series}
+use Rattle.tsfile_writer.specs.Steps.{AreChunks, AreGroupsWritten, start_if}
 use Rattle.tsfile_writer.specs.Building.{AreClosed, AreGrouped, BeginsGroup, BuildState, IsOpenOf, PutsIn}
 use Rattle.tsdb_pages.proofs.Entries.{flat_push}
 use Rattle.tsfile_writer.proofs.Appending.{IsEntryOf, chunk_ended, count_entries, file_made, group_begun, group_ended, no_groups}
@@ -44,11 +44,11 @@ abbrev chunk_of : List ℕ → DataType → Encoding → List Page → Chunk
 chunk_of path data_type encoding pages = record { measurement = measurement_of path; data_type = data_type; encoding = encoding; pages = pages }
 
 -- the points of all pages, with those that waited
-all_points : (series : Series) (pages : List Page) (page : Page) (path : List ℕ) (data_type : DataType) (encoding : Encoding) (points : List Point) → IsOpenOf series pages path data_type encoding points → page.points ≡ points → points_of (pages ++ page ∷ []) ≡ series.points
+all_points : (series : GivenSeries) (pages : List Page) (page : Page) (path : List ℕ) (data_type : DataType) (encoding : Encoding) (points : List Point) → IsOpenOf series pages path data_type encoding points → page.points ≡ points → page_points (pages ++ page ∷ []) ≡ series.points
 all_points series pages page path data_type encoding points is same =
-    flat_push (λ (p : Page). p.points) pages page ∙ ap (λ (ps : List Point). points_of pages ++ ps) same ∙ sym is.points_are
+    flat_push (λ (p : Page). p.points) pages page ∙ ap (λ (ps : List Point). page_points pages ++ ps) same ∙ sym is.points_are
 
-is_chunk : (series : Series) (pages : List Page) (page : Page) (path : List ℕ) (data_type : DataType) (encoding : Encoding) (points : List Point)
+is_chunk : (series : GivenSeries) (pages : List Page) (page : Page) (path : List ℕ) (data_type : DataType) (encoding : Encoding) (points : List Point)
     → IsOpenOf series pages path data_type encoding points → 0 < length points → page.points ≡ points → length (pages ++ page ∷ []) ≤ max_pages → IsChunk (chunk_of path data_type encoding (pages ++ page ∷ []))
 is_chunk series pages page path data_type encoding points is some same few =
     let n = length-append pages (page ∷ []) in
@@ -60,7 +60,7 @@ is_chunk series pages page path data_type encoding points is some same few =
       rising = subst IsRising (sym (all_points series pages page path data_type encoding points is same)) is.rising;
     }
 
-is_chunk_of : (series : Series) (pages : List Page) (page : Page) (path : List ℕ) (data_type : DataType) (encoding : Encoding) (points : List Point)
+is_chunk_of : (series : GivenSeries) (pages : List Page) (page : Page) (path : List ℕ) (data_type : DataType) (encoding : Encoding) (points : List Point)
     → IsOpenOf series pages path data_type encoding points → 0 < length points → page.points ≡ points → IsChunkOf series (chunk_of path data_type encoding (pages ++ page ∷ []))
 is_chunk_of series pages page path data_type encoding points is some same = record {
   measurement_is = sym is.measurement_is;
@@ -70,7 +70,7 @@ is_chunk_of series pages page path data_type encoding points is some same = reco
   points_are = all_points series pages page path data_type encoding points is same;
 }
 
-pub series_closed : (given : List Series) (page : Page) (old new : List ℕ) (before after : List IndexEntry) (path : List ℕ) (data_type : DataType) (encoding : Encoding) (chunk : Option OpenChunk) (whole : OpenChunk) (points : List Point) (entry : IndexEntry)
+pub series_closed : (given : List GivenSeries) (page : Page) (old new : List ℕ) (before after : List IndexEntry) (path : List ℕ) (data_type : DataType) (encoding : Encoding) (chunk : Option OpenChunk) (whole : OpenChunk) (points : List Point) (entry : IndexEntry)
     → BuildState given old before path data_type encoding chunk points → 0 < length points → page.points ≡ points → PutsIn path data_type encoding points before old new chunk (Some whole)
     → IsEntryOf (device_of path) (measurement_of path) data_type encoding whole entry → after ≡ before ++ entry ∷ [] → length before < max_entries → AreClosed given (device_of path) (measurement_of path) new after
 series_closed given page old new before after path data_type encoding chunk whole points entry state some same puts is added room =
@@ -85,7 +85,7 @@ series_closed given page old new before after path data_type encoding chunk whol
       groups = state.groups;
       chunks = state.chunks ++ last ∷ [];
       grouped = record {
-        of = subst (λ (s : List Series). AreChunksOf s (placed state.groups ++ map (λ (c : Chunk). (device, c)) (state.chunks ++ last ∷ []))) (sym state.all)
+        of = subst (λ (s : List GivenSeries). AreChunksOf s (placed state.groups ++ map (λ (c : Chunk). (device, c)) (state.chunks ++ last ∷ []))) (sym state.all)
             (subst (AreChunksOf (state.front ++ state.last ∷ []))
             (append_assoc (placed state.groups) (map (λ (c : Chunk). (device, c)) state.chunks) ((device, last) ∷ []) ∙ ap (λ (l : List (List ℕ × Chunk)). placed state.groups ++ l) (sym (one_group device state.chunks last)))
             (chunks_of_push state.front (placed state.groups ++ map (λ (c : Chunk). (device, c)) state.chunks) state.last device last state.grouped.of (sym state.is.device_is)
@@ -113,15 +113,15 @@ abbrev group_of : List ℕ → List Chunk → Group
 group_of device chunks = record { device = device; chunks = chunks }
 
 -- all groups, the last of this device
-record AreAll (given : List Series) (device : List ℕ) (bytes : List ℕ) (entries : List IndexEntry) (groups : List Group) : Type 0 where
+record AreAll (given : List GivenSeries) (device : List ℕ) (bytes : List ℕ) (entries : List IndexEntry) (groups : List Group) : Type 0 where
   of : AreChunksOf given (placed groups)
   some : 0 < length groups
   good : All IsGroup groups
   rising : AllPairs (λ a b. IsBefore a.device b.device) groups
   before : (next : List ℕ) → IsBefore device next → All (λ group. IsBefore group.device next) groups
-  layout : AreGroups groups bytes entries
+  layout : AreGroupsWritten groups bytes entries
 
-all_groups : (given : List Series) (device measurement : List ℕ) (bytes : List ℕ) (entries : List IndexEntry) (closed : AreClosed given device measurement bytes entries)
+all_groups : (given : List GivenSeries) (device measurement : List ℕ) (bytes : List ℕ) (entries : List IndexEntry) (closed : AreClosed given device measurement bytes entries)
     → AreAll given device bytes entries (closed.groups ++ group_of device closed.chunks ∷ [])
 all_groups given device measurement bytes entries closed =
     let group = group_of device closed.chunks in
@@ -138,7 +138,7 @@ all_groups given device measurement bytes entries closed =
 
 -- ---- a series begins
 
-begun : (path : List ℕ) (data_type : DataType) (encoding : Encoding) → 2 ≤ node_count path → is_suitable data_type encoding ≡ true → IsOpenOf (series_at path data_type encoding) [] path data_type encoding []
+begun : (path : List ℕ) (data_type : DataType) (encoding : Encoding) → 2 ≤ node_count path → is_suitable data_type encoding ≡ true → IsOpenOf (given_series path data_type encoding) [] path data_type encoding []
 begun path data_type encoding nodes suits = record {
   nodes = nodes;
   device_is = refl;
@@ -157,7 +157,7 @@ begun path data_type encoding nodes suits = record {
 }
 
 -- a series that is begun is as its types say, where its path is one
-made_begun : (path : List ℕ) (data_type : DataType) (encoding : Encoding) → 2 ≤ node_count path → IsPath path → IsMadeSeries (series_at path data_type encoding)
+made_begun : (path : List ℕ) (data_type : DataType) (encoding : Encoding) → 2 ≤ node_count path → IsPath path → IsMadeSeries (given_series path data_type encoding)
 made_begun path data_type encoding nodes path_is = record {
   device = IsPath-device_of path path_is nodes;
   measurement = IsName-measurement_of path path_is nodes;
@@ -174,10 +174,10 @@ not_itself a less =
     absurd cc
 
 pub first_begun : (bytes : List ℕ) (entries : List IndexEntry) (path : List ℕ) (data_type : DataType) (encoding : Encoding) → bytes ≡ head → entries ≡ [] → 2 ≤ node_count path → is_suitable data_type encoding ≡ true → IsPath path
-    → BuildState (series_at path data_type encoding ∷ []) bytes entries path data_type encoding None []
+    → BuildState (given_series path data_type encoding ∷ []) bytes entries path data_type encoding None []
 first_begun bytes entries path data_type encoding is none nodes suits path_is = record {
   front = [];
-  last = series_at path data_type encoding;
+  last = given_series path data_type encoding;
   all = refl;
   pages = [];
   is = begun path data_type encoding nodes suits;
@@ -194,7 +194,7 @@ first_begun bytes entries path data_type encoding is none nodes suits path_is = 
   chunks_before = All-nil (λ (c : Chunk). IsBefore c.measurement (measurement_of path));
   few = let n : length entries ≡ 0 = ap length none in omega (arith, n);
   stand = (refl, stand);
-  made = All-push IsMadeSeries [] (series_at path data_type encoding) (All-nil IsMadeSeries) (made_begun path data_type encoding nodes path_is);
+  made = All-push IsMadeSeries [] (given_series path data_type encoding) (All-nil IsMadeSeries) (made_begun path data_type encoding nodes path_is);
 }
   where
     stand : (begins : Bool) → BeginsGroup entries (device_of path) begins → AreChunks [] (device_of path) [] (bytes ++ start_if begins (device_of path)) entries
@@ -204,14 +204,14 @@ first_begun bytes entries path data_type encoding is none nodes suits path_is = 
         let m : length entries ≡ length test.0 + 1 = ap length test.2 ∙ length-append test.0 (test.1 ∷ []) in
         absurd (omega (arith, n, m))
 
-pub next_begun : (given : List Series) (device measurement : List ℕ) (bytes : List ℕ) (entries : List IndexEntry) (path : List ℕ) (data_type : DataType) (encoding : Encoding) → AreClosed given device measurement bytes entries
-    → 2 ≤ node_count path → is_suitable data_type encoding ≡ true → IsPath path → AreNamesBefore (device, measurement) (device_of path, measurement_of path) → BuildState (given ++ series_at path data_type encoding ∷ []) bytes entries path data_type encoding None []
+pub next_begun : (given : List GivenSeries) (device measurement : List ℕ) (bytes : List ℕ) (entries : List IndexEntry) (path : List ℕ) (data_type : DataType) (encoding : Encoding) → AreClosed given device measurement bytes entries
+    → 2 ≤ node_count path → is_suitable data_type encoding ≡ true → IsPath path → AreNamesBefore (device, measurement) (device_of path, measurement_of path) → BuildState (given ++ given_series path data_type encoding ∷ []) bytes entries path data_type encoding None []
 next_begun given device measurement bytes entries path data_type encoding closed nodes suits path_is (inl less) =
     let all = all_groups given device measurement bytes entries closed in
     let groups = closed.groups ++ group_of device closed.chunks ∷ [] in
     record {
       front = given;
-      last = series_at path data_type encoding;
+      last = given_series path data_type encoding;
       all = refl;
       pages = [];
       is = begun path data_type encoding nodes suits;
@@ -228,10 +228,10 @@ next_begun given device measurement bytes entries path data_type encoding closed
       chunks_before = All-nil (λ (c : Chunk). IsBefore c.measurement (measurement_of path));
       few = closed.few;
       stand = (refl, stand closed less groups all.layout);
-      made = All-push IsMadeSeries given (series_at path data_type encoding) closed.made (made_begun path data_type encoding nodes path_is);
+      made = All-push IsMadeSeries given (given_series path data_type encoding) closed.made (made_begun path data_type encoding nodes path_is);
     }
   where
-    stand : (closed : AreClosed given device measurement bytes entries) → IsBefore device (device_of path) → (groups : List Group) → AreGroups groups bytes entries
+    stand : (closed : AreClosed given device measurement bytes entries) → IsBefore device (device_of path) → (groups : List Group) → AreGroupsWritten groups bytes entries
         → (begins : Bool) → BeginsGroup entries (device_of path) begins → AreChunks groups (device_of path) [] (bytes ++ start_if begins (device_of path)) entries
     stand closed less groups layout true test = group_begun groups (device_of path) bytes (bytes ++ group_start (device_of path)) entries layout refl
     stand closed less groups layout false test =
@@ -240,7 +240,7 @@ next_begun given device measurement bytes entries path data_type encoding closed
         absurd (not_itself device (subst (IsBefore device) (sym devices) less))
 next_begun given device measurement bytes entries path data_type encoding closed nodes suits path_is (inr also) = record {
   front = given;
-  last = series_at path data_type encoding;
+  last = given_series path data_type encoding;
   all = refl;
   pages = [];
   is = begun path data_type encoding nodes suits;
@@ -250,7 +250,7 @@ next_begun given device measurement bytes entries path data_type encoding closed
   chunks_before = closed.before (measurement_of path) also.1;
   few = closed.few;
   stand = (refl, stand closed also.0);
-  made = All-push IsMadeSeries given (series_at path data_type encoding) closed.made (made_begun path data_type encoding nodes path_is);
+  made = All-push IsMadeSeries given (given_series path data_type encoding) closed.made (made_begun path data_type encoding nodes path_is);
 }
   where
     stand : (closed : AreClosed given device measurement bytes entries) → device ≡ device_of path → (begins : Bool) → BeginsGroup entries (device_of path) begins
@@ -261,7 +261,7 @@ next_begun given device measurement bytes entries path data_type encoding closed
 
 -- the names of the last series come before those that may follow it
 pub names_before : (bytes : List ℕ) (entries : List IndexEntry) (path : List ℕ) (data_type : DataType) (encoding : Encoding) (chunk : Option OpenChunk) (points : List Point) (device measurement : List ℕ)
-    → BuildState [] bytes entries path data_type encoding chunk points ⊎ ((front : List Series) × (last : Series) × BuildState (front ++ last ∷ []) bytes entries path data_type encoding chunk points × MayBeFollowedBy device measurement last)
+    → BuildState [] bytes entries path data_type encoding chunk points ⊎ ((front : List GivenSeries) × (last : GivenSeries) × BuildState (front ++ last ∷ []) bytes entries path data_type encoding chunk points × MayBeFollowedBy device measurement last)
     → AreNamesBefore (device_of path, measurement_of path) (device, measurement)
 names_before bytes entries path data_type encoding chunk points device measurement (inl state) =
     let n : 0 ≡ length state.front + 1 = ap length state.all ∙ length-append state.front (state.last ∷ []) in
@@ -269,13 +269,13 @@ names_before bytes entries path data_type encoding chunk points device measureme
 names_before bytes entries path data_type encoding chunk points device measurement (inr given) =
     let state = given.2 in
     let same : given.1 ≡ state.last = (same_ends given.0 state.front given.1 state.last state.all).1 in
-    subst (λ (d : List ℕ). AreNamesBefore (d, measurement_of path) (device, measurement)) (ap (λ (s : Series). s.device) same ∙ state.is.device_is)
-    (subst (λ (m : List ℕ). AreNamesBefore (given.1.device, m) (device, measurement)) (ap (λ (s : Series). s.measurement) same ∙ state.is.measurement_is) given.3.before)
+    subst (λ (d : List ℕ). AreNamesBefore (d, measurement_of path) (device, measurement)) (ap (λ (s : GivenSeries). s.device) same ∙ state.is.device_is)
+    (subst (λ (m : List ℕ). AreNamesBefore (given.1.device, m) (device, measurement)) (ap (λ (s : GivenSeries). s.measurement) same ∙ state.is.measurement_is) given.3.before)
 
 -- ---- the file
 
-pub file_whole : (given : List Series) (device measurement : List ℕ) (bytes file index_bytes : List ℕ) (root : ℕ) (entries : List IndexEntry) → AreClosed given device measurement bytes entries
-    → IsSpelling (length bytes) root entries index_bytes → file ≡ bytes ++ index_bytes ++ number64 root ++ magic → (tree : Tree) × IsTreeOf given tree × IsFile tree file × IsMade tree
+pub file_whole : (given : List GivenSeries) (device measurement : List ℕ) (bytes file index_bytes : List ℕ) (root : ℕ) (entries : List IndexEntry) → AreClosed given device measurement bytes entries
+    → IsIndexSpelling (length bytes) root entries index_bytes → file ≡ bytes ++ index_bytes ++ number64 root ++ magic → (tree : Tree) × IsTreeOf given tree × IsFile tree file × IsMade tree
 file_whole given device measurement bytes file index_bytes root entries closed index_is is =
     let all = all_groups given device measurement bytes entries closed in
     let groups = closed.groups ++ group_of device closed.chunks ∷ [] in

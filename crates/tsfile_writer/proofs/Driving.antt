@@ -12,13 +12,13 @@ use Rattle.tsdb_pages.proofs.Order.{pairs_across}
 use Rattle.tsfile_writer.specs.declared.builder.Builder.{Builder}
 use Rattle.tsfile_writer.specs.Building.{WasGiven}
 use Rattle.tsfile_writer.specs.Driving.{HasLast, IsBare}
-use Rattle.tsfile_writer.specs.Given.{MayTake, Series, series_at, with_last_point}
+use Rattle.tsfile_writer.specs.Given.{MayTake, GivenSeries, given_series, with_last_point}
 use Rattle.tsfile_writer.proofs.Grouping.{all_behind}
 
 -- the last series at this path has the points before the rest
 pub record IsFilling (path : List ℕ) (data_type : DataType) (builder : Builder) (all rest : List Point) : Type 0 where
-  pub front : List Series
-  pub last : Series
+  pub front : List GivenSeries
+  pub last : GivenSeries
   pub was : WasGiven builder (front ++ last ∷ [])
   pub split : last.points ++ rest ≡ all
   pub device_is : last.device ≡ device_of path
@@ -53,7 +53,7 @@ Stands builder None = WasGiven builder []
 Stands builder (Some path) = HasLast path builder × (2 ≤ node_count path)
 
 -- a series that is begun is bare
-pub bare_from : (path : List ℕ) (data_type : DataType) (encoding : Encoding) (old new : Builder) (before : Option (List ℕ)) → Stands old before → ((given : List Series) → WasGiven old given → WasGiven new (given ++ series_at path data_type encoding ∷ [])) → IsBare path data_type encoding new
+pub bare_from : (path : List ℕ) (data_type : DataType) (encoding : Encoding) (old new : Builder) (before : Option (List ℕ)) → Stands old before → ((given : List GivenSeries) → WasGiven old given → WasGiven new (given ++ given_series path data_type encoding ∷ [])) → IsBare path data_type encoding new
 bare_from path data_type encoding old new None stands step = record { front = []; was = step [] stands }
 bare_from path data_type encoding old new (Some last) stands step =
     let has = stands.0 in

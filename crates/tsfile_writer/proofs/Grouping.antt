@@ -9,7 +9,7 @@ use Rattle.tsdb_pages.specs.declared.tree.Page.{Page}
 use Rattle.tsdb_pages.specs.declared.tree.Chunk.{Chunk}
 use Rattle.tsdb_pages.specs.declared.tree.Group.{Group}
 use Rattle.tsdb_pages.specs.Trees.{IsBefore}
-use Rattle.tsfile_writer.specs.Given.{AreChunksOf, AreFilled, IsChunkOf, Series, placed}
+use Rattle.tsfile_writer.specs.Given.{AreChunksOf, AreFilled, IsChunkOf, GivenSeries, placed}
 use Rattle.tsdb_pages.proofs.Entries.{flat_push}
 
 -- ---- lists
@@ -44,7 +44,7 @@ before_through a b c x y = nat_list_cmp_total.trans a b c x y
 
 -- ---- chunks of series
 
-pub chunks_of_push : (given : List Series) (placed_chunks : List (List ℕ × Chunk)) (series : Series) (device : List ℕ) (chunk : Chunk) → AreChunksOf given placed_chunks → device ≡ series.device → IsChunkOf series chunk
+pub chunks_of_push : (given : List GivenSeries) (placed_chunks : List (List ℕ × Chunk)) (series : GivenSeries) (device : List ℕ) (chunk : Chunk) → AreChunksOf given placed_chunks → device ≡ series.device → IsChunkOf series chunk
     → AreChunksOf (given ++ series ∷ []) (placed_chunks ++ (device, chunk) ∷ [])
 chunks_of_push [] [] series device chunk are same is = (same, is, tt)
 chunks_of_push [] (c ∷ cs) series device chunk are same is = absurd are

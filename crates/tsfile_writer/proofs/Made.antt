@@ -10,8 +10,8 @@ use Rattle.tsdb_pages.specs.declared.tree.Chunk.{Chunk}
 use Rattle.tsdb_pages.specs.declared.tree.Group.{Group}
 use Rattle.tsdb_pages.specs.declared.tree.Tree.{Tree}
 use Rattle.tsdb_pages.specs.Pages.{IsInRange}
-use Rattle.tsdb_pages.specs.Trees.{HasParts, IsGroup, IsMade, chunks_of, points_of}
-use Rattle.tsfile_writer.specs.Given.{AreChunksOf, IsChunkOf, IsMadeSeries, IsTreeOf, Series, placed}
+use Rattle.tsdb_pages.specs.Trees.{HasParts, IsGroup, IsMade, chunks_of, page_points}
+use Rattle.tsfile_writer.specs.Given.{AreChunksOf, IsChunkOf, IsMadeSeries, IsTreeOf, GivenSeries, placed}
 use Rattle.tsfile_writer.proofs.Appending.{more_taken}
 
 -- ---- the tree of series
@@ -21,7 +21,7 @@ record IsPlaced (placed : List ℕ × Chunk) : Type 0 where
   device : IsPath placed.0
   parts : HasParts placed.1
 
-placed_of : (series : Series) (device : List ℕ) (chunk : Chunk) → IsMadeSeries series → device ≡ series.device → IsChunkOf series chunk → IsPlaced (device, chunk)
+placed_of : (series : GivenSeries) (device : List ℕ) (chunk : Chunk) → IsMadeSeries series → device ≡ series.device → IsChunkOf series chunk → IsPlaced (device, chunk)
 placed_of series device chunk made at is = record {
   device = subst IsPath (sym at) made.device;
   parts = record {
@@ -30,7 +30,7 @@ placed_of series device chunk made at is = record {
   };
 }
 
-chunks_placed : (given : List Series) (chunks : List (List ℕ × Chunk)) → Each IsMadeSeries given → AreChunksOf given chunks → Each IsPlaced chunks
+chunks_placed : (given : List GivenSeries) (chunks : List (List ℕ × Chunk)) → Each IsMadeSeries given → AreChunksOf given chunks → Each IsPlaced chunks
 chunks_placed [] [] made are = tt
 chunks_placed [] (c ∷ chunks) made are = absurd are
 chunks_placed (s ∷ given) [] made are = absurd are
@@ -59,7 +59,7 @@ chunks_made (g ∷ groups) all =
     let parts = split_placed g.device g.chunks (placed groups) all in
     All-append HasParts g.chunks (chunks_of groups) (All-from_recursion HasParts g.chunks parts.0) (chunks_made groups parts.1)
 
-pub tree_made : (given : List Series) (tree : Tree) → All IsMadeSeries given → IsTreeOf given tree → IsMade tree
+pub tree_made : (given : List GivenSeries) (tree : Tree) → All IsMadeSeries given → IsTreeOf given tree → IsMade tree
 tree_made given tree made of = record {
   devices = All-from_recursion (λ (g : Group). IsPath g.device) tree.groups (devices_made tree.groups (recursion_from_All IsGroup tree.groups of.is_tree.groups) all);
   chunks = chunks_made tree.groups all;
@@ -82,11 +82,11 @@ pub record IsMadeGroup (group : Group) : Type 0 where
   pub device : IsPath group.device
   pub chunks : All HasParts group.chunks
 
-pages_in_range : (pages : List Page) → Each (λ page. All IsInRange page.points) pages → All IsInRange (points_of pages)
+pages_in_range : (pages : List Page) → Each (λ page. All IsInRange page.points) pages → All IsInRange (page_points pages)
 pages_in_range [] all = All-nil IsInRange
-pages_in_range (page ∷ pages) all = All-append IsInRange page.points (points_of pages) all.0 (pages_in_range pages all.1)
+pages_in_range (page ∷ pages) all = All-append IsInRange page.points (page_points pages) all.0 (pages_in_range pages all.1)
 
-pub all_in_range : (pages : List Page) → All (λ page. All IsInRange page.points) pages → All IsInRange (points_of pages)
+pub all_in_range : (pages : List Page) → All (λ page. All IsInRange page.points) pages → All IsInRange (page_points pages)
 all_in_range pages all = pages_in_range pages (recursion_from_All (λ page. All IsInRange page.points) pages all)
 
 group_chunks : (groups : List Group) → Each IsMadeGroup groups → All HasParts (chunks_of groups)

@@ -16,8 +16,8 @@ use Rattle.tsdb_pages.specs.declared.tree.Chunk.{Chunk}
 use Rattle.tsdb_pages.specs.declared.tree.Group.{Group}
 use Rattle.tsdb_pages.specs.declared.tree.Tree.{Tree}
 use Rattle.tsdb_pages.specs.File.{IsFile}
-use Rattle.tsdb_pages.specs.Trees.{IsBefore, IsGroup, points_of}
-use Rattle.tsfile_writer.specs.Given.{AreChunksOf, AreFilled, IsChunkOf, IsTreeOf, Series, placed}
+use Rattle.tsdb_pages.specs.Trees.{IsBefore, IsGroup, page_points}
+use Rattle.tsfile_writer.specs.Given.{AreChunksOf, AreFilled, IsChunkOf, IsTreeOf, GivenSeries, placed}
 
 -- ---- pages filled in turn
 
@@ -34,15 +34,15 @@ same_first (x ∷ xs) (y ∷ ys) us vs size e =
     let more : xs ≡ ys = rec.0 in
     (cc, rec.1)
 
-some_points : (pages : List Page) → AreFilled pages → 0 < length (points_of pages)
+some_points : (pages : List Page) → AreFilled pages → 0 < length (page_points pages)
 some_points [] filled = absurd filled
 some_points (p ∷ []) filled = let n = length-append p.points [] in omega (arith, n, filled.0)
-some_points (p ∷ q ∷ ps) filled = let n = length-append p.points (points_of (q ∷ ps)) in omega (arith, n, filled.0)
+some_points (p ∷ q ∷ ps) filled = let n = length-append p.points (page_points (q ∷ ps)) in omega (arith, n, filled.0)
 
 abbrev page_of : List Point → Page
 page_of points = record { points = points }
 
-filled_same : (xs ys : List Page) → AreFilled xs → AreFilled ys → points_of xs ≡ points_of ys → xs ≡ ys
+filled_same : (xs ys : List Page) → AreFilled xs → AreFilled ys → page_points xs ≡ page_points ys → xs ≡ ys
 filled_same [] ys in_xs in_ys e = absurd in_xs
 filled_same (x ∷ xs) [] in_xs in_ys e = absurd in_ys
 filled_same (x ∷ []) (y ∷ []) in_xs in_ys e =
@@ -50,24 +50,24 @@ filled_same (x ∷ []) (y ∷ []) in_xs in_ys e =
     ap (λ (l : List Point). page_of l ∷ []) same
 filled_same (x ∷ []) (y ∷ z ∷ zs) in_xs in_ys e =
     let n = length-append x.points [] in
-    let m = length-append y.points (points_of (z ∷ zs)) in
+    let m = length-append y.points (page_points (z ∷ zs)) in
     let some = some_points (z ∷ zs) in_ys.1 in
-    let l : length (x.points ++ []) ≡ length (y.points ++ points_of (z ∷ zs)) = ap length e in
+    let l : length (x.points ++ []) ≡ length (y.points ++ page_points (z ∷ zs)) = ap length e in
     absurd (omega (arith, n, m, some, l, in_xs.1, in_ys.0))
 filled_same (x ∷ w ∷ ws) (y ∷ []) in_xs in_ys e =
     let n = length-append y.points [] in
-    let m = length-append x.points (points_of (w ∷ ws)) in
+    let m = length-append x.points (page_points (w ∷ ws)) in
     let some = some_points (w ∷ ws) in_xs.1 in
-    let l : length (x.points ++ points_of (w ∷ ws)) ≡ length (y.points ++ []) = ap length e in
+    let l : length (x.points ++ page_points (w ∷ ws)) ≡ length (y.points ++ []) = ap length e in
     absurd (omega (arith, n, m, some, l, in_ys.1, in_xs.0))
 filled_same (x ∷ w ∷ ws) (y ∷ z ∷ zs) in_xs in_ys e =
-    let parts = same_first x.points y.points (points_of (w ∷ ws)) (points_of (z ∷ zs)) (in_xs.0 ∙ sym in_ys.0) e in
+    let parts = same_first x.points y.points (page_points (w ∷ ws)) (page_points (z ∷ zs)) (in_xs.0 ∙ sym in_ys.0) e in
     let rec : w ∷ ws ≡ z ∷ zs = filled_same (w ∷ ws) (z ∷ zs) in_xs.1 in_ys.1 parts.1 in
     ap (λ (l : List Point). page_of l ∷ w ∷ ws) parts.0 ∙ ap (λ (pages : List Page). y ∷ pages) rec
 
 -- ---- chunks of series
 
-chunk_same : (series : Series) (a b : Chunk) → IsChunkOf series a → IsChunkOf series b → a ≡ b
+chunk_same : (series : GivenSeries) (a b : Chunk) → IsChunkOf series a → IsChunkOf series b → a ≡ b
 chunk_same series a b is_a is_b =
     let made : List ℕ → DataType → Encoding → List Page → Chunk = λ measurement data_type encoding pages. record { measurement = measurement; data_type = data_type; encoding = encoding; pages = pages } in
     let n : a.measurement ≡ b.measurement = is_a.measurement_is ∙ sym is_b.measurement_is in
@@ -77,7 +77,7 @@ chunk_same series a b is_a is_b =
     let same : made a.measurement a.data_type a.encoding a.pages ≡ made b.measurement b.data_type b.encoding b.pages = cc in
     same
 
-chunks_same : (given : List Series) (xs ys : List (List ℕ × Chunk)) → AreChunksOf given xs → AreChunksOf given ys → xs ≡ ys
+chunks_same : (given : List GivenSeries) (xs ys : List (List ℕ × Chunk)) → AreChunksOf given xs → AreChunksOf given ys → xs ≡ ys
 chunks_same [] [] [] in_xs in_ys = refl
 chunks_same [] [] (y ∷ ys) in_xs in_ys = absurd in_ys
 chunks_same [] (x ∷ xs) ys in_xs in_ys = absurd in_xs
@@ -194,7 +194,7 @@ same_parts (x ∷ xs) (y ∷ ys) e =
     let rest : xs ≡ ys = same_parts xs ys others in
     cc
 
-one_tree_of : (given : List Series) (a b : Tree) → IsTreeOf given a → IsTreeOf given b → a ≡ b
+one_tree_of : (given : List GivenSeries) (a b : Tree) → IsTreeOf given a → IsTreeOf given b → a ≡ b
 one_tree_of given a b is_a is_b =
     let made : List Group → Tree = λ groups. record { groups = groups } in
     ap made (same_parts a.groups b.groups
@@ -203,5 +203,5 @@ one_tree_of given a b is_a is_b =
     (apart_from b.groups (recursion_from_All IsGroup b.groups is_b.is_tree.groups) is_b.is_tree.rising)
     (sym (placed_flat a.groups) ∙ chunks_same given (placed a.groups) (placed b.groups) is_a.chunks is_b.chunks ∙ placed_flat b.groups)))
 
-pub one_file_of : (given : List Series) (a b : Tree) (bytes : List ℕ) → IsTreeOf given a → IsTreeOf given b → IsFile a bytes → IsFile b bytes
+pub one_file_of : (given : List GivenSeries) (a b : Tree) (bytes : List ℕ) → IsTreeOf given a → IsTreeOf given b → IsFile a bytes → IsFile b bytes
 one_file_of given a b bytes is_a is_b file = subst (λ (tree : Tree). IsFile tree bytes) (one_tree_of given a b is_a is_b) file

@@ -17,12 +17,12 @@ use Rattle.tsdb_pages.specs.declared.tree.Group.{Group}
 use Rattle.tsdb_pages.specs.File.{chunk_start, page_bytes}
 use Rattle.tsdb_base.specs.Points.{IsRising}
 use Rattle.tsdb_pages.specs.Pages.{ArePoints, IsInRange}
-use Rattle.tsdb_pages.specs.Trees.{points_of}
+use Rattle.tsdb_pages.specs.Trees.{page_points}
 use Rattle.tsdb_pages.proofs.Order.{pairs_across, pairs_behind, pairs_push, rises}
 use Rattle.tsfile_writer.specs.declared.layout.OpenChunk.{OpenChunk}
-use Rattle.tsfile_writer.specs.Given.{IsMadeSeries, MayTake, Series, with_last_point}
-use Rattle.tsfile_writer.specs.Steps.{AreChunks, ArePages, IsBegun, start_if}
-use Rattle.tsfile_writer.specs.Building.{BeginsGroup, BuildState, IsOpenOf, IsStarted, PutsIn, SameIfAny, StandIn}
+use Rattle.tsfile_writer.specs.Given.{IsMadeSeries, MayTake, GivenSeries, with_last_point}
+use Rattle.tsfile_writer.specs.Steps.{AreChunks, ArePages, IsChunkBegun, start_if}
+use Rattle.tsfile_writer.specs.Building.{BeginsGroup, BuildState, IsOpenOf, IsStarted, PutsIn, SameIfAny, StandInChunk}
 use Rattle.tsdb_pages.proofs.Entries.{count_pages, flat_push}
 use Rattle.tsfile_writer.proofs.Appending.{chunk_begun, page_added, same_pages}
 use Rattle.tsfile_writer.proofs.Grouping.{all_behind, same_ends}
@@ -35,8 +35,8 @@ some_pages pages page =
     omega (arith, n)
 
 pub put_stands : (groups : List Group) (chunks : List Chunk) (pages : List Page) (page : Page) (path : List ℕ) (data_type : DataType) (encoding : Encoding) (points : List Point) (old new : List ℕ) (entries : List IndexEntry) (before after : Option OpenChunk)
-    → page.points ≡ points → StandIn groups chunks pages old entries path data_type encoding before → PutsIn path data_type encoding points entries old new before after
-    → StandIn groups chunks (pages ++ page ∷ []) new entries path data_type encoding after
+    → page.points ≡ points → StandInChunk groups chunks pages old entries path data_type encoding before → PutsIn path data_type encoding points entries old new before after
+    → StandInChunk groups chunks (pages ++ page ∷ []) new entries path data_type encoding after
 put_stands groups chunks pages page path data_type encoding points old new entries None None same stand puts = absurd puts
 put_stands groups chunks pages page path data_type encoding points old new entries (Some b) None same stand puts = absurd puts
 put_stands groups chunks pages page path data_type encoding points old new entries None (Some c) same stand puts = (
@@ -50,7 +50,7 @@ put_stands groups chunks pages page path data_type encoding points old new entri
 )
 
 pub put_few : (groups : List Group) (chunks : List Chunk) (pages : List Page) (page : Page) (path : List ℕ) (data_type : DataType) (encoding : Encoding) (points : List Point) (old new : List ℕ) (entries : List IndexEntry) (before after : Option OpenChunk)
-    → page.points ≡ points → StandIn groups chunks pages old entries path data_type encoding before → PutsIn path data_type encoding points entries old new before after
+    → page.points ≡ points → StandInChunk groups chunks pages old entries path data_type encoding before → PutsIn path data_type encoding points entries old new before after
     → length (pages ++ page ∷ []) ≤ max_pages
 put_few groups chunks pages page path data_type encoding points old new entries None None same stand puts = absurd puts
 put_few groups chunks pages page path data_type encoding points old new entries (Some b) None same stand puts = absurd puts
@@ -65,7 +65,7 @@ put_few groups chunks pages page path data_type encoding points old new entries 
 -- ---- nothing has changed but room
 
 same_stands : (groups : List Group) (chunks : List Chunk) (pages : List Page) (path : List ℕ) (data_type : DataType) (encoding : Encoding) (old new : List ℕ) (entries : List IndexEntry) (before after : Option OpenChunk)
-    → StandIn groups chunks pages old entries path data_type encoding before → new ≡ old → SameIfAny before after → StandIn groups chunks pages new entries path data_type encoding after
+    → StandInChunk groups chunks pages old entries path data_type encoding before → new ≡ old → SameIfAny before after → StandInChunk groups chunks pages new entries path data_type encoding after
 same_stands groups chunks pages path data_type encoding old new entries None None stand same same_chunk =
     (stand.0, λ begins test. subst (λ (l : List ℕ). AreChunks groups (device_of path) chunks (l ++ start_if begins (device_of path)) entries) (sym same) (stand.1 begins test))
 same_stands groups chunks pages path data_type encoding old new entries None (Some c) stand same same_chunk = absurd same_chunk
@@ -74,7 +74,7 @@ same_stands groups chunks pages path data_type encoding old new entries (Some b)
     (stand.0, same_pages groups (device_of path) chunks (measurement_of path) data_type encoding pages old new entries b c stand.1 same same_chunk)
 
 -- the same, said of equal things
-pub state_at : (given : List Series) (bytes : List ℕ) (entries : List IndexEntry) (path path' : List ℕ) (data_type type' : DataType) (encoding encoding' : Encoding) (chunk : Option OpenChunk) (points points' : List Point)
+pub state_at : (given : List GivenSeries) (bytes : List ℕ) (entries : List IndexEntry) (path path' : List ℕ) (data_type type' : DataType) (encoding encoding' : Encoding) (chunk : Option OpenChunk) (points points' : List Point)
     → BuildState given bytes entries path data_type encoding chunk points → path' ≡ path → type' ≡ data_type → encoding' ≡ encoding → points' ≡ points → BuildState given bytes entries path' type' encoding' chunk points'
 state_at given bytes entries path path' data_type type' encoding encoding' chunk points points' state same_path same_type same_encoding same_points =
     subst (λ (l : List ℕ). BuildState given bytes entries l type' encoding' chunk points') (sym same_path)
@@ -82,7 +82,7 @@ state_at given bytes entries path path' data_type type' encoding encoding' chunk
     (subst (λ (e : Encoding). BuildState given bytes entries path data_type e chunk points') (sym same_encoding)
     (subst (λ (ps : List Point). BuildState given bytes entries path data_type encoding chunk ps) (sym same_points) state)))
 
-pub state_as : (given : List Series) (old new : List ℕ) (entries : List IndexEntry) (path path' : List ℕ) (data_type type' : DataType) (encoding encoding' : Encoding) (before after : Option OpenChunk) (points points' : List Point)
+pub state_as : (given : List GivenSeries) (old new : List ℕ) (entries : List IndexEntry) (path path' : List ℕ) (data_type type' : DataType) (encoding encoding' : Encoding) (before after : Option OpenChunk) (points points' : List Point)
     → BuildState given old entries path data_type encoding before points → new ≡ old → path' ≡ path → type' ≡ data_type → encoding' ≡ encoding → points' ≡ points → SameIfAny before after
     → BuildState given new entries path' type' encoding' after points'
 state_as given old new entries path path' data_type type' encoding encoding' before after points points' state same same_path same_type same_encoding same_points same_chunk =
@@ -104,11 +104,11 @@ state_as given old new entries path path' data_type type' encoding encoding' bef
     same_path same_type same_encoding same_points
 
 -- where the last series has a point, one waits
-pub some_wait : (front : List Series) (last : Series) (bytes : List ℕ) (entries : List IndexEntry) (path : List ℕ) (data_type : DataType) (encoding : Encoding) (chunk : Option OpenChunk) (points : List Point)
+pub some_wait : (front : List GivenSeries) (last : GivenSeries) (bytes : List ℕ) (entries : List IndexEntry) (path : List ℕ) (data_type : DataType) (encoding : Encoding) (chunk : Option OpenChunk) (points : List Point)
     → BuildState (front ++ last ∷ []) bytes entries path data_type encoding chunk points → 0 < length last.points → 0 < length points
 some_wait front last bytes entries path data_type encoding chunk [] state some =
     let same : last ≡ state.last = (same_ends front state.front last state.last state.all).1 in
-    let none : last.points ≡ [] = ap (λ (s : Series). s.points) same ∙ state.is.points_are ∙ append-nil (points_of state.pages) ∙ ap points_of (state.is.ahead refl) in
+    let none : last.points ≡ [] = ap (λ (s : GivenSeries). s.points) same ∙ state.is.points_are ∙ append-nil (page_points state.pages) ∙ ap page_points (state.is.ahead refl) in
     let n : length last.points ≡ 0 = ap length none in
     absurd (omega (arith, n, some))
 some_wait front last bytes entries path data_type encoding chunk (p ∷ ps) state some = omega arith
@@ -116,7 +116,7 @@ some_wait front last bytes entries path data_type encoding chunk (p ∷ ps) stat
 -- a chunk with its first page, from what the call that appends it says
 pub started : {E : Type 0} (result : Result OpenChunk E) (path : List ℕ) (data_type : DataType) (encoding : Encoding) (points : List Point) (entries : List IndexEntry) (old middle new : List ℕ) (begins : Bool) (device measurement : List ℕ) (seen : List Point)
     → device ≡ device_of path → measurement ≡ measurement_of path → seen ≡ points → BeginsGroup entries device begins → middle ≡ old ++ start_if begins device
-    → OnOk result (new ≡ middle ++ (chunk_start measurement data_type encoding ++ page_bytes encoding seen)) → IfOk result (IsBegun (length middle) (length (chunk_start measurement data_type encoding)) seen)
+    → OnOk result (new ≡ middle ++ (chunk_start measurement data_type encoding ++ page_bytes encoding seen)) → IfOk result (IsChunkBegun (length middle) (length (chunk_start measurement data_type encoding)) seen)
     → IfOk result (IsStarted path data_type encoding points entries old new)
 started (Err e) path data_type encoding points entries old middle new begins device measurement seen same_device same_measurement same_points test first bytes is = is
 started (Ok chunk) path data_type encoding points entries old middle new begins device measurement seen same_device same_measurement same_points test first bytes is =
@@ -127,9 +127,9 @@ started (Ok chunk) path data_type encoding points entries old middle new begins 
       bytes_are = bytes ∙ ap (λ (l : List ℕ). l ++ (chunk_start measurement data_type encoding ++ page_bytes encoding seen)) place
           ∙ ap (λ (m : List ℕ). old ++ start_if begins (device_of path) ++ (chunk_start m data_type encoding ++ page_bytes encoding seen)) same_measurement
           ∙ ap (λ (ps : List Point). old ++ start_if begins (device_of path) ++ (chunk_start (measurement_of path) data_type encoding ++ page_bytes encoding ps)) same_points;
-      is = subst (λ (l : List ℕ). IsBegun (length l) (length (chunk_start (measurement_of path) data_type encoding)) points chunk) place
-          (subst (λ (m : List ℕ). IsBegun (length middle) (length (chunk_start m data_type encoding)) points chunk) same_measurement
-          (subst (λ (ps : List Point). IsBegun (length middle) (length (chunk_start measurement data_type encoding)) ps chunk) same_points is));
+      is = subst (λ (l : List ℕ). IsChunkBegun (length l) (length (chunk_start (measurement_of path) data_type encoding)) points chunk) place
+          (subst (λ (m : List ℕ). IsChunkBegun (length middle) (length (chunk_start m data_type encoding)) points chunk) same_measurement
+          (subst (λ (ps : List Point). IsChunkBegun (length middle) (length (chunk_start measurement data_type encoding)) ps chunk) same_points is));
     }
 
 -- whether the last entry is of another device
@@ -153,14 +153,14 @@ pub record Suits (data_type : DataType) (points : List Point) (point : Point) : 
   pub later : All (λ before. before.time <ℤ point.time) points
   pub in_range : IsInRange point
 
-pub point_suits : (front : List Series) (last : Series) (bytes : List ℕ) (entries : List IndexEntry) (path : List ℕ) (data_type : DataType) (encoding : Encoding) (chunk : Option OpenChunk) (points : List Point) (point : Point)
+pub point_suits : (front : List GivenSeries) (last : GivenSeries) (bytes : List ℕ) (entries : List IndexEntry) (path : List ℕ) (data_type : DataType) (encoding : Encoding) (chunk : Option OpenChunk) (points : List Point) (point : Point)
     → BuildState (front ++ last ∷ []) bytes entries path data_type encoding chunk points → MayTake point last → IsInRange point → Suits data_type points point
 point_suits front last bytes entries path data_type encoding chunk points point state may in_range =
     let same : last ≡ state.last = (same_ends front state.front last state.last state.all).1 in
-    let all : last.points ≡ points_of state.pages ++ points = ap (λ (s : Series). s.points) same ∙ state.is.points_are in
+    let all : last.points ≡ page_points state.pages ++ points = ap (λ (s : GivenSeries). s.points) same ∙ state.is.points_are in
     record {
-      typed = may.typed ∙ ap (λ (s : Series). s.data_type) same ∙ state.is.type_is;
-      later = all_behind (λ (p : Point). p.time <ℤ point.time) (points_of state.pages) points (subst (λ (ps : List Point). All (λ (p : Point). p.time <ℤ point.time) ps) all may.later);
+      typed = may.typed ∙ ap (λ (s : GivenSeries). s.data_type) same ∙ state.is.type_is;
+      later = all_behind (λ (p : Point). p.time <ℤ point.time) (page_points state.pages) points (subst (λ (ps : List Point). All (λ (p : Point). p.time <ℤ point.time) ps) all may.later);
       in_range = in_range;
     }
 
@@ -176,19 +176,19 @@ later_than_all before (y ∷ ys) point rising later ahead =
     (All-head (λ (p : Point). p.time <ℤ point.time) y ys later))
     later
 
-rising_more : (series : Series) (pages : List Page) (path : List ℕ) (data_type : DataType) (encoding : Encoding) (points : List Point) (point : Point) → IsOpenOf series pages path data_type encoding points → Suits data_type points point → IsRising (series.points ++ point ∷ [])
+rising_more : (series : GivenSeries) (pages : List Page) (path : List ℕ) (data_type : DataType) (encoding : Encoding) (points : List Point) (point : Point) → IsOpenOf series pages path data_type encoding points → Suits data_type points point → IsRising (series.points ++ point ∷ [])
 rising_more series pages path data_type encoding points point is suits =
-    let whole : IsRising (points_of pages ++ points) = subst IsRising is.points_are is.rising in
-    let later = later_than_all (points_of pages) points point whole suits.later (λ none. ap points_of (is.ahead none)) in
+    let whole : IsRising (page_points pages ++ points) = subst IsRising is.points_are is.rising in
+    let later = later_than_all (page_points pages) points point whole suits.later (λ none. ap page_points (is.ahead none)) in
     pairs_push (λ (a b : Point). a.time <ℤ b.time) series.points point is.rising (subst (λ (ps : List Point). All (λ (p : Point). p.time <ℤ point.time) ps) (sym is.points_are) later)
 
-given_more : (front : List Series) (last : Series) (front' : List Series) (last' : Series) (point : Point) → front ++ last ∷ [] ≡ front' ++ last' ∷ [] → front ++ with_last_point point last ∷ [] ≡ front' ++ with_last_point point last' ∷ []
+given_more : (front : List GivenSeries) (last : GivenSeries) (front' : List GivenSeries) (last' : GivenSeries) (point : Point) → front ++ last ∷ [] ≡ front' ++ last' ∷ [] → front ++ with_last_point point last ∷ [] ≡ front' ++ with_last_point point last' ∷ []
 given_more front last front' last' point same =
     let ends = same_ends front front' last last' same in
-    ap (λ (s : Series). front ++ with_last_point point s ∷ []) ends.1 ∙ ap (λ (l : List Series). l ++ with_last_point point last' ∷ []) ends.0
+    ap (λ (s : GivenSeries). front ++ with_last_point point s ∷ []) ends.1 ∙ ap (λ (l : List GivenSeries). l ++ with_last_point point last' ∷ []) ends.0
 
 -- each series is still as its types say
-made_more : (front : List Series) (last : Series) (point : Point) → All IsMadeSeries (front ++ last ∷ []) → IsInRange point → All IsMadeSeries (front ++ with_last_point point last ∷ [])
+made_more : (front : List GivenSeries) (last : GivenSeries) (point : Point) → All IsMadeSeries (front ++ last ∷ []) → IsInRange point → All IsMadeSeries (front ++ with_last_point point last ∷ [])
 made_more front last point all in_range =
     let n : length (front ++ last ∷ []) ≡ length front + 1 = length-append front (last ∷ []) in
     let before : All IsMadeSeries front = λ k d lt. subst IsMadeSeries (get_or_append_left front (last ∷ []) d k lt) (all k d (omega (arith, lt, n))) in
@@ -200,7 +200,7 @@ made_more front last point all in_range =
     })
 
 -- the point waits with the others
-pub point_waits : (front : List Series) (last : Series) (bytes : List ℕ) (entries : List IndexEntry) (path : List ℕ) (data_type : DataType) (encoding : Encoding) (chunk : Option OpenChunk) (points : List Point) (point : Point)
+pub point_waits : (front : List GivenSeries) (last : GivenSeries) (bytes : List ℕ) (entries : List IndexEntry) (path : List ℕ) (data_type : DataType) (encoding : Encoding) (chunk : Option OpenChunk) (points : List Point) (point : Point)
     → BuildState (front ++ last ∷ []) bytes entries path data_type encoding chunk points → Suits data_type points point → length points < max_values
     → BuildState (front ++ with_last_point point last ∷ []) bytes entries path data_type encoding chunk (points ++ point ∷ [])
 point_waits front last bytes entries path data_type encoding chunk points point state suits room =
@@ -217,7 +217,7 @@ point_waits front last bytes entries path data_type encoding chunk points point 
         type_is = state.is.type_is;
         encoding_is = state.is.encoding_is;
         suits = state.is.suits;
-        points_are = ap (λ (ps : List Point). ps ++ point ∷ []) state.is.points_are ∙ append_assoc (points_of state.pages) points (point ∷ []);
+        points_are = ap (λ (ps : List Point). ps ++ point ∷ []) state.is.points_are ∙ append_assoc (page_points state.pages) points (point ∷ []);
         full = state.is.full;
         good = state.is.good;
         few_pages = state.is.few_pages;
@@ -235,21 +235,21 @@ point_waits front last bytes entries path data_type encoding chunk points point 
       made = made_more front last point state.made suits.in_range;
     }
 
-pub are_points : (series : Series) (pages : List Page) (path : List ℕ) (data_type : DataType) (encoding : Encoding) (points : List Point) → IsOpenOf series pages path data_type encoding points → 0 < length points → ArePoints data_type points
+pub are_points : (series : GivenSeries) (pages : List Page) (path : List ℕ) (data_type : DataType) (encoding : Encoding) (points : List Point) → IsOpenOf series pages path data_type encoding points → 0 < length points → ArePoints data_type points
 are_points series pages path data_type encoding points is some = record {
   some = some;
   few = is.few;
   typed = is.typed;
-  rising = pairs_behind (λ (a b : Point). a.time <ℤ b.time) (points_of pages) points (subst IsRising is.points_are is.rising);
+  rising = pairs_behind (λ (a b : Point). a.time <ℤ b.time) (page_points pages) points (subst IsRising is.points_are is.rising);
 }
 
 -- the points that waited stand as a page, and the point waits alone
-pub page_turned : (front : List Series) (last : Series) (page : Page) (old new : List ℕ) (entries : List IndexEntry) (path : List ℕ) (data_type : DataType) (encoding : Encoding) (before after : Option OpenChunk) (points : List Point) (point : Point)
+pub page_turned : (front : List GivenSeries) (last : GivenSeries) (page : Page) (old new : List ℕ) (entries : List IndexEntry) (path : List ℕ) (data_type : DataType) (encoding : Encoding) (before after : Option OpenChunk) (points : List Point) (point : Point)
     → BuildState (front ++ last ∷ []) old entries path data_type encoding before points → Suits data_type points point → length points ≡ max_values → page.points ≡ points → PutsIn path data_type encoding points entries old new before after
     → BuildState (front ++ with_last_point point last ∷ []) new entries path data_type encoding after (point ∷ [])
 page_turned front last page old new entries path data_type encoding before after points point state suits size same puts =
     let good : ArePoints data_type page.points = subst (ArePoints data_type) (sym same) (are_points state.last state.pages path data_type encoding points state.is (omega (arith, size))) in
-    let moved : points_of (state.pages ++ page ∷ []) ≡ points_of state.pages ++ points = flat_push (λ (p : Page). p.points) state.pages page ∙ ap (λ (ps : List Point). points_of state.pages ++ ps) same in
+    let moved : page_points (state.pages ++ page ∷ []) ≡ page_points state.pages ++ points = flat_push (λ (p : Page). p.points) state.pages page ∙ ap (λ (ps : List Point). page_points state.pages ++ ps) same in
     record {
       front = state.front;
       last = with_last_point point state.last;

@@ -14,12 +14,12 @@ use Rattle.tsdb_pages.specs.declared.tree.Group.{Group}
 use Rattle.tsdb_pages.specs.File.{chunk_start, page_bytes}
 use Rattle.tsdb_base.specs.Points.{IsRising}
 use Rattle.tsdb_pages.specs.Pages.{ArePoints}
-use Rattle.tsdb_pages.specs.Trees.{IsBefore, IsChunk, IsGroup, points_of}
+use Rattle.tsdb_pages.specs.Trees.{IsBefore, IsChunk, IsGroup, page_points}
 use Rattle.tsfile_writer.specs.declared.builder.Builder.{Builder}
 use Rattle.tsfile_writer.specs.declared.builder.OpenSeries.{OpenSeries}
 use Rattle.tsfile_writer.specs.declared.layout.OpenChunk.{OpenChunk}
-use Rattle.tsfile_writer.specs.Given.{AreChunksOf, IsMadeSeries, Series, placed}
-use Rattle.tsfile_writer.specs.Steps.{AreChunks, ArePages, IsBegun, IsLonger, SameChunk}
+use Rattle.tsfile_writer.specs.Given.{AreChunksOf, IsMadeSeries, GivenSeries, placed}
+use Rattle.tsfile_writer.specs.Steps.{AreChunks, ArePages, IsChunkBegun, IsLonger, SameChunk}
 use Rattle.tsfile_writer.specs.Steps.{start_if}
 
 -- a chunk of this device begins a group behind these entries, or it does not
@@ -30,7 +30,8 @@ BeginsGroup entries device false = (front : List IndexEntry) × (last : IndexEnt
     × (last.device ≡ device)
 
 -- the chunks of these series are those of the groups, and of one more group of this device
-pub record AreGrouped (given : List Series) (groups : List Group) (device : List ℕ) (chunks : List Chunk) : Type 0 where
+pub record AreGrouped (given : List GivenSeries) (groups : List Group) (device : List ℕ)
+    (chunks : List Chunk) : Type 0 where
   pub of : AreChunksOf given (placed groups ++ map (λ chunk. (device, chunk)) chunks)
   pub groups_good : All IsGroup groups
   pub groups_rising : AllPairs (λ a b. IsBefore a.device b.device) groups
@@ -39,7 +40,8 @@ pub record AreGrouped (given : List Series) (groups : List Group) (device : List
   pub chunks_rising : AllPairs (λ a b. IsBefore a.measurement b.measurement) chunks
 
 -- a series at this path has these pages in the file, each of 1,000 points, and its other points wait
-pub record IsOpenOf (series : Series) (pages : List Page) (path : List ℕ) (data_type : DataType) (encoding : Encoding)
+pub record IsOpenOf (series : GivenSeries) (pages : List Page) (path : List ℕ) (data_type : DataType)
+    (encoding : Encoding)
     (points : List Point) : Type 0 where
   pub nodes : 2 ≤ node_count path
   pub device_is : series.device ≡ device_of path
@@ -47,7 +49,7 @@ pub record IsOpenOf (series : Series) (pages : List Page) (path : List ℕ) (dat
   pub type_is : series.data_type ≡ data_type
   pub encoding_is : series.encoding ≡ encoding
   pub suits : is_suitable data_type encoding ≡ true
-  pub points_are : series.points ≡ points_of pages ++ points
+  pub points_are : series.points ≡ page_points pages ++ points
   pub full : All (λ page. length page.points ≡ max_values) pages
   pub good : All (λ page. ArePoints data_type page.points) pages
   pub few_pages : length pages ≤ max_pages
@@ -57,20 +59,20 @@ pub record IsOpenOf (series : Series) (pages : List Page) (path : List ℕ) (dat
   pub ahead : points ≡ [] → pages ≡ []
 
 -- where the pages of the series at this path stand: in no chunk yet, or in this one
-abbrev pub StandIn : List Group → List Chunk → List Page → List ℕ → List IndexEntry → List ℕ → DataType → Encoding
+abbrev pub StandInChunk : List Group → List Chunk → List Page → List ℕ → List IndexEntry → List ℕ → DataType → Encoding
     → Option OpenChunk → Type 0
-StandIn groups chunks pages bytes entries path data_type encoding None =
+StandInChunk groups chunks pages bytes entries path data_type encoding None =
     (pages ≡ []) × ((begins : Bool) → BeginsGroup entries (device_of path) begins
     → AreChunks groups (device_of path) chunks (bytes ++ start_if begins (device_of path)) entries)
-StandIn groups chunks pages bytes entries path data_type encoding (Some chunk) =
+StandInChunk groups chunks pages bytes entries path data_type encoding (Some chunk) =
     (0 < length pages) × ArePages groups (device_of path) chunks (measurement_of path) data_type encoding pages bytes
     entries chunk
 
 -- these series were given, and the last of them is at this path, with this chunk, and these points wait
-pub record BuildState (given : List Series) (bytes : List ℕ) (entries : List IndexEntry) (path : List ℕ)
+pub record BuildState (given : List GivenSeries) (bytes : List ℕ) (entries : List IndexEntry) (path : List ℕ)
     (data_type : DataType) (encoding : Encoding) (chunk : Option OpenChunk) (points : List Point) : Type 0 where
-  pub front : List Series
-  pub last : Series
+  pub front : List GivenSeries
+  pub last : GivenSeries
   pub all : given ≡ front ++ last ∷ []
   pub pages : List Page
   pub is : IsOpenOf last pages path data_type encoding points
@@ -79,32 +81,32 @@ pub record BuildState (given : List Series) (bytes : List ℕ) (entries : List I
   pub grouped : AreGrouped front groups (device_of path) chunks
   pub chunks_before : All (λ chunk. IsBefore chunk.measurement (measurement_of path)) chunks
   pub few : length entries ≤ max_entries
-  pub stand : StandIn groups chunks pages bytes entries path data_type encoding chunk
+  pub stand : StandInChunk groups chunks pages bytes entries path data_type encoding chunk
   pub made : All IsMadeSeries given
 
 -- these series were given, and the last of them is open
-abbrev pub IsBuilding : List Series → List ℕ → List IndexEntry → OpenSeries → Type 0
+abbrev pub IsBuilding : List GivenSeries → List ℕ → List IndexEntry → OpenSeries → Type 0
 IsBuilding given bytes entries waits = BuildState given bytes entries waits.path waits.data_type waits.encoding
     waits.chunk waits.points.items
 
 -- nothing was given, and nothing stands
-pub record IsEmpty (given : List Series) (bytes : List ℕ) (entries : List IndexEntry) : Type 0 where
+pub record IsEmpty (given : List GivenSeries) (bytes : List ℕ) (entries : List IndexEntry) : Type 0 where
   pub none : given ≡ []
   pub no_bytes : bytes ≡ []
   pub no_entries : entries ≡ []
 
-abbrev pub IsGiven : List Series → List ℕ → List IndexEntry → Option OpenSeries → Type 0
+abbrev pub IsGiven : List GivenSeries → List ℕ → List IndexEntry → Option OpenSeries → Type 0
 IsGiven given bytes entries None = IsEmpty given bytes entries
 IsGiven given bytes entries (Some waits) = IsBuilding given bytes entries waits
 
 -- the builder was given these series, each with its points, and nothing else
-abbrev pub WasGiven : Builder → List Series → Type 0
+abbrev pub WasGiven : Builder → List GivenSeries → Type 0
 WasGiven builder given = IsGiven given builder.bytes.items builder.entries.items builder.series
 
 -- ---- steps
 
 -- all series are whole: their chunks stand in groups, the last of this device and with a last chunk of this measurement
-pub record AreClosed (given : List Series) (device measurement : List ℕ) (bytes : List ℕ)
+pub record AreClosed (given : List GivenSeries) (device measurement : List ℕ) (bytes : List ℕ)
     (entries : List IndexEntry) : Type 0 where
   pub groups : List Group
   pub chunks : List Chunk
@@ -126,11 +128,11 @@ pub record IsStarted (path : List ℕ) (data_type : DataType) (encoding : Encodi
   pub test : BeginsGroup entries (device_of path) begins
   pub bytes_are : new ≡ old ++ start_if begins (device_of path)
       ++ (chunk_start (measurement_of path) data_type encoding ++ page_bytes encoding points)
-  pub is : IsBegun (length (old ++ start_if begins (device_of path)))
+  pub is : IsChunkBegun (length (old ++ start_if begins (device_of path)))
       (length (chunk_start (measurement_of path) data_type encoding)) points chunk
 
 -- one page more stands in the chunk
-pub record IsPut (encoding : Encoding) (points : List Point) (old new : List ℕ)
+pub record IsPagePut (encoding : Encoding) (points : List Point) (old new : List ℕ)
     (before after : OpenChunk) : Type 0 where
   pub bytes_are : new ≡ old ++ page_bytes encoding points
   pub is : IsLonger (length old) points before after
@@ -142,7 +144,7 @@ PutsIn path data_type encoding points entries old new before None = ⊥
 PutsIn path data_type encoding points entries old new None (Some after) =
     IsStarted path data_type encoding points entries old new after
 PutsIn path data_type encoding points entries old new (Some before) (Some after) =
-    IsPut encoding points old new before after
+    IsPagePut encoding points old new before after
 
 -- the chunk is as it was
 abbrev pub SameIfAny : Option OpenChunk → Option OpenChunk → Type 0

@@ -13,7 +13,7 @@ use Rattle.tsdb_pages.specs.declared.tree.Group.{Group}
 use Rattle.tsdb_pages.specs.File.{AreEntries, AreEntriesOf, ArePageEntries, chunk_field, chunk_start, group_field}
 use Rattle.tsdb_pages.specs.File.{group_start, head, page_field}
 use Rattle.tsdb_base.specs.Limits.{max_pages}
-use Rattle.tsdb_pages.specs.Trees.{points_of}
+use Rattle.tsdb_pages.specs.Trees.{page_points}
 use Rattle.tsdb_stats.specs.Statistics.{AreStatsOf}
 use Rattle.tsfile_writer.specs.declared.layout.OpenChunk.{OpenChunk}
 
@@ -28,16 +28,16 @@ AreStatsOfBoth left right all = (before behind : List Point) → AreStatsOf befo
     → AreStatsOf (before ++ behind) all
 
 -- an entry for a page of these points at this place
-pub record IsEntryFor (place : ℕ) (points : List Point) (entry : PageEntry) : Type 0 where
+pub record IsPageEntryFor (place : ℕ) (points : List Point) (entry : PageEntry) : Type 0 where
   pub place_is : entry.place ≡ place
   pub stats : AreStatsOf points entry.stats
 
 -- a chunk at this place has one page, of these points, so many bytes behind its first byte
-pub record IsBegun (place skip : ℕ) (points : List Point) (chunk : OpenChunk) : Type 0 where
+pub record IsChunkBegun (place skip : ℕ) (points : List Point) (chunk : OpenChunk) : Type 0 where
   pub place_is : chunk.place ≡ place
   pub stats : AreStatsOf points chunk.stats
   pub entry : PageEntry
-  pub is : IsEntryFor (place + skip) points entry
+  pub is : IsPageEntryFor (place + skip) points entry
   pub pages_are : chunk.pages.items ≡ entry ∷ []
 
 -- the chunk has one page more, of these points and at this place
@@ -45,7 +45,7 @@ pub record IsLonger (place : ℕ) (points : List Point) (old new : OpenChunk) : 
   pub place_is : new.place ≡ old.place
   pub stats : (before : List Point) → AreStatsOf before old.stats → AreStatsOf (before ++ points) new.stats
   pub entry : PageEntry
-  pub is : IsEntryFor place points entry
+  pub is : IsPageEntryFor place points entry
   pub pages_are : new.pages.items ≡ old.pages.items ++ entry ∷ []
   pub few : length new.pages.items ≤ max_pages
 
@@ -56,7 +56,7 @@ pub record SameChunk (old new : OpenChunk) : Type 0 where
   pub pages_are : new.pages.items ≡ old.pages.items
 
 -- head and groups stand, and these are their entries
-pub record AreGroups (groups : List Group) (bytes : List ℕ) (entries : List IndexEntry) : Type 0 where
+pub record AreGroupsWritten (groups : List Group) (bytes : List ℕ) (entries : List IndexEntry) : Type 0 where
   pub bytes_are : bytes ≡ head ++ flat_map group_field groups
   pub by_group : List (List IndexEntry)
   pub all : flat_map (λ list. list) by_group ≡ entries
@@ -67,16 +67,16 @@ pub record AreChunks (groups : List Group) (device : List ℕ) (chunks : List Ch
     (entries : List IndexEntry) : Type 0 where
   pub bytes_before : List ℕ
   pub entries_before : List IndexEntry
-  pub before : AreGroups groups bytes_before entries_before
+  pub before : AreGroupsWritten groups bytes_before entries_before
   pub bytes_are : bytes ≡ bytes_before ++ (group_start device ++ flat_map chunk_field chunks)
   pub own : List IndexEntry
   pub all : entries ≡ entries_before ++ own
   pub say : AreEntries device (length bytes_before + length (group_start device)) chunks own
 
 -- what is said of a chunk at this place, whose pages begin at the other
-pub record IsOpen (encoding : Encoding) (place first : ℕ) (pages : List Page) (chunk : OpenChunk) : Type 0 where
+pub record IsChunkOpen (encoding : Encoding) (place first : ℕ) (pages : List Page) (chunk : OpenChunk) : Type 0 where
   pub place_is : chunk.place ≡ place
-  pub stats : AreStatsOf (points_of pages) chunk.stats
+  pub stats : AreStatsOf (page_points pages) chunk.stats
   pub say : ArePageEntries encoding first pages chunk.pages.items
 
 -- behind the chunks stands one with these pages, which may get more
@@ -87,5 +87,5 @@ pub record ArePages (groups : List Group) (device : List ℕ) (chunks : List Chu
   pub before : AreChunks groups device chunks bytes_before entries
   pub bytes_are : bytes ≡ bytes_before ++ (chunk_start measurement data_type encoding
       ++ flat_map (page_field encoding) pages)
-  pub is : IsOpen encoding (length bytes_before)
+  pub is : IsChunkOpen encoding (length bytes_before)
       (length bytes_before + length (chunk_start measurement data_type encoding)) pages chunk

@@ -15,7 +15,8 @@ ghost use Rattle.tsdb_pages.specs.Trees.{IsMade};
 ghost use Rattle.tsdb_path.specs.Nodes.{IsPath, device_of as device_in, measurement_of as measurement_in, node_count};
 ghost use Rattle.tsfile_writer.specs.Building.{AreClosed, BeginsGroup, IsBuilding, IsStarted, PutsIn, SameIfAny};
 ghost use Rattle.tsfile_writer.specs.Building.{SameSeries, WasGiven};
-ghost use Rattle.tsfile_writer.specs.Given.{IsTreeOf, MayBeFollowedBy, MayTake, Series, series_at, with_last_point};
+ghost use Rattle.tsfile_writer.specs.Given.{IsTreeOf, MayBeFollowedBy, MayTake, GivenSeries, given_series};
+ghost use Rattle.tsfile_writer.specs.Given.{with_last_point};
 
 use crate::fault::BuildFault;
 use crate::layout::{OpenChunk, append_chunk, append_end, append_group_start};
@@ -174,12 +175,12 @@ impl OpenSeries {
         entries: &[IndexEntry],
         into: &mut Vec<u8>,
     ) -> Result<(), Memory>
-        requires { (front : List Series) × (last : Series)
+        requires { (front : List GivenSeries) × (last : GivenSeries)
             × IsBuilding (front ++ last ∷ []) into.old.items entries.now self.old × MayTake point last }
-        ensures ok { OnOk result ((front : List Series) (last : Series) →
+        ensures ok { OnOk result ((front : List GivenSeries) (last : GivenSeries) →
             IsBuilding (front ++ last ∷ []) into.old.items entries.now self.old →
             IsBuilding (front ++ with_last_point point last ∷ []) into.new.items entries.now self.new) }
-        ensures memory { OnErr result ((given : List Series) →
+        ensures memory { OnErr result ((given : List GivenSeries) →
             IsBuilding given into.old.items entries.now self.old →
             IsBuilding given into.new.items entries.now self.new) }
     {
@@ -198,12 +199,12 @@ impl OpenSeries {
         entries: &mut Vec<IndexEntry>,
         into: &mut Vec<u8>,
     ) -> Result<(), Memory>
-        requires { (front : List Series) × (last : Series)
+        requires { (front : List GivenSeries) × (last : GivenSeries)
             × IsBuilding (front ++ last ∷ []) into.old.items entries.old.items self.old × (0 < length last.points) }
-        ensures ok { OnOk result ((given : List Series) →
+        ensures ok { OnOk result ((given : List GivenSeries) →
             IsBuilding given into.old.items entries.old.items self.old →
             AreClosed given (device_in self.old.path) (measurement_in self.old.path) into.new.items entries.new.items) }
-        ensures memory { OnErr result ((given : List Series) →
+        ensures memory { OnErr result ((given : List GivenSeries) →
             IsBuilding given into.old.items entries.old.items self.old →
             IsBuilding given into.new.items entries.new.items self.new) }
     {
@@ -248,12 +249,12 @@ impl Builder {
     ) -> Result<(), BuildFault>
         requires nodes { 2 ≤ node_count schema_path.now }
         requires suits { is_suitable data_type encoding ≡ true }
-        requires follows { WasGiven self.old [] ⊎ ((front : List Series) × (last : Series)
+        requires follows { WasGiven self.old [] ⊎ ((front : List GivenSeries) × (last : GivenSeries)
             × WasGiven self.old (front ++ last ∷ [])
             × MayBeFollowedBy (device_in schema_path.now) (measurement_in schema_path.now) last) }
-        ensures ok { OnOk result ((given : List Series) → WasGiven self.old given →
-            WasGiven self.new (given ++ series_at schema_path.now data_type encoding ∷ [])) }
-        ensures memory { OnErr result ((given : List Series) → WasGiven self.old given → WasGiven self.new given) }
+        ensures ok { OnOk result ((given : List GivenSeries) → WasGiven self.old given →
+            WasGiven self.new (given ++ given_series schema_path.now data_type encoding ∷ [])) }
+        ensures memory { OnErr result ((given : List GivenSeries) → WasGiven self.old given → WasGiven self.new given) }
     {
         let next = OpenSeries::new(self.alloc, schema_path, data_type, encoding)?;
         match &mut self.series {
@@ -266,11 +267,12 @@ impl Builder {
 
     /// Gives the last series a point of its type, later than the points before.
     pub fn point(&mut self, point: Point) -> Result<(), BuildFault>
-        requires { (front : List Series) × (last : Series)
+        requires { (front : List GivenSeries) × (last : GivenSeries)
             × WasGiven self.old (front ++ last ∷ []) × MayTake point last }
-        ensures ok { OnOk result ((front : List Series) (last : Series) → WasGiven self.old (front ++ last ∷ []) →
+        ensures ok { OnOk result ((front : List GivenSeries) (last : GivenSeries)
+            → WasGiven self.old (front ++ last ∷ []) →
             WasGiven self.new (front ++ with_last_point point last ∷ [])) }
-        ensures memory { OnErr result ((given : List Series) → WasGiven self.old given → WasGiven self.new given) }
+        ensures memory { OnErr result ((given : List GivenSeries) → WasGiven self.old given → WasGiven self.new given) }
     {
         let Some(last) = &mut self.series else {
             unreachable!()
@@ -281,9 +283,9 @@ impl Builder {
 
     /// The bytes of the file, where the last series has a point. Its tree is one that a reader reads back.
     pub fn finish(mut self) -> Result<Vec<u8>, BuildFault>
-        requires { (front : List Series) × (last : Series)
+        requires { (front : List GivenSeries) × (last : GivenSeries)
             × WasGiven self (front ++ last ∷ []) × (0 < length last.points) }
-        ensures { IfOk result (λ bytes. (given : List Series) → WasGiven self given →
+        ensures { IfOk result (λ bytes. (given : List GivenSeries) → WasGiven self given →
             (tree : Tree) × IsTreeOf given tree × IsFile tree bytes.items × IsMade tree) }
     {
         let Some(last) = &mut self.series else {

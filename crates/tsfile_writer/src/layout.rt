@@ -4,10 +4,10 @@ ghost use Rattle.std.specs.Prelude.{◌≡◌, ◌+◌, ◌<◌, ◌≤◌, ◌+
 ghost use Rattle.std.specs.Prelude.{OnOk, OnErr};
 ghost use Rattle.tsdb_base.specs.Fields.{number64};
 ghost use Rattle.tsdb_base.specs.Values.{is_suitable};
-ghost use Rattle.tsdb_index.specs.Spelling.{IsSpelling};
+ghost use Rattle.tsdb_index.specs.Spelling.{IsIndexSpelling};
 ghost use Rattle.tsdb_pages.specs.File.{chunk_start, group_start, magic, page_bytes};
 ghost use Rattle.tsdb_pages.specs.Pages.{ArePoints};
-ghost use Rattle.tsfile_writer.specs.Steps.{AreStatsOfBoth, IsBegun, IsLonger, SameChunk};
+ghost use Rattle.tsfile_writer.specs.Steps.{AreStatsOfBoth, IsChunkBegun, IsLonger, SameChunk};
 
 use std::alloc::Global;
 use tsdb_base::limits::MAX_PAGES;
@@ -119,7 +119,7 @@ pub(crate) fn append_chunk(
     requires points { ArePoints data_type points.now }
     ensures bytes { OnOk result (into.new.items ≡
         into.old.items ++ (chunk_start measurement.now data_type encoding ++ page_bytes encoding points.now)) }
-    ensures chunk { IfOk result (IsBegun (length into.old.items)
+    ensures chunk { IfOk result (IsChunkBegun (length into.old.items)
         (length (chunk_start measurement.now data_type encoding)) points.now) }
     ensures kept { take (vec_len into.old) into.new.items ≡ into.old.items }
 {
@@ -207,7 +207,7 @@ pub(crate) fn append_end(
 ) -> Result<Vec<u8>, Memory>
     requires { 0 < length entries.items }
     ensures { IfOk result (λ file. (index : List ℕ) × (root : ℕ)
-        × IsSpelling (length bytes.items) root entries.items index
+        × IsIndexSpelling (length bytes.items) root entries.items index
         × (file.items ≡ bytes.items ++ index ++ number64 root ++ magic)) }
 {
     let index = Index {

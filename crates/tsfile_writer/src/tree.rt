@@ -4,7 +4,7 @@ ghost use Rattle.tsdb_pages.specs.declared.tree.Chunk.{Chunk as ChunkOf};
 ghost use Rattle.tsdb_pages.specs.declared.tree.Group.{Group as GroupOf};
 ghost use Rattle.tsdb_pages.specs.File.{IsFile};
 ghost use Rattle.tsdb_pages.specs.Trees.{IsChunk, IsGroup, IsMade, IsTree};
-ghost use Rattle.tsfile_writer.specs.Steps.{AreChunks, AreGroups};
+ghost use Rattle.tsfile_writer.specs.Steps.{AreChunks, AreGroupsWritten};
 
 use crate::layout::{append_chunk, append_end, append_group_start};
 use crate::told::tell_tree;
@@ -59,8 +59,8 @@ fn write_group(
     into: &mut Vec<u8>,
 ) -> Result<(), Memory>
     requires { IsGroup group.now }
-    ensures ok { OnOk result ((groups : List GroupOf) → AreGroups groups into.old.items entries.old.items →
-        AreGroups (groups ++ group.now ∷ []) into.new.items entries.new.items) }
+    ensures ok { OnOk result ((groups : List GroupOf) → AreGroupsWritten groups into.old.items entries.old.items →
+        AreGroupsWritten (groups ++ group.now ∷ []) into.new.items entries.new.items) }
 {
     append_group_start(&group.device, into)?;
     for chunk in group.chunks.items() {

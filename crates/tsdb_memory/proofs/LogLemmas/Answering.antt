@@ -5,19 +5,19 @@ use Rattle.std.specs.Result.{IsErr}
 use Rattle.tsdb_base.specs.declared.answers.Answer.TheVariants.{Done}
 use Rattle.tsdb_memory.specs.Answers.{IsAccepted, IsCreateAnswer, IsDeleteAnswer, IsFreezeAnswer, answer_by}
 use Rattle.tsdb_memory.specs.Shown.{number_of}
-use Rattle.tsdb_memory.specs.Store.{FrozenPair, Store, frozen_with_working}
+use Rattle.tsdb_memory.specs.Store.{FrozenPair, MemoryState, frozen_with_working}
 use Rattle.tsdb_memtable.specs.Pairs.{Pair}
 use Rattle.tsdb_outside.specs.declared.faults.StoreFault.{StoreFault}
 use Rattle.tsdb_outside.specs.declared.faults.StoreFault.TheVariants as fault
 use Rattle.tsdb_base.specs.Limits.{end_of_numbers}
 
-pub create_answered : (store : Store) (path : List ℕ) (result : Result (Unit {0}) StoreFault)
+pub create_answered : (store : MemoryState) (path : List ℕ) (result : Result (Unit {0}) StoreFault)
     → number_of store.series path ≡ None → store.stamp < end_of_numbers → IsCreateAnswer store path (answer_by result)
 create_answered store path (Ok done) free stamp = (free, stamp)
 create_answered store path (Err fault.Failed) free stamp = (free, stamp)
 create_answered store path (Err fault.Memory) free stamp = tt
 
-pub delete_answered : (store : Store) (path : List ℕ) (result : Result (Unit {0}) StoreFault)
+pub delete_answered : (store : MemoryState) (path : List ℕ) (result : Result (Unit {0}) StoreFault)
     → IsSome (number_of store.series path) → store.stamp < end_of_numbers
     → IsDeleteAnswer store path (answer_by result)
 delete_answered store path (Ok done) there stamp = (there, stamp)
@@ -42,7 +42,7 @@ err_not_done (Err fault.Failed) is done = cc
 err_not_done (Err fault.Memory) is done = cc
 
 -- the frozen pairs after a freeze depend on the pairs and the stamp alone
-pub same_frozen : (old new : Store) → new.frozen ≡ old.frozen → new.stamp ≡ old.stamp → new.working ≡ old.working
+pub same_frozen : (old new : MemoryState) → new.frozen ≡ old.frozen → new.stamp ≡ old.stamp → new.working ≡ old.working
     → frozen_with_working new ≡ frozen_with_working old
 same_frozen old new frozen stamp working =
     ap (λ (f : List FrozenPair). made f new.stamp new.working) frozen

@@ -13,7 +13,7 @@ use Rattle.tsdb_log.specs.Spelling.{spelling}
 use Rattle.tsdb_log.specs.declared.record.LogRecord.{LogRecord}
 use Rattle.tsdb_memory.specs.Appends.{HasItems, IsAppended}
 use Rattle.tsdb_memory.specs.Logged.{HasLog, log_of, two_numbers}
-use Rattle.tsdb_memory.specs.declared.logged.Logged.{Logged}
+use Rattle.tsdb_memory.specs.declared.logged.LoggedMemory.{LoggedMemory}
 use Rattle.tsdb_base.specs.Causes.{Rose}
 use Rattle.tsdb_outside.specs.Causes.{HasCause}
 use Rattle.tsdb_outside.specs.Disk.{Image, IsLawful, DiskState, in_slot}
@@ -56,7 +56,7 @@ module _ {J : Type 0} {means : disk.Ghosts J} {counts : counted.Ghosts J} where
       (λ image. HasRecordsOrOneMore acknowledged in_doubt (in_slot (slot_of old) image))
 
   -- the settling failed
-  pub settling_failed : (old new : Logged J means counts) (item : LogRecord) (fault : Failed)
+  pub settling_failed : (old new : LoggedMemory J means counts) (item : LogRecord) (fault : Failed)
       → ((acknowledged : List (List ℕ)) (in_doubt : Option (List ℕ)) → IsLog (log_of old) acknowledged in_doubt
       → IsLog (log_of new) acknowledged in_doubt)
       → IsSettling (log_of old) (log_of new) → slot_of (log_of new) ≡ slot_of (log_of old)
@@ -75,7 +75,7 @@ module _ {J : Type 0} {means : disk.Ghosts J} {counts : counted.Ghosts J} where
   }
 
   -- it succeeded, and the append was made
-  module _ (old new : Logged J means counts) (mid : Frames J means counts) (item : LogRecord)
+  module _ (old new : LoggedMemory J means counts) (mid : Frames J means counts) (item : LogRecord)
       (settled : (acknowledged : List (List ℕ)) (in_doubt : Option (List ℕ)) → IsLog (log_of old) acknowledged in_doubt
       → IsLog mid acknowledged None)
       (moments : IsSettling (log_of old) mid) (slot : slot_of mid ≡ slot_of (log_of old))

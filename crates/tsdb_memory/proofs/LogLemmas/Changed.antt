@@ -19,7 +19,7 @@ use Rattle.tsdb_memory.specs.Commands.{create_record}
 use Rattle.tsdb_memory.specs.Least.{least_with}
 use Rattle.tsdb_memory.specs.Rows.{ChangesRoom}
 use Rattle.tsdb_memory.specs.Shown.{number_of}
-use Rattle.tsdb_memory.specs.Store.{FrozenPair, Store}
+use Rattle.tsdb_memory.specs.Store.{FrozenPair, MemoryState}
 use Rattle.tsdb_memtable.specs.Pairs.{Pair, change_points, points_of, without_range}
 use Rattle.tsdb_memtable.specs.Points.{is_outside}
 use Rattle.tsdb_memtable.specs.Watermarks.{space_by}
@@ -30,7 +30,7 @@ use Rattle.tsdb_state.specs.Records.{add_mark}
 
 -- nothing has changed; or room has, twice
 
-pub room_itself : (store : Store) → ChangesRoom store store
+pub room_itself : (store : MemoryState) → ChangesRoom store store
 room_itself store = record {
   series = refl;
   stamp = refl;
@@ -40,7 +40,7 @@ room_itself store = record {
   working = λ space number. refl;
 }
 
-room_both : (old mid new : Store) → ChangesRoom old mid → ChangesRoom mid new → ChangesRoom old new
+room_both : (old mid new : MemoryState) → ChangesRoom old mid → ChangesRoom mid new → ChangesRoom old new
 room_both old mid new first second = record {
   series = second.series ∙ first.series;
   stamp = second.stamp ∙ first.stamp;
@@ -51,11 +51,11 @@ room_both old mid new first second = record {
 }
 
 -- the record was appended over memory as it was
-pub over_append : (old mid after : Store) → after ≡ mid → ChangesRoom old mid → ChangesRoom old after
-over_append old mid after same room = subst (λ (s : Store). ChangesRoom old s) (sym same) room
+pub over_append : (old mid after : MemoryState) → after ≡ mid → ChangesRoom old mid → ChangesRoom old after
+over_append old mid after same room = subst (λ (s : MemoryState). ChangesRoom old s) (sym same) room
 
 -- where it failed, nothing but room has changed
-pub unchanged : (Has : Store → Store → Type 0) (old new : Store) (result : Result (Unit {0}) StoreFault) → IsErr result
+pub unchanged : (Has : MemoryState → MemoryState → Type 0) (old new : MemoryState) (result : Result (Unit {0}) StoreFault) → IsErr result
     → ChangesRoom old new → MemoryAfter Has old new (answer_by result)
 unchanged Has old new (Ok done) is room = absurd (cc)
 unchanged Has old new (Err fault.Failed) is room = room
@@ -70,7 +70,7 @@ same_schema a b same =
     let encoding : a.encoding ≡ b.encoding = cc in
     λ i. record { path = path i; data_type = data_type i; encoding = encoding i }
 
-pub created_after : (old mid new : Store) (made schema : Schema) → create_record made ≡ create_record schema
+pub created_after : (old mid new : MemoryState) (made schema : Schema) → create_record made ≡ create_record schema
     → ChangesRoom old mid → HasCreated made mid new → HasCreated schema old new
 created_after old mid new made schema same room has = record {
   series = has.series ∙ (λ i. room.series i ++ same_schema made schema same i ∷ []);
@@ -83,7 +83,7 @@ created_after old mid new made schema same room has = record {
 
 -- a row
 
-pub inserted_after : (old mid new : Store) (device : List ℕ) (time : ℤ) (cells : List CellRecord)
+pub inserted_after : (old mid new : MemoryState) (device : List ℕ) (time : ℤ) (cells : List CellRecord)
     → ChangesRoom old mid → HasInserted device time cells mid new → HasInserted device time cells old new
 inserted_after old mid new device time cells room has = record {
   series = has.series ∙ room.series;
@@ -118,7 +118,7 @@ cut_same (Some n) range pair other same space number = by (eq_by_cmp nat_cmp n n
     by false e = erased_there space n range pair number (apart e) ∙ same space number
         ∙ sym (erased_there space n range other number (apart e))
 
-pub deleted_after : (old mid new : Store) (path : List ℕ) (range : Range) (listed : Option Stamp)
+pub deleted_after : (old mid new : MemoryState) (path : List ℕ) (range : Range) (listed : Option Stamp)
     → ChangesRoom old mid → HasDeleted path range listed mid new → HasDeleted path range listed old new
 deleted_after old mid new path range listed room has = record {
   series = has.series ∙ room.series;
@@ -135,7 +135,7 @@ deleted_after old mid new path range listed room has = record {
 
 -- a freeze
 
-pub frozen_after : (old mid new : Store) → mid.working ≡ old.working → ChangesRoom old mid → HasFrozen mid new
+pub frozen_after : (old mid new : MemoryState) → mid.working ≡ old.working → ChangesRoom old mid → HasFrozen mid new
     → HasFrozen old new
 frozen_after old mid new working room has = record {
   series = has.series ∙ room.series;
@@ -147,5 +147,5 @@ frozen_after old mid new working room has = record {
 
 -- files that come and go
 
-pub series_kept : (store : Store) → KeepsSeries store store
+pub series_kept : (store : MemoryState) → KeepsSeries store store
 series_kept store = record { series = refl; stamp = refl; watermarks = λ device. refl; working = refl }

@@ -11,8 +11,8 @@ use Rattle.tsdb_state.specs.Stored.{LeadsTo, LeavesOneOf}
 use Rattle.tsdb_log.specs.Spelling.{spelling}
 use Rattle.tsdb_log.specs.declared.record.LogRecord.{LogRecord}
 use Rattle.tsdb_memory.specs.Closing.{IsClosed, LeavesRecords}
-use Rattle.tsdb_memory.specs.Logged.{IsSound, Outside, log_of}
-use Rattle.tsdb_memory.specs.declared.logged.Logged.{Logged}
+use Rattle.tsdb_memory.specs.Logged.{IsSoundLogged, Outside, log_of}
+use Rattle.tsdb_memory.specs.declared.logged.LoggedMemory.{LoggedMemory}
 use Rattle.tsdb_model.specs.State as plain
 use Rattle.tsdb_base.specs.Causes.{Rose}
 use Rattle.tsdb_outside.specs.Causes.{HasCause}
@@ -26,8 +26,8 @@ use Rattle.tsdb_state.specs.Stores as store
 use Rattle.tsdb_state.specs.State.{EngineState}
 use Rattle.tsdb_state.specs.Steps.{settled}
 
-module _ {J : Type 0} {means : disk.Ghosts J} {counts : counted.Ghosts J} (logged : Logged J means counts)
-    (outside : Outside) (state : EngineState) (at : plain.State) (sound : IsSound logged outside state)
+module _ {J : Type 0} {means : disk.Ghosts J} {counts : counted.Ghosts J} (logged : LoggedMemory J means counts)
+    (outside : Outside) (state : EngineState) (at : plain.State) (sound : IsSoundLogged logged outside state)
     (stands : store.IsStateOf outside.told state.store at) where
   pub closing_moments : (next : Option plain.State) (new : DiskState) → LeadsTo outside.told state.store state.doubt next
       → LeavesOnly (disk_of (log_of logged)) new (λ image. HasRecordsOrOneMore (map spelling outside.items)
@@ -41,7 +41,7 @@ module _ {J : Type 0} {means : disk.Ghosts J} {counts : counted.Ghosts J} (logge
   }
 
   -- the slot is settled, and its log has the acknowledged records
-  pub closed_sound : (journal : J) (log : Frames J means counts) (files : store.Files)
+  pub closed_sound : (journal : J) (log : Frames J means counts) (files : store.BytesByNumber)
       → IsLog log (map spelling outside.items) None → slot_of log ≡ slot_of (log_of logged) → journal ≡ log.journal
       → IsSettled (slot_of log) (means.state journal) → store.HoldsKept outside.kept files
       → store.IsSound (slot_of (log_of logged)) (means.state journal) files at
@@ -62,7 +62,7 @@ closed_records {J} {means} slot journal log items stands same is =
     (subst (λ (j : J). LeavesRecords (slot_of log) (means.state j) items) (sym is) stands.stands.left)
 
 -- a settling, and then the end
-pub closed : {J : Type 0} {means : disk.Ghosts J} {counts : counted.Ghosts J} (logged : Logged J means counts)
+pub closed : {J : Type 0} {means : disk.Ghosts J} {counts : counted.Ghosts J} (logged : LoggedMemory J means counts)
     (log : Frames J means counts) (journal : J) (outcome : Result (Unit {0}) Failed)
     → OnOk outcome ((acknowledged : List (List ℕ)) (in_doubt : Option (List ℕ))
     → IsLog (log_of logged) acknowledged in_doubt → IsLog log acknowledged None)
@@ -110,14 +110,14 @@ closed {J} {means} {counts} logged log journal outcome settled_log failed_log mo
     by (Err fault) settled_log failed_log cause acknowledged in_doubt was (inr none) =
         failed_log acknowledged None (subst (λ d. IsLog (log_of logged) acknowledged (option_map spelling d)) none was)
 
-    stands_still : (outside : Outside) (state : EngineState) → IsSound logged outside state
+    stands_still : (outside : Outside) (state : EngineState) → IsSoundLogged logged outside state
         → (¬ Rose (faults_of (log_of logged)) (counts.faults journal)) ⊎ (state.doubt ≡ None)
         → IsLog log (map spelling outside.items) None
     stands_still outside state sound sure =
         by outcome settled_log failed_log cause (map spelling outside.items) state.doubt sound.log.log sure
 
-    is_sound : (outside : Outside) (state : EngineState) (at : plain.State) (files : store.Files)
-        → IsSound logged outside state → store.IsStateOf outside.told state.store at
+    is_sound : (outside : Outside) (state : EngineState) (at : plain.State) (files : store.BytesByNumber)
+        → IsSoundLogged logged outside state → store.IsStateOf outside.told state.store at
         → store.HoldsKept outside.kept files → IsLog log (map spelling outside.items) None
         → store.IsSound (slot_of (log_of logged)) (means.state journal) files at
     is_sound outside state at files sound stands holds log_is = closed_sound logged outside state at sound stands journal

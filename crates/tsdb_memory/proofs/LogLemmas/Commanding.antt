@@ -13,13 +13,13 @@ use Rattle.tsdb_memory.proofs.LogLemmas.Series.{can_create, can_delete}
 use Rattle.tsdb_memory.proofs.LogLemmas.Steps.{appended_from, both_kept, faulted, no_memory, written}
 use Rattle.tsdb_memory.specs.Answers.{answer_by}
 use Rattle.tsdb_memory.specs.Appends.{HasStopped, IsAppended}
-use Rattle.tsdb_memory.specs.Commands.{CanPut, CanStop, IsCommand, IsPrepared, create_record}
-use Rattle.tsdb_memory.specs.Logged.{HasLog, IsSound, IsStoredIn, Outside, memory_of, room_of, with_record}
-use Rattle.tsdb_memory.specs.declared.logged.Logged.{Logged}
+use Rattle.tsdb_memory.specs.Commands.{CanPut, CanStop, HasCommandEffect, IsPrepared, create_record}
+use Rattle.tsdb_memory.specs.Logged.{HasLog, IsSoundLogged, IsStoredIn, Outside, memory_of, framed_room, with_record}
+use Rattle.tsdb_memory.specs.declared.logged.LoggedMemory.{LoggedMemory}
 use Rattle.tsdb_model.specs.Commands.{IsSchema}
 use Rattle.tsdb_model.specs.declared.command.Schema.{Schema}
 use Rattle.tsdb_memory.specs.Shown.{IsMemoryOf, number_of}
-use Rattle.tsdb_memory.specs.Store.{Store}
+use Rattle.tsdb_memory.specs.Store.{MemoryState}
 use Rattle.tsdb_outside.specs.declared.disk.Disk as disk
 use Rattle.tsdb_outside.specs.declared.faults.Counted as counted
 use Rattle.tsdb_outside.specs.declared.faults.StoreFault.{StoreFault}
@@ -31,13 +31,13 @@ use Rattle.tsdb_state.specs.Steps.{failed, wrote}
 
 module _ {J : Type 0} {means : disk.Ghosts J} {counts : counted.Ghosts J} where
   -- the record leads from each sound state that has what it needs to a stored one, and may be in doubt
-  pub record CanLog (old : Logged J means counts) (item : LogRecord) (Needs : EngineState → Type 0) : Type 0 where
-    pub stored : (outside : Outside) (state : EngineState) → IsSound old outside state → Needs state
+  pub record CanLog (old : LoggedMemory J means counts) (item : LogRecord) (Needs : EngineState → Type 0) : Type 0 where
+    pub stored : (outside : Outside) (state : EngineState) → IsSoundLogged old outside state → Needs state
         → IsStoredIn (with_record item outside) (wrote item state)
-    pub doubtful : (outside : Outside) (state : EngineState) → IsSound old outside state → Needs state
+    pub doubtful : (outside : Outside) (state : EngineState) → IsSoundLogged old outside state → Needs state
         → IsStoredIn outside (failed item state)
 
-  pub logs_create : (old : Logged J means counts) (schema : Schema) (Needs : EngineState → Type 0)
+  pub logs_create : (old : LoggedMemory J means counts) (schema : Schema) (Needs : EngineState → Type 0)
       → IsSchema schema → number_of (memory_of old).series schema.path ≡ None → (memory_of old).stamp < end_of_numbers
       → IsRecord (create_record schema) → CanLog old (create_record schema) Needs
   logs_create old schema Needs formed free stamp good = record {
@@ -47,7 +47,7 @@ module _ {J : Type 0} {means : disk.Ghosts J} {counts : counted.Ghosts J} where
         sound.stored schema (can_create (memory_of old) state.store schema sound.memory formed free stamp) good;
   }
 
-  pub logs_delete : (old : Logged J means counts) (path : List ℕ) (range : Range)
+  pub logs_delete : (old : LoggedMemory J means counts) (path : List ℕ) (range : Range)
       (Needs : EngineState → Type 0) → IsSome (number_of (memory_of old).series path)
       → (memory_of old).stamp < end_of_numbers → IsRecord (Delete path range) → CanLog old (Delete path range) Needs
   logs_delete old path range Needs there stamp good = record {
@@ -57,7 +57,7 @@ module _ {J : Type 0} {means : disk.Ghosts J} {counts : counted.Ghosts J} where
         sound.stored path range (can_delete (memory_of old) state.store path sound.memory there stamp) good;
   }
 
-  pub logs_insert : (old : Logged J means counts) (time : ℤ) (cells : List CellRecord) → IsRecord (Insert time cells)
+  pub logs_insert : (old : LoggedMemory J means counts) (time : ℤ) (cells : List CellRecord) → IsRecord (Insert time cells)
       → CanLog old (Insert time cells) (CanPut time cells)
   logs_insert old time cells good = record {
     stored = λ outside state sound needs. insert_stored outside.items outside.kept outside.told outside.known state
@@ -66,7 +66,7 @@ module _ {J : Type 0} {means : disk.Ghosts J} {counts : counted.Ghosts J} where
         sound.stored time cells needs.0 needs.1 good;
   }
 
-  pub logs_freeze : (old : Logged J means counts) → IsRecord Freeze → CanLog old Freeze CanStop
+  pub logs_freeze : (old : LoggedMemory J means counts) → IsRecord Freeze → CanLog old Freeze CanStop
   logs_freeze old good = record {
     stored = λ outside state sound needs. freeze_stored outside.items outside.kept outside.told outside.known state
         sound.stored needs good;
@@ -75,7 +75,7 @@ module _ {J : Type 0} {means : disk.Ghosts J} {counts : counted.Ghosts J} where
   }
 
   -- what is in memory says nothing of the log
-  pub other_memory : (old logged : Logged J means counts) (memory : Store) (item : LogRecord)
+  pub other_memory : (old logged : LoggedMemory J means counts) (memory : MemoryState) (item : LogRecord)
       → IsAppended old logged item (Ok tt) → IsAppended old (record logged { memory = memory }) item (Ok tt)
   other_memory old logged memory item append = record {
     added = λ items doubt has. keep items (append.added items doubt has);
@@ -89,20 +89,20 @@ module _ {J : Type 0} {means : disk.Ghosts J} {counts : counted.Ghosts J} where
           → HasLog (record logged { memory = memory }) (items ++ item ∷ []) None
       keep items has = record { log = has.log; named = has.named }
 
-  module _ (old mid logged : Logged J means counts) (item : LogRecord) (Needs : EngineState → Type 0)
+  module _ (old mid logged : LoggedMemory J means counts) (item : LogRecord) (Needs : EngineState → Type 0)
       (can : IsRecord item → CanLog old item Needs) (prepared : IsPrepared old mid)
-      (room : room_of mid ≤ room_of logged) (same : memory_of logged ≡ memory_of mid) where
-    all_room : room_of old ≤ room_of logged
+      (room : framed_room mid ≤ framed_room logged) (same : memory_of logged ≡ memory_of mid) where
+    all_room : framed_room old ≤ framed_room logged
     all_room = omega (arith, prepared.record_room, room)
 
     shown : (state : StoreState) → IsMemoryOf (memory_of old) state → IsMemoryOf (memory_of logged) state
     shown state is = subst (λ store. IsMemoryOf store state) (sym same) (prepared.same state is)
 
     -- its record was appended, and it took effect
-    pub takes_effect : (memory : Store) → IsRecord item × IsAppended mid logged item (Ok tt)
+    pub takes_effect : (memory : MemoryState) → IsRecord item × IsAppended mid logged item (Ok tt)
         → ((state : EngineState) → IsMemoryOf (memory_of logged) state.store → Needs state
         → IsMemoryOf memory (after item state.store))
-        → IsCommand old (record logged { memory = memory }) item Needs answer.Done
+        → HasCommandEffect old (record logged { memory = memory }) item Needs answer.Done
     takes_effect memory ended effect =
         written old (record logged { memory = memory }) item Needs (can ended.0).stored (can ended.0).doubtful
         (other_memory old logged memory item (appended_from old mid logged item (Ok tt) prepared.log ended.1))
@@ -110,7 +110,7 @@ module _ {J : Type 0} {means : disk.Ghosts J} {counts : counted.Ghosts J} where
 
     -- its append failed, or memory ended before it
     pub stops : (fault : StoreFault) → HasStopped mid logged item fault
-        → IsCommand old logged item Needs (answer_by (Err fault))
+        → HasCommandEffect old logged item Needs (answer_by (Err fault))
     stops store.Failed ended = faulted old logged item Needs (can ended.0).stored (can ended.0).doubtful (record {})
         (appended_from old mid logged item (Err record {}) prepared.log ended.1) shown all_room
     stops store.Memory ended = no_memory old logged item Needs (both_kept old mid logged prepared.log ended.0) shown

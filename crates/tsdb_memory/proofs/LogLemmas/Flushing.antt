@@ -11,8 +11,8 @@ use Rattle.tsdb_log.specs.declared.record.LogRecord.{LogRecord}
 use Rattle.tsdb_log.specs.declared.record.LogRecord.TheVariants.{Flushed}
 use Rattle.tsdb_memory.specs.Appends.{HasItems, IsAppended}
 use Rattle.tsdb_memory.specs.Flushes.{CanCommit}
-use Rattle.tsdb_memory.specs.Logged.{HasLog, IsFaulted, IsSound, IsStoredIn, LeavesStates, Outside, log_of, memory_of, with_record}
-use Rattle.tsdb_memory.specs.declared.logged.Logged.{Logged}
+use Rattle.tsdb_memory.specs.Logged.{HasLog, IsFaulted, IsSoundLogged, IsStoredIn, LeavesStates, Outside, log_of, memory_of, with_record}
+use Rattle.tsdb_memory.specs.declared.logged.LoggedMemory.{LoggedMemory}
 use Rattle.tsdb_memory.specs.Least.{IsLeastOf}
 use Rattle.tsdb_memory.specs.Shown.{IsMemoryOf, file_borns}
 use Rattle.tsdb_outside.specs.Moments.{LeavesFirstThen}
@@ -22,13 +22,13 @@ use Rattle.tsdb_outside.specs.declared.faults.Failed.{Failed}
 use Rattle.tsdb_base.specs.Lists.{count}
 use Rattle.tsdb_state.specs.Jobs.{drawn_by}
 use Rattle.tsdb_state.specs.Records.{after, numbers_of}
-use Rattle.tsdb_state.specs.State.{EngineState, FlushJob, StoreState}
+use Rattle.tsdb_state.specs.State.{EngineState, FlushState, StoreState}
 use Rattle.tsdb_state.specs.Steps.{EndsFlush, committed_flush, ended_flush, failed, flush_record}
 
-module _ {J : Type 0} {means : disk.Ghosts J} {counts : counted.Ghosts J} (old new : Logged J means counts)
+module _ {J : Type 0} {means : disk.Ghosts J} {counts : counted.Ghosts J} (old new : LoggedMemory J means counts)
     (sequence unsequence : FileNumber) (listed : Option Stamp) (good : IsRecord (Flushed sequence unsequence))
-    (outside : Outside) (state : EngineState) (flush : FlushJob) (others : List FlushJob)
-    (sound : IsSound old outside state) (can : CanCommit sequence unsequence listed outside state flush others) where
+    (outside : Outside) (state : EngineState) (flush : FlushState) (others : List FlushState)
+    (sound : IsSoundLogged old outside state) (can : CanCommit sequence unsequence listed outside state flush others) where
   abbrev item : LogRecord
   item = Flushed sequence unsequence
 
@@ -58,7 +58,7 @@ module _ {J : Type 0} {means : disk.Ghosts J} {counts : counted.Ghosts J} (old n
   pub flush_done : IsAppended old new item (Ok tt)
       → ((shown : StoreState) → IsMemoryOf (memory_of old) shown → IsLeastOf listed (file_borns (after item shown))
       → IsMemoryOf (memory_of new) (after item shown))
-      → IsSound new (with_record (flush_record flush) outside) (committed_flush flush others state)
+      → IsSoundLogged new (with_record (flush_record flush) outside) (committed_flush flush others state)
   flush_done append effect = record {
     memory = subst (λ (i : LogRecord). IsMemoryOf (memory_of new) (after i state.store)) (sym can.numbers)
         (effect state.store sound.memory

@@ -23,10 +23,10 @@ use Rattle.tsdb_log.specs.declared.record.LogRecord.{LogRecord}
 use Rattle.tsdb_log.specs.declared.record.LogRecord.TheVariants.{Create, Delete, Flushed, Freeze, Insert, Replaced}
 use Rattle.tsdb_log.specs.declared.record.LogRecord.TheVariants.{Snapshot}
 use Rattle.tsdb_memory.specs.Appends.{IsAppended}
-use Rattle.tsdb_memory.specs.Logged.{HasLog, IsFaulted, IsSound, IsStoredIn, LeavesStates, Outside, log_of, memory_of}
+use Rattle.tsdb_memory.specs.Logged.{HasLog, IsFaulted, IsSoundLogged, IsStoredIn, LeavesStates, Outside, log_of, memory_of}
 use Rattle.tsdb_memory.specs.Logged.{with_record}
-use Rattle.tsdb_memory.specs.Replacing.{CanReplace, IsReplacement, replacement_bytes}
-use Rattle.tsdb_memory.specs.declared.logged.Logged.{Logged}
+use Rattle.tsdb_memory.specs.Replacing.{CanCommitReplacement, IsReplacement, replacement_bytes}
+use Rattle.tsdb_memory.specs.declared.logged.LoggedMemory.{LoggedMemory}
 use Rattle.tsdb_memory.specs.Least.{IsLeastOf}
 use Rattle.tsdb_memory.specs.Shown.{IsMemoryOf, file_borns}
 use Rattle.tsdb_outside.specs.declared.disk.Disk as disk
@@ -120,11 +120,11 @@ has_room room (Snapshot snapshot) is less = absurd is
 
 -- ---- the step
 
-module _ {J : Type 0} {means : disk.Ghosts J} {counts : counted.Ghosts J} (old new : Logged J means counts)
+module _ {J : Type 0} {means : disk.Ghosts J} {counts : counted.Ghosts J} (old new : LoggedMemory J means counts)
     (item : LogRecord) (listed : Option Stamp) (good : IsRecord item)
     (outside : Outside) (state : EngineState) (job : Compaction) (others : List Compaction) (output : List File)
-    (place : ℕ) (sound : IsSound old outside state)
-    (can : CanReplace item listed outside state job others output place) where
+    (place : ℕ) (sound : IsSoundLogged old outside state)
+    (can : CanCommitReplacement item listed outside state job others output place) where
   -- the output is on its way out
   abbrev gone : EngineState
   gone = ended job others output state
@@ -158,7 +158,7 @@ module _ {J : Type 0} {means : disk.Ghosts J} {counts : counted.Ghosts J} (old n
   pub replaced_done : IsAppended old new item (Ok tt)
       → ((shown : StoreState) (item : Replacement) → IsMemoryOf (memory_of old) shown
       → IsLeastOf listed (file_borns (replaced item shown)) → IsMemoryOf (memory_of new) (replaced item shown))
-      → IsSound new (with_record item outside) (committed job others output place state)
+      → IsSoundLogged new (with_record item outside) (committed job others output place state)
   replaced_done append effect = record {
     memory = effect state.store shown_as sound.memory can.least;
     log = append.added outside.items state.doubt sound.log;

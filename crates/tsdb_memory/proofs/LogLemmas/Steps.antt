@@ -15,9 +15,9 @@ use Rattle.tsdb_log.specs.Spelling.{spelling}
 use Rattle.tsdb_log.specs.declared.record.LogRecord.{LogRecord}
 use Rattle.tsdb_memory.specs.Answers.{IsRefusal}
 use Rattle.tsdb_memory.specs.Appends.{IsAppended, IsLogKept}
-use Rattle.tsdb_memory.specs.Commands.{IsAfter, IsCommand, IsPrepared}
-use Rattle.tsdb_memory.specs.Logged.{HasLog, IsFaulted, IsSound, IsStoredIn, LeavesStates, Outside, log_of, memory_of, room_of, two_numbers, with_record}
-use Rattle.tsdb_memory.specs.declared.logged.Logged.{Logged}
+use Rattle.tsdb_memory.specs.Commands.{IsAfter, HasCommandEffect, IsPrepared}
+use Rattle.tsdb_memory.specs.Logged.{HasLog, IsFaulted, IsSoundLogged, IsStoredIn, LeavesStates, Outside, log_of, memory_of, framed_room, two_numbers, with_record}
+use Rattle.tsdb_memory.specs.declared.logged.LoggedMemory.{LoggedMemory}
 use Rattle.tsdb_memory.specs.Shown.{IsMemoryOf}
 use Rattle.tsdb_outside.proofs.DiskLemmas.{Elapses-same}
 use Rattle.tsdb_outside.specs.Causes.{HasCause}
@@ -32,8 +32,8 @@ use Rattle.tsdb_state.specs.Steps.{failed, wrote}
 
 module _ {J : Type 0} {means : disk.Ghosts J} {counts : counted.Ghosts J} where
   -- where the log is as it was
-  untouched : (old new : Logged J means counts) (outside : Outside) (state : EngineState) (item : LogRecord)
-      → IsSound old outside state → log_of new ≡ log_of old → LeavesStates old new outside state item
+  untouched : (old new : LoggedMemory J means counts) (outside : Outside) (state : EngineState) (item : LogRecord)
+      → IsSoundLogged old outside state → log_of new ≡ log_of old → LeavesStates old new outside state item
   untouched old new outside state item sound same at after next stands leads leads_after =
       subst (λ (log : Frames J means counts). LeavesOnly (disk_of (log_of old)) (disk_of log) Leaves) (sym same)
       (record {
@@ -47,7 +47,7 @@ module _ {J : Type 0} {means : disk.Ghosts J} {counts : counted.Ghosts J} where
       Leaves image = LeavesOneOf outside.kept (slot_of (log_of old)) at next image
           ⊎ LeavesOneOf outside.kept (slot_of (log_of old)) at (Some after) image
 
-  log_kept : (old new : Logged J means counts) (items : List LogRecord) (doubt : Option LogRecord) → IsLogKept old new
+  log_kept : (old new : LoggedMemory J means counts) (items : List LogRecord) (doubt : Option LogRecord) → IsLogKept old new
       → HasLog old items doubt → HasLog new items doubt
   log_kept old new items doubt same has = record {
     log = subst (λ (log : Frames J means counts). IsLog log (map spelling items) (option_map spelling doubt))
@@ -57,10 +57,10 @@ module _ {J : Type 0} {means : disk.Ghosts J} {counts : counted.Ghosts J} where
   }
 
   -- where memory ended, or a refusal came before anything was changed
-  pub no_memory : (old new : Logged J means counts) (item : LogRecord) (Needs : EngineState → Type 0)
+  pub no_memory : (old new : LoggedMemory J means counts) (item : LogRecord) (Needs : EngineState → Type 0)
       → IsLogKept old new
       → ((state : StoreState) → IsMemoryOf (memory_of old) state → IsMemoryOf (memory_of new) state)
-      → room_of old ≤ room_of new → IsCommand old new item Needs answer.Memory
+      → framed_room old ≤ framed_room new → HasCommandEffect old new item Needs answer.Memory
   no_memory old new item Needs same memory room = record {
     step = λ outside state sound needs. still outside state sound;
     moments = λ outside state sound needs. untouched old new outside state item sound same.log;
@@ -73,15 +73,15 @@ module _ {J : Type 0} {means : disk.Ghosts J} {counts : counted.Ghosts J} where
         (sym same.log) (omega arith);
   }
     where
-      still : (outside : Outside) (state : EngineState) → IsSound old outside state → IsSound new outside state
+      still : (outside : Outside) (state : EngineState) → IsSoundLogged old outside state → IsSoundLogged new outside state
       still outside state sound = record {
         memory = memory state.store sound.memory;
         log = log_kept old new outside.items state.doubt same sound.log;
         stored = sound.stored;
       }
 
-  pub refuses : (old : Logged J means counts) (item : LogRecord) (Needs : EngineState → Type 0) (result : Answer)
-      → IsRefusal result → IsCommand old old item Needs result
+  pub refuses : (old : LoggedMemory J means counts) (item : LogRecord) (Needs : EngineState → Type 0) (result : Answer)
+      → IsRefusal result → HasCommandEffect old old item Needs result
   refuses old item Needs result is = record {
     step = λ outside state sound needs. as_before result is outside state sound;
     moments = λ outside state sound needs. untouched old old outside state item sound refl;
@@ -94,7 +94,7 @@ module _ {J : Type 0} {means : disk.Ghosts J} {counts : counted.Ghosts J} where
   }
     where
       as_before : (result : Answer) → IsRefusal result → (outside : Outside) (state : EngineState)
-          → IsSound old outside state → IsAfter old outside state item result
+          → IsSoundLogged old outside state → IsAfter old outside state item result
       as_before answer.Done is outside state sound = absurd is
       as_before answer.NoPath is outside state sound = sound
       as_before answer.WrongType is outside state sound = sound
@@ -112,14 +112,14 @@ module _ {J : Type 0} {means : disk.Ghosts J} {counts : counted.Ghosts J} where
       no_fault answer.Memory is device = is
       no_fault (answer.Full counter) is device = cc
 
-  module _ (old new : Logged J means counts) (item : LogRecord) (Needs : EngineState → Type 0)
-      (stored : (outside : Outside) (state : EngineState) → IsSound old outside state → Needs state
+  module _ (old new : LoggedMemory J means counts) (item : LogRecord) (Needs : EngineState → Type 0)
+      (stored : (outside : Outside) (state : EngineState) → IsSoundLogged old outside state → Needs state
       → IsStoredIn (with_record item outside) (wrote item state))
-      (doubtful : (outside : Outside) (state : EngineState) → IsSound old outside state → Needs state
+      (doubtful : (outside : Outside) (state : EngineState) → IsSoundLogged old outside state → Needs state
       → IsStoredIn outside (failed item state)) where
     -- what is at hand after an append, by how it ended
     moments_of : (outcome : Result (Unit {0}) Failed) → IsAppended old new item outcome
-        → (outside : Outside) (state : EngineState) → IsSound old outside state → Needs state
+        → (outside : Outside) (state : EngineState) → IsSoundLogged old outside state → Needs state
         → LeavesStates old new outside state item
     moments_of outcome append outside state sound needs at after next stands leads leads_after =
         append_moments outside.items outside.kept outside.told outside.known state state item at after next
@@ -131,7 +131,7 @@ module _ {J : Type 0} {means : disk.Ghosts J} {counts : counted.Ghosts J} where
     pub written : IsAppended old new item (Ok tt)
         → ((state : EngineState) → IsMemoryOf (memory_of old) state.store → Needs state
         → IsMemoryOf (memory_of new) (after item state.store))
-        → room_of old ≤ room_of new → IsCommand old new item Needs answer.Done
+        → framed_room old ≤ framed_room new → HasCommandEffect old new item Needs answer.Done
     written append effect room = record {
       step = λ outside state sound needs. record {
         memory = effect state sound.memory needs;
@@ -150,7 +150,7 @@ module _ {J : Type 0} {means : disk.Ghosts J} {counts : counted.Ghosts J} where
     -- its append failed
     pub faulted : (fault : Failed) → IsAppended old new item (Err fault)
         → ((state : StoreState) → IsMemoryOf (memory_of old) state → IsMemoryOf (memory_of new) state)
-        → room_of old ≤ room_of new → IsCommand old new item Needs answer.Device
+        → framed_room old ≤ framed_room new → HasCommandEffect old new item Needs answer.Device
     faulted fault append same room = record {
       step = λ outside state sound needs. by outside state sound needs
           (append.failed outside.items state.doubt sound.log);
@@ -163,7 +163,7 @@ module _ {J : Type 0} {means : disk.Ghosts J} {counts : counted.Ghosts J} where
       later = append.cause.later;
     }
       where
-        by : (outside : Outside) (state : EngineState) → IsSound old outside state → Needs state
+        by : (outside : Outside) (state : EngineState) → IsSoundLogged old outside state → Needs state
             → HasLog new outside.items None
             ⊎ (HasLog new outside.items state.doubt ⊎ HasLog new outside.items (Some item))
             → IsFaulted new outside state item
@@ -184,7 +184,7 @@ module _ {J : Type 0} {means : disk.Ghosts J} {counts : counted.Ghosts J} where
         }))
 
   -- an append after memory was taken is one of the log before
-  pub appended_from : (old mid new : Logged J means counts) (item : LogRecord) (outcome : Result (Unit {0}) Failed)
+  pub appended_from : (old mid new : LoggedMemory J means counts) (item : LogRecord) (outcome : Result (Unit {0}) Failed)
       → IsLogKept old mid → IsAppended mid new item outcome → IsAppended old new item outcome
   appended_from old mid new item outcome kept append = record {
     added = by_ok outcome append.added;
@@ -215,12 +215,12 @@ module _ {J : Type 0} {means : disk.Ghosts J} {counts : counted.Ghosts J} where
       by_err (Err fault) failing = λ items doubt has. failing items doubt (log_kept old mid items doubt kept has)
 
   -- the log is kept by one call and the next
-  pub both_kept : (old mid new : Logged J means counts) → IsLogKept old mid → IsLogKept mid new → IsLogKept old new
+  pub both_kept : (old mid new : LoggedMemory J means counts) → IsLogKept old mid → IsLogKept mid new → IsLogKept old new
   both_kept old mid new first second =
       record { log = second.log ∙ first.log; doubted = second.doubted ∙ first.doubted }
 
   -- memory ended while it was taken
-  pub out_of_memory : (old new : Logged J means counts) (item : LogRecord) (Needs : EngineState → Type 0)
-      → IsPrepared old new → IsCommand old new item Needs answer.Memory
+  pub out_of_memory : (old new : LoggedMemory J means counts) (item : LogRecord) (Needs : EngineState → Type 0)
+      → IsPrepared old new → HasCommandEffect old new item Needs answer.Memory
   out_of_memory old new item Needs prepared =
       no_memory old new item Needs prepared.log prepared.same prepared.record_room

@@ -19,26 +19,26 @@ use Rattle.tsdb_model.specs.declared.command.Literal.TheVariants as literal
 use Rattle.tsdb_model.specs.declared.command.Schema.{Schema}
 use Rattle.tsdb_memory.proofs.Numbers.{at_map, some_same}
 use Rattle.tsdb_memory.specs.Model.{IsFitting}
-use Rattle.tsdb_memory.specs.Shown.{entry_of}
+use Rattle.tsdb_memory.specs.Shown.{series_entry}
 use Rattle.tsdb_memtable.specs.Points.{value_bytes}
 use Rattle.tsdb_path.proofs.Bytes.{IsNode-dotless}
 use Rattle.tsdb_path.proofs.Parts.{device_of-child, measurement_of-child}
 use Rattle.tsdb_path.specs.Nodes.{child_of, device_of, measurement_of}
 use Rattle.tsdb_memory.specs.Fits.{literal_bytes}
-use Rattle.tsdb_memory.specs.RowReading.{AreApart, AreOfDevice}
-use Rattle.tsdb_memory.specs.RowSteps.{AreItems, IsItem}
+use Rattle.tsdb_memory.specs.RowReading.{AreOfDifferentSeries, AreOfDevice}
+use Rattle.tsdb_memory.specs.RowSteps.{AreRowItems, IsRowItem}
 use Rattle.tsdb_state.specs.Commands.{AreCells}
 
 pub as_many : (series : List Schema) (device : List ℕ) (cells : List Cell) (items : List CellRecord)
-    → AreItems series device cells items → length items ≡ length cells
+    → AreRowItems series device cells items → length items ≡ length cells
 as_many series device [] [] are = refl
 as_many series device [] (item ∷ items) are = absurd are
 as_many series device (cell ∷ cells) [] are = absurd are
 as_many series device (cell ∷ cells) (item ∷ items) are = ap (λ n. suc n) (as_many series device cells items are.1)
 
 pub items_push : (series : List Schema) (device : List ℕ) (cells : List Cell) (items : List CellRecord) (cell : Cell)
-    (item : CellRecord) → AreItems series device cells items → IsItem series device cell item
-    → AreItems series device (cells ++ cell ∷ []) (items ++ item ∷ [])
+    (item : CellRecord) → AreRowItems series device cells items → IsRowItem series device cell item
+    → AreRowItems series device (cells ++ cell ∷ []) (items ++ item ∷ [])
 items_push series device [] [] cell item are is = (is, tt)
 items_push series device [] (first ∷ items) cell item are is = absurd are
 items_push series device (first ∷ cells) [] cell item are is = absurd are
@@ -47,14 +47,14 @@ items_push series device (first ∷ cells) (one ∷ items) cell item are is =
 
 -- they are the cells of a record
 pub cells_of_items : (series : List Schema) (device : List ℕ) (cells : List Cell) (items : List CellRecord)
-    → AreItems series device cells items → AreCells (map entry_of series) device cells items
+    → AreRowItems series device cells items → AreCells (map series_entry series) device cells items
 cells_of_items series device [] [] are = tt
 cells_of_items series device [] (item ∷ items) are = absurd are
 cells_of_items series device (cell ∷ cells) [] are = absurd are
 cells_of_items series device (cell ∷ cells) (item ∷ items) are = (
   record {
-    series = entry_of are.0.schema;
-    at = at_map entry_of series item.series.0 ∙ ap (option_map entry_of) are.0.at;
+    series = series_entry are.0.schema;
+    at = at_map series_entry series item.series.0 ∙ ap (option_map series_entry) are.0.at;
     of_path = are.0.of_path;
     value = are.0.value;
   },
@@ -102,7 +102,7 @@ abbrev IsOf : List Schema → List ℕ → CellRecord → Type 0
 IsOf series device item = IsSomeAnd (slice_get series item.series.0) (IsFitting device item)
 
 pub items_of_device : (series : List Schema) (device : List ℕ) (cells : List Cell) (items : List CellRecord)
-    → AreItems series device cells items → AreOfDevice series device items
+    → AreRowItems series device cells items → AreOfDevice series device items
 items_of_device series device [] [] are = All-nil (IsOf series device)
 items_of_device series device [] (item ∷ items) are = absurd are
 items_of_device series device (cell ∷ cells) [] are = absurd are
@@ -118,7 +118,7 @@ items_of_device series device (cell ∷ cells) (item ∷ items) are =
 -- they are of different series
 
 same_measurement : (series : List Schema) (device : List ℕ) (cell other : Cell) (item later : CellRecord)
-    → IsItem series device cell item → IsItem series device other later → item.series.0 ≡ later.series.0
+    → IsRowItem series device cell item → IsRowItem series device other later → item.series.0 ≡ later.series.0
     → cell.measurement ≡ other.measurement
 same_measurement series device cell other item later is are same =
     let one : is.schema ≡ are.schema =
@@ -151,8 +151,8 @@ abbrev OfOthers : CellRecord → CellRecord → Type 0
 OfOthers item other = item.series.0 ≢ other.series.0
 
 item_apart : (series : List Schema) (device : List ℕ) (cell : Cell) (item : CellRecord) (cells : List Cell)
-    (items : List CellRecord) → IsItem series device cell item → IsAbsent cell.measurement (names_of cells)
-    → AreItems series device cells items → All (OfOthers item) items
+    (items : List CellRecord) → IsRowItem series device cell item → IsAbsent cell.measurement (names_of cells)
+    → AreRowItems series device cells items → All (OfOthers item) items
 item_apart series device cell item [] [] is absent are = All-nil (OfOthers item)
 item_apart series device cell item [] (other ∷ items) is absent are = absurd are
 item_apart series device cell item (next ∷ cells) [] is absent are = absurd are
@@ -162,7 +162,7 @@ item_apart series device cell item (next ∷ cells) (other ∷ items) is absent 
     (item_apart series device cell item cells items is (λ i. absent (suc i)) are.1)
 
 pub items_differ : (series : List Schema) (device : List ℕ) (cells : List Cell) (items : List CellRecord)
-    → AreDifferent (map (λ (cell : Cell). cell.measurement) cells) → AreItems series device cells items → AreApart items
+    → AreDifferent (map (λ (cell : Cell). cell.measurement) cells) → AreRowItems series device cells items → AreOfDifferentSeries items
 items_differ series device [] [] differ are = λ i j d lt within. absurd (none j within)
   where
     none : (k : ℕ) → k < 0 → ⊥

@@ -11,16 +11,16 @@ use Rattle.tsdb_base.specs.declared.ids.Space.TheVariants.{Sequence, Unsequence}
 use Rattle.tsdb_base.specs.declared.point.Point.{Point}
 use Rattle.tsdb_base.specs.declared.value.Value.{Value}
 use Rattle.tsdb_base.specs.Lists.{Among}
-use Rattle.tsdb_state.specs.Places.{Content, Place, place_cmp}
+use Rattle.tsdb_state.specs.Places.{Content, PointPlace, place_cmp}
 use Rattle.tsdb_model.specs.declared.command.Schema.{Schema}
 use Rattle.tsdb_memory.proofs.Counts.{are_keys, counted_points, path_in, placed, places_apart, places_in, value_placed}
-use Rattle.tsdb_memory.specs.Model.{IsSound}
-use Rattle.tsdb_memory.specs.Shown.{IsContentOf, IsMemoryOf}
-use Rattle.tsdb_memory.specs.Store.{Store}
-use Rattle.tsdb_memtable.specs.Pairs.{HasRisingSeries, Pair, SeriesPoints, byte_count, count, points_in, series_bytes}
+use Rattle.tsdb_memory.specs.Model.{IsSoundMemory}
+use Rattle.tsdb_memory.specs.Shown.{IsPairContent, IsMemoryOf}
+use Rattle.tsdb_memory.specs.Store.{MemoryState}
+use Rattle.tsdb_memtable.specs.Pairs.{HasRisingSeries, Pair, SeriesPoints, byte_count, space_count, points_in, series_bytes}
 use Rattle.tsdb_memtable.specs.Points.{counted_bytes, point_bytes, value_bytes}
 use Rattle.tsdb_memory.proofs.RowLemmas.Weights.{total_of}
-use Rattle.tsdb_memory.specs.Fits.{HasCounts, HasNoPoint}
+use Rattle.tsdb_memory.specs.Fits.{HasCounts, HasNoPairPoint}
 use Rattle.tsdb_state.specs.Limit.{IsEmptyPair, content_bytes}
 use Rattle.tsdb_state.specs.State as state
 
@@ -29,7 +29,7 @@ abbrev pub weight : Value → ℕ
 weight value = 8 + value_bytes value
 
 -- those of the value at a place
-abbrev weight_at : Content → Place → ℕ
+abbrev weight_at : Content → PointPlace → ℕ
 weight_at content place = unwrap_or (option_map weight (get content place)) 0
 
 -- how many bytes the points of a space count
@@ -50,7 +50,7 @@ both_spaces (entry ∷ pair) =
     + sym (sum_by-cons (λ (series : SeriesPoints). counted_bytes series.unsequence) entry.1 (values_of pair)) i)
 
 -- the weights at the places of points are those of the points
-weights_placed : (at : Place → ℕ) (path : List ℕ) (points : List Point)
+weights_placed : (at : PointPlace → ℕ) (path : List ℕ) (points : List Point)
     → ((point : Point) → Among point points → at (placed path point) ≡ point_bytes point)
     → sum_by at (map (placed path) points) ≡ counted_bytes points
 weights_placed at path [] are = refl
@@ -59,7 +59,7 @@ weights_placed at path (p ∷ points) are =
     ∙ (λ i. are p (inl refl) i + weights_placed at path points (λ q among. are q (inr among)) i)
     ∙ sym (sum_by-cons point_bytes p points)
 
-weights_in : (at : Place → ℕ) (series : List Schema) (space : Space) (pair : Pair)
+weights_in : (at : PointPlace → ℕ) (series : List Schema) (space : Space) (pair : Pair)
     → ((entry : ℕ × SeriesPoints) (point : Point) → Among entry pair → Among point (points_in space entry.1)
     → at (placed (path_in series entry.0) point) ≡ point_bytes point)
     → sum_by at (places_in series space pair) ≡ space_bytes space pair
@@ -71,9 +71,9 @@ weights_in at series space (entry ∷ pair) are =
     + weights_in at series space pair (λ other point listed among. are other point (inr listed) among) i)
     ∙ sym (sum_by-cons (λ (series : SeriesPoints). counted_bytes (points_in space series)) entry.1 (values_of pair))
 
-module _ (memory : Store) (sound : IsSound memory) (sorted : HasRisingSeries memory.working) (space : Space)
-    (content : Content) (is : IsContentOf memory.series space memory.working content) where
-  points_counted : len content ≡ count space memory.working
+module _ (memory : MemoryState) (sound : IsSoundMemory memory) (sorted : HasRisingSeries memory.working) (space : Space)
+    (content : Content) (is : IsPairContent memory.series space memory.working content) where
+  points_counted : len content ≡ space_count space memory.working
   points_counted = counted_points memory.series space memory.working content sound.once sound.known (sound.rising space)
       sorted is
 
@@ -88,7 +88,7 @@ module _ (memory : Store) (sound : IsSound memory) (sorted : HasRisingSeries mem
       (value_placed memory.series space memory.working content sound.once sound.known (sound.rising space) sorted is
       entry point listed among))
 
-pub has_counts : (memory : Store) (shown : state.StoreState) → IsSound memory → HasRisingSeries memory.working
+pub has_counts : (memory : MemoryState) (shown : state.StoreState) → IsSoundMemory memory → HasRisingSeries memory.working
     → IsMemoryOf memory shown → HasCounts memory.working shown.working
 has_counts memory shown sound sorted is = record {
   points = λ i. points_counted memory sound sorted Sequence shown.working.sequence is.working.sequence i
@@ -103,11 +103,11 @@ has_counts memory shown sound sorted is = record {
 none_first : (a b c d : ℕ) → a + b ≡ c + d → c ≡ 0 → d ≡ 0 → (a ≡ 0) × (b ≡ 0)
 none_first a b c d e f g = (omega (arith, e, f, g), omega (arith, e, f, g))
 
-pub empty_pair : (pair : Pair) (shown : state.PairContent) → HasCounts pair shown → HasNoPoint pair ↔ IsEmptyPair shown
+pub empty_pair : (pair : Pair) (shown : state.PairContent) → HasCounts pair shown → HasNoPairPoint pair ↔ IsEmptyPair shown
 empty_pair pair shown counts = (
-  λ none. let both = none_first (len shown.sequence) (len shown.unsequence) (count Sequence pair)
-      (count Unsequence pair) counts.points none.0 none.1 in
+  λ none. let both = none_first (len shown.sequence) (len shown.unsequence) (space_count Sequence pair)
+      (space_count Unsequence pair) counts.points none.0 none.1 in
       (empty_of_len shown.sequence both.0, empty_of_len shown.unsequence both.1),
-  λ none. none_first (count Sequence pair) (count Unsequence pair) (len shown.sequence) (len shown.unsequence)
+  λ none. none_first (space_count Sequence pair) (space_count Unsequence pair) (len shown.sequence) (len shown.unsequence)
       (sym counts.points) (ap len none.0 ∙ len-empty place_cmp Value) (ap len none.1 ∙ len-empty place_cmp Value),
 )

@@ -17,16 +17,16 @@ use Rattle.tsdb_model.specs.declared.command.Command.TheVariants.{Insert}
 use Rattle.tsdb_model.specs.declared.command.Row.{Row}
 use Rattle.tsdb_model.specs.declared.command.Schema.{Schema}
 use Rattle.tsdb_model.specs.declared.reply.Reply.TheVariants.{Plain}
-use Rattle.tsdb_memory.specs.Shown.{IsMemoryOf, entry_of}
-use Rattle.tsdb_memory.specs.Store.{Store}
+use Rattle.tsdb_memory.specs.Shown.{IsMemoryOf, series_entry}
+use Rattle.tsdb_memory.specs.Store.{MemoryState}
 use Rattle.tsdb_path.specs.Nodes.{child_of}
 use Rattle.tsdb_memory.proofs.RowLemmas.Lists as lists
 use Rattle.tsdb_memory.proofs.RowLemmas.Lists.{all_of_map, all_pass, one_fails, some_of}
 use Rattle.tsdb_memory.proofs.RowLemmas.Putting.{is_live_entry}
-use Rattle.tsdb_memory.specs.RowReading.{IsMissing, IsRead, IsRefused, IsUnfit, answer_by}
+use Rattle.tsdb_memory.specs.RowReading.{IsMissingSeries, IsRowRead, IsRowRefused, IsUnfitCell, row_answer}
 use Rattle.tsdb_state.proofs.Series.{ArePathsApart, among_at, type_of_live}
-use Rattle.tsdb_state.specs.Commands.{AreCells, IsCell}
-use Rattle.tsdb_state.specs.State.{SeriesEntry, StoreState, Told}
+use Rattle.tsdb_state.specs.Commands.{AreCells, IsRowCell}
+use Rattle.tsdb_state.specs.State.{SeriesEntry, StoreState, ToldContents}
 use Rattle.tsdb_state.specs.StoreOrder.{StoreInOrder}
 use Rattle.tsdb_state.specs.Worlds.{StandsFor, type_at}
 
@@ -56,7 +56,7 @@ does_fit cell (Some s) t value e fits = ap is_some (ap (value_of cell.value) (sa
     same : (a b : DataType) → Some a ≡ Some b → a ≡ b
     same a b e = cc
 
-module _ (told : Told) (state : StoreState) (world : World) (stands : StandsFor told state world)
+module _ (told : ToldContents) (state : StoreState) (world : World) (stands : StandsFor told state world)
     (device : List ℕ) where
   abbrev at : Cell → Option Series
   at cell = series_of world device cell.measurement
@@ -74,19 +74,19 @@ module _ (told : Told) (state : StoreState) (world : World) (stands : StandsFor 
       → reply_of world (Insert device row) ≡ Plain (cond there (cond fit Done WrongType) NoPath)
   says row there fit e f = λ i. Plain (cond (e i) (cond (f i) Done WrongType) NoPath)
 
-  pub refused : (row : Row) (answer : Answer) → IsRefused state.schemas device row.cells answer
+  pub refused : (row : Row) (answer : Answer) → IsRowRefused state.schemas device row.cells answer
       → reply_of world (Insert device row) ≡ Plain answer
   refused row NoPath missing =
-      let one = some_of (IsMissing state.schemas device) row.cells missing in
+      let one = some_of (IsMissingSeries state.schemas device) row.cells missing in
       says row false (all_fit world device row.cells)
       (there_in row.cells ∙ one_fails (λ (cell : Cell). is_some (at cell)) row.cells one.element one.among
       (is_not_there (at one.element) (stands.types (child_of device one.element.measurement) ∙ one.holds))) refl
   refused row WrongType h =
-      let one = some_of (IsUnfit state.schemas device) row.cells h.1 in
+      let one = some_of (IsUnfitCell state.schemas device) row.cells h.1 in
       says row true false
       (there_in row.cells ∙ all_pass (λ (cell : Cell). is_some (at cell)) row.cells (λ cell among.
       is_there (at cell) (type cell) (stands.types (child_of device cell.measurement))
-      (λ missing. h.0 (lists.any_of (IsMissing state.schemas device) row.cells
+      (λ missing. h.0 (lists.any_of (IsMissingSeries state.schemas device) row.cells
       (record { element = cell; among = among; holds = missing })))))
       (one_fails (λ (cell : Cell). fits_series cell.value (at cell)) row.cells one.element one.among
       (does_not_fit one.element (at one.element) (type one.element)
@@ -105,39 +105,39 @@ record Fits (schemas : List SeriesEntry) (device : List ℕ) (cell : Cell) : Typ
   fits : value_of cell.value data_type ≡ Some value
 
 cell_fits : (series : List Schema) (device : List ℕ) (cell : Cell) (item : CellRecord)
-    → EachPair ArePathsApart (map entry_of series)
-    → IsCell (map entry_of series) device cell item → Fits (map entry_of series) device cell
+    → EachPair ArePathsApart (map series_entry series)
+    → IsRowCell (map series_entry series) device cell item → Fits (map series_entry series) device cell
 cell_fits series device cell item once is = record {
   data_type = is.series.schema.data_type;
   value = item.value;
-  is = ap (type_at (map entry_of series)) (sym is.of_path)
-      ∙ type_of_live (map entry_of series) is.series once
-      (among_at (map entry_of series) item.series.0 is.series is.at)
+  is = ap (type_at (map series_entry series)) (sym is.of_path)
+      ∙ type_of_live (map series_entry series) is.series once
+      (among_at (map series_entry series) item.series.0 is.series is.at)
       (is_live_entry series item.series.0 is.series is.at);
   fits = is.value;
 }
 
 cells_fit : (series : List Schema) (device : List ℕ) (cells : List Cell) (items : List CellRecord)
-    → EachPair ArePathsApart (map entry_of series) → AreCells (map entry_of series) device cells items
-    → (cell : Cell) → Among cell cells → Fits (map entry_of series) device cell
+    → EachPair ArePathsApart (map series_entry series) → AreCells (map series_entry series) device cells items
+    → (cell : Cell) → Among cell cells → Fits (map series_entry series) device cell
 cells_fit series device [] items once are cell among = absurd among
 cells_fit series device (first ∷ cells) [] once are cell among = absurd are
 cells_fit series device (first ∷ cells) (item ∷ items) once are cell (inl is) =
-    subst (Fits (map entry_of series) device) is (cell_fits series device first item once are.0)
+    subst (Fits (map series_entry series) device) is (cell_fits series device first item once are.0)
 cells_fit series device (first ∷ cells) (item ∷ items) once are cell (inr among) =
     cells_fit series device cells items once are.1 cell among
 
 none_there : (t : DataType) → Some t ≡ None → ⊥
 none_there t e = cc
 
-pub follows : (told : Told) (memory : Store) (state : StoreState) (world : World) (device : List ℕ) (row : Row)
+pub follows : (told : ToldContents) (memory : MemoryState) (state : StoreState) (world : World) (device : List ℕ) (row : Row)
     (read : Result (List CellRecord) Answer)
     → IsMemoryOf memory state → StoreInOrder told state → StandsFor told state world
-    → IsRead (map entry_of memory.series) device row.cells read
-    → reply_of world (Insert device row) ≡ Plain (answer_by read)
+    → IsRowRead (map series_entry memory.series) device row.cells read
+    → reply_of world (Insert device row) ≡ Plain (row_answer read)
 follows told memory state world device row (Err answer) is order stands h =
     refused told state world stands device row answer
-    (subst (λ l. IsRefused l device row.cells answer) (sym is.schemas) h)
+    (subst (λ l. IsRowRefused l device row.cells answer) (sym is.schemas) h)
 follows told memory state world device row (Ok items) is order stands are =
     says told state world stands device row true true
     (there_in told state world stands device row.cells
@@ -150,7 +150,7 @@ follows told memory state world device row (Ok items) is order stands are =
     let fit = fits cell among in
     does_fit cell (series_of world device cell.measurement) fit.data_type fit.value (typed cell among) fit.fits))
   where
-    fits : (cell : Cell) → Among cell row.cells → Fits (map entry_of memory.series) device cell
+    fits : (cell : Cell) → Among cell row.cells → Fits (map series_entry memory.series) device cell
     fits cell among = cells_fit memory.series device row.cells items
         (subst (EachPair ArePathsApart) is.schemas order.series.once) are cell among
 

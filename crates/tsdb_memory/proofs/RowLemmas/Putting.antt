@@ -12,8 +12,8 @@ use Rattle.tsdb_base.specs.declared.ids.Space.TheVariants.{Sequence, Unsequence}
 use Rattle.tsdb_base.specs.declared.value.Value.{Value}
 use Rattle.tsdb_state.proofs.LayerLemmas.Places.{place_cmp_total}
 use Rattle.tsdb_base.specs.Lists.{EachPair}
-use Rattle.tsdb_state.specs.LayerOrder.{Watermarks}
-use Rattle.tsdb_state.specs.Places.{Content, Place}
+use Rattle.tsdb_state.specs.LayerOrder.{WatermarkMap}
+use Rattle.tsdb_state.specs.Places.{Content, PointPlace}
 use Rattle.tsdb_log.specs.declared.record.CellRecord.{CellRecord}
 use Rattle.tsdb_model.specs.declared.command.Cell.{Cell}
 use Rattle.tsdb_model.specs.declared.command.Row.{Row}
@@ -21,24 +21,24 @@ use Rattle.tsdb_model.specs.declared.command.Schema.{Schema}
 use Rattle.tsdb_memory.proofs.Numbers.{at_map, some_same}
 use Rattle.tsdb_memory.proofs.RowCells.{pairs_first, pairs_rest}
 use Rattle.tsdb_memory.specs.Model.{IsFitting}
-use Rattle.tsdb_memory.specs.Shown.{IsMemoryOf, entry_of}
-use Rattle.tsdb_memory.specs.Store.{Store}
+use Rattle.tsdb_memory.specs.Shown.{IsMemoryOf, series_entry}
+use Rattle.tsdb_memory.specs.Store.{MemoryState}
 use Rattle.tsdb_memory.proofs.RowLemmas.Cells.{type_fits}
 use Rattle.tsdb_memory.proofs.RowLemmas.Counts.{empty_pair, weight}
 use Rattle.tsdb_memory.proofs.RowLemmas.Weights.{total_put}
 use Rattle.tsdb_memory.specs.Fits.{FitsPair, HasCounts, cell_bytes, row_bytes}
-use Rattle.tsdb_memory.specs.RowReading.{AreApart, AreOfDevice}
+use Rattle.tsdb_memory.specs.RowReading.{AreOfDifferentSeries, AreOfDevice}
 use Rattle.tsdb_memtable.specs.Watermarks.{space_by}
 use Rattle.tsdb_path.specs.Nodes.{device_of}
 use Rattle.tsdb_state.specs.Commands.{AreCells, KeepsBytes}
-use Rattle.tsdb_state.specs.Limit.{IsEmptyPair, byte_count, point_count}
+use Rattle.tsdb_state.specs.Limit.{IsEmptyPair, content_byte_count, point_count}
 use Rattle.tsdb_base.specs.Limits.{end_of_numbers, max_pair_bytes, max_pair_points}
-use Rattle.tsdb_state.specs.Records.{CanInsert, IsOfDevice, inserted, place_of, put_cells, put_in_pair, put_in_space}
+use Rattle.tsdb_state.specs.Records.{CanInsert, IsOfDevice, inserted, cell_place, put_record_cells, put_in_pair, put_in_space}
 use Rattle.tsdb_state.specs.State.{PairContent, SeriesEntry, StoreState}
 
 -- the counts after a value
 
-len_put : (content : Content) (place : Place) (value : Value) → len (insert content place value) ≤ len content + 1
+len_put : (content : Content) (place : PointPlace) (value : Value) → len (insert content place value) ≤ len content + 1
 len_put content place value = subst (λ n. n ≤ len content + 1) (sym (len-insert place_cmp_total content place value))
     (by (is_some (get content place)) (len content))
   where
@@ -46,13 +46,13 @@ len_put content place value = subst (λ n. n ≤ len content + 1) (sym (len-inse
     by true n = omega arith
     by false n = omega arith
 
-count_put : (space : Space) (place : Place) (value : Value) (pair : PairContent)
+count_put : (space : Space) (place : PointPlace) (value : Value) (pair : PairContent)
     → point_count (put_in_space space place value pair) ≤ point_count pair + 1
 count_put Sequence place value pair = omega (arith, len_put pair.sequence place value)
 count_put Unsequence place value pair = omega (arith, len_put pair.unsequence place value)
 
-bytes_put : (space : Space) (place : Place) (value : Value) (pair : PairContent)
-    → byte_count (put_in_space space place value pair) ≤ byte_count pair + weight value
+bytes_put : (space : Space) (place : PointPlace) (value : Value) (pair : PairContent)
+    → content_byte_count (put_in_space space place value pair) ≤ content_byte_count pair + weight value
 bytes_put Sequence place value pair = omega (arith, total_put weight pair.sequence place value)
 bytes_put Unsequence place value pair = omega (arith, total_put weight pair.unsequence place value)
 
@@ -61,22 +61,22 @@ bytes_put Unsequence place value pair = omega (arith, total_put weight pair.unse
 abbrev item_bytes : CellRecord → ℕ
 item_bytes item = weight item.value
 
-count_after : (schemas : List SeriesEntry) (watermarks : Watermarks) (time : ℤ) (items : List CellRecord) (pair : PairContent)
-    → point_count (put_cells schemas watermarks time items pair) ≤ point_count pair + length items
+count_after : (schemas : List SeriesEntry) (watermarks : WatermarkMap) (time : ℤ) (items : List CellRecord) (pair : PairContent)
+    → point_count (put_record_cells schemas watermarks time items pair) ≤ point_count pair + length items
 count_after schemas watermarks time [] pair = omega arith
 count_after schemas watermarks time (item ∷ items) pair =
-    let place = place_of schemas time item in
+    let place = cell_place schemas time item in
     omega (
       arith,
       count_after schemas watermarks time items (put_in_pair watermarks place item.value pair),
       count_put (space_by (get watermarks (device_of place.path)) place.time) place item.value pair,
     )
 
-bytes_after : (schemas : List SeriesEntry) (watermarks : Watermarks) (time : ℤ) (items : List CellRecord) (pair : PairContent)
-    → byte_count (put_cells schemas watermarks time items pair) ≤ byte_count pair + sum_by item_bytes items
+bytes_after : (schemas : List SeriesEntry) (watermarks : WatermarkMap) (time : ℤ) (items : List CellRecord) (pair : PairContent)
+    → content_byte_count (put_record_cells schemas watermarks time items pair) ≤ content_byte_count pair + sum_by item_bytes items
 bytes_after schemas watermarks time [] pair = omega arith
 bytes_after schemas watermarks time (item ∷ items) pair =
-    let place = place_of schemas time item in
+    let place = cell_place schemas time item in
     omega (
       arith,
       bytes_after schemas watermarks time items (put_in_pair watermarks place item.value pair),
@@ -111,27 +111,27 @@ bytes_within schemas device (cell ∷ cells) (item ∷ items) are =
 -- what the record needs
 
 pub is_live_entry : (series : List Schema) (number : ℕ) (entry : SeriesEntry)
-    → slice_get (map entry_of series) number ≡ Some entry → entry.live ≡ true
-is_live_entry series number entry at = by (slice_get series number) (sym (at_map entry_of series number) ∙ at)
+    → slice_get (map series_entry series) number ≡ Some entry → entry.live ≡ true
+is_live_entry series number entry at = by (slice_get series number) (sym (at_map series_entry series number) ∙ at)
   where
-    by : (o : Option Schema) → option_map entry_of o ≡ Some entry → entry.live ≡ true
+    by : (o : Option Schema) → option_map series_entry o ≡ Some entry → entry.live ≡ true
     by None e = absurd (cc)
-    by (Some schema) e = sym (ap (λ (s : SeriesEntry). s.live) (some_same (entry_of schema) entry e))
+    by (Some schema) e = sym (ap (λ (s : SeriesEntry). s.live) (some_same (series_entry schema) entry e))
 
 is_of_device : (series : List Schema) (device : List ℕ) (item : CellRecord)
     → IsSomeAnd (slice_get series item.series.0) (IsFitting device item)
-    → IsSomeAnd (slice_get (map entry_of series) item.series.0) (IsOfDevice device item)
+    → IsSomeAnd (slice_get (map series_entry series) item.series.0) (IsOfDevice device item)
 is_of_device series device item there =
-    subst (λ o. IsSomeAnd o (IsOfDevice device item)) (sym (at_map entry_of series item.series.0))
+    subst (λ o. IsSomeAnd o (IsOfDevice device item)) (sym (at_map series_entry series item.series.0))
     (by (slice_get series item.series.0) there)
   where
     by : (o : Option Schema) → IsSomeAnd o (IsFitting device item)
-        → IsSomeAnd (option_map entry_of o) (IsOfDevice device item)
+        → IsSomeAnd (option_map series_entry o) (IsOfDevice device item)
     by None h = h
     by (Some schema) h = record { live = refl; of_device = h.of_device; type = h.type }
 
 all_of_device : (series : List Schema) (device : List ℕ) (items : List CellRecord) → AreOfDevice series device items
-    → Each (λ item. IsSomeAnd (slice_get (map entry_of series) item.series.0) (IsOfDevice device item)) items
+    → Each (λ item. IsSomeAnd (slice_get (map series_entry series) item.series.0) (IsOfDevice device item)) items
 all_of_device series device [] there = tt
 all_of_device series device (item ∷ items) there = (
   is_of_device series device item
@@ -159,9 +159,9 @@ at_most_cells n m e = omega (arith, e)
 through : (a b c : ℕ) → a ≤ b → b ≤ c → a ≤ c
 through a b c h k = omega (arith, h, k)
 
-module _ (memory : Store) (state : StoreState) (device : List ℕ) (row : Row) (items : List CellRecord)
-    (is : IsMemoryOf memory state) (are : AreCells (map entry_of memory.series) device row.cells items)
-    (apart : AreApart items) (there : AreOfDevice memory.series device items)
+module _ (memory : MemoryState) (state : StoreState) (device : List ℕ) (row : Row) (items : List CellRecord)
+    (is : IsMemoryOf memory state) (are : AreCells (map series_entry memory.series) device row.cells items)
+    (apart : AreOfDifferentSeries items) (there : AreOfDevice memory.series device items)
     (stamp : state.stamp < end_of_numbers) where
   can_insert : IsEmptyPair state.working ⊎ (point_count (inserted row.time items state).working ≤ max_pair_points)
       → CanInsert row.time items state
@@ -187,11 +187,11 @@ module _ (memory : Store) (state : StoreState) (device : List ℕ) (row : Row) (
             (length row.cells) limit (count_after state.schemas state.watermarks row.time items state.working)
             (subst (λ n. n + length row.cells ≤ limit) (sym counts.points) few.0)
             (at_most_cells (length items) (length row.cells)
-            (as_many (map entry_of memory.series) device row.cells items are))) most)),
-        inr (fewer (byte_count state.working) (byte_count (inserted row.time items state).working)
+            (as_many (map series_entry memory.series) device row.cells items are))) most)),
+        inr (fewer (content_byte_count state.working) (content_byte_count (inserted row.time items state).working)
             (sum_by item_bytes items) (row_bytes row.cells) max_pair_bytes
             (bytes_after state.schemas state.watermarks row.time items state.working)
             (subst (λ n. n + row_bytes row.cells ≤ max_pair_bytes) (sym counts.bytes) few.1)
-            (bytes_within (map entry_of memory.series) device row.cells items are)),
+            (bytes_within (map series_entry memory.series) device row.cells items are)),
       ))
       fits

@@ -18,13 +18,13 @@ use Rattle.tsdb_model.specs.declared.command.Cell.{Cell}
 use Rattle.tsdb_model.specs.declared.command.Row.{Row}
 use Rattle.tsdb_model.specs.declared.command.Schema.{Schema}
 use Rattle.tsdb_memory.proofs.Types.{type_found, type_of_number}
-use Rattle.tsdb_memory.specs.Shown.{entry_of, number_of}
+use Rattle.tsdb_memory.specs.Shown.{series_entry, number_of}
 use Rattle.tsdb_path.specs.Nodes.{IsName, child_of}
 use Rattle.tsdb_memory.proofs.RowLemmas.Cells.{as_many, cells_of_items, items_differ, items_of_device, items_push}
 use Rattle.tsdb_memory.proofs.RowLemmas.Lists as lists
 use Rattle.tsdb_memory.proofs.RowLemmas.Lists.{among_get, any_of, either_push, some_of}
-use Rattle.tsdb_memory.specs.RowReading.{AreApart, AreOfDevice, IsMissing, IsRefused, IsUnfit}
-use Rattle.tsdb_memory.specs.RowSteps.{AreItems, IsCellFound, IsItem}
+use Rattle.tsdb_memory.specs.RowReading.{AreOfDifferentSeries, AreOfDevice, IsMissingSeries, IsRowRefused, IsUnfitCell}
+use Rattle.tsdb_memory.specs.RowSteps.{AreRowItems, IsCellFound, IsRowItem}
 use Rattle.tsdb_memory.specs.declared.cells.CellFound.{CellFound}
 use Rattle.tsdb_memory.specs.declared.cells.CellFound.TheVariants.{Missing, Unfit, Item}
 use Rattle.tsdb_state.specs.Commands.{AreCells}
@@ -35,17 +35,17 @@ abbrev pub looked_up : List ℕ → DataType → Encoding → Schema
 looked_up path data_type encoding = record { path = path; data_type = data_type; encoding = encoding }
 
 not_found : (series : List Schema) (path : List ℕ) → number_of series path ≡ None
-    → type_at (map entry_of series) path ≡ None
+    → type_at (map series_entry series) path ≡ None
 not_found series path none = type_found series path ∙ ap (type_of_number series) none
 
 pub not_found_at : (series : List Schema) (device path : List ℕ) (cell : Cell) → path ≡ child_of device cell.measurement
-    → number_of series path ≡ None → IsMissing (map entry_of series) device cell
+    → number_of series path ≡ None → IsMissingSeries (map series_entry series) device cell
 not_found_at series device path cell is none =
-    ap (type_at (map entry_of series)) (sym is) ∙ not_found series path none
+    ap (type_at (map series_entry series)) (sym is) ∙ not_found series path none
 
 type_there : (series : List Schema) (path : List ℕ) (number : ℕ) (data_type : DataType) (encoding : Encoding)
     → number_of series path ≡ Some number → slice_get series number ≡ Some (looked_up path data_type encoding)
-    → type_at (map entry_of series) path ≡ Some data_type
+    → type_at (map series_entry series) path ≡ Some data_type
 type_there series path number data_type encoding numbered at =
     type_found series path ∙ ap (type_of_number series) numbered ∙ ap (option_map (λ (s : Schema). s.data_type)) at
 
@@ -53,12 +53,12 @@ pub item_of : (series : List Schema) (device path : List ℕ) (cell : Cell) (num
     (encoding : Encoding) (value : Value) → path ≡ child_of device cell.measurement → IsName cell.measurement
     → number_of series path ≡ Some number → slice_get series number ≡ Some (looked_up path data_type encoding)
     → value_of cell.value data_type ≡ Some value
-    → IsItem series device cell (record { series = record { 0 = number }; value = value })
+    → IsRowItem series device cell (record { series = record { 0 = number }; value = value })
 item_of series device path cell number data_type encoding value is name numbered at fits = record {
   schema = looked_up path data_type encoding;
   at = at;
   of_path = is;
-  type = ap (type_at (map entry_of series)) (sym is)
+  type = ap (type_at (map series_entry series)) (sym is)
       ∙ type_there series path number data_type encoding numbered at;
   value = fits;
   name = name;
@@ -67,10 +67,10 @@ item_of series device path cell number data_type encoding value is name numbered
 pub unfit : (series : List Schema) (device path : List ℕ) (cell : Cell) (number : ℕ) (data_type : DataType)
     (encoding : Encoding) → path ≡ child_of device cell.measurement
     → number_of series path ≡ Some number → slice_get series number ≡ Some (looked_up path data_type encoding)
-    → value_of cell.value data_type ≡ None → IsUnfit (map entry_of series) device cell
+    → value_of cell.value data_type ≡ None → IsUnfitCell (map series_entry series) device cell
 unfit series device path cell number data_type encoding is numbered at none =
     subst (λ o. IsSomeAnd o (λ (t : DataType). value_of cell.value t ≡ None))
-    (sym (ap (type_at (map entry_of series)) (sym is) ∙ type_there series path number data_type encoding numbered at))
+    (sym (ap (type_at (map series_entry series)) (sym is) ∙ type_there series path number data_type encoding numbered at))
     none
 
 -- a row, cell by cell
@@ -78,15 +78,15 @@ unfit series device path cell number data_type encoding is numbered at none =
 -- the cells that were read are there; if all fit so far they are the items, and if not some did not
 pub record IsReadPart (series : List Schema) (device : List ℕ) (read : List Cell) (fit : Bool) (items : List CellRecord)
     : Type 0 where
-  pub there : (cell : Cell) → Among cell read → ¬ IsMissing (map entry_of series) device cell
-  pub fits : fit ≡ true → AreItems series device read items
-  pub unfit : fit ≡ false → lists.Some (IsUnfit (map entry_of series) device) read
+  pub there : (cell : Cell) → Among cell read → ¬ IsMissingSeries (map series_entry series) device cell
+  pub fits : fit ≡ true → AreRowItems series device read items
+  pub unfit : fit ≡ false → lists.Some (IsUnfitCell (map series_entry series) device) read
 
 pub nothing_read : (series : List Schema) (device : List ℕ) (items : List CellRecord) → items ≡ []
     → IsReadPart series device [] true items
 nothing_read series device items none = record {
   there = λ cell among. absurd among;
-  fits = λ e. subst (AreItems series device []) (sym none) tt;
+  fits = λ e. subst (AreRowItems series device []) (sym none) tt;
   unfit = λ e. absurd (false≢true (sym e));
 }
 
@@ -96,11 +96,11 @@ not_both (Some t) P h e = cc
 
 -- one cell more, which is an item
 pub item_read : (series : List Schema) (device : List ℕ) (read : List Cell) (fit : Bool) (items : List CellRecord)
-    (cell : Cell) (item : CellRecord) → IsReadPart series device read fit items → IsItem series device cell item
+    (cell : Cell) (item : CellRecord) → IsReadPart series device read fit items → IsRowItem series device cell item
     → IsReadPart series device (read ++ cell ∷ []) fit (items ++ item ∷ [])
 item_read series device read fit items cell item part is = record {
   there = λ other among. ⊎_elim (λ h. part.there other h)
-      (λ same missing. none_there item (sym (subst (λ (c : Cell). type_at (map entry_of series)
+      (λ same missing. none_there item (sym (subst (λ (c : Cell). type_at (map series_entry series)
       (child_of device c.measurement) ≡ Some is.schema.data_type) same is.type) ∙ missing))
       (either_push read cell other among);
   fits = λ e. items_push series device read items cell item (part.fits e) is;
@@ -113,13 +113,13 @@ item_read series device read fit items cell item part is = record {
 
 -- one cell more, whose literal does not fit
 pub unfit_read : (series : List Schema) (device : List ℕ) (read : List Cell) (fit : Bool) (items : List CellRecord)
-    (cell : Cell) → IsReadPart series device read fit items → IsUnfit (map entry_of series) device cell
+    (cell : Cell) → IsReadPart series device read fit items → IsUnfitCell (map series_entry series) device cell
     → IsReadPart series device (read ++ cell ∷ []) false items
 unfit_read series device read fit items cell part unfit = record {
   there = λ other among. ⊎_elim (λ h. part.there other h)
-      (λ same missing. not_both (type_at (map entry_of series) (child_of device other.measurement))
+      (λ same missing. not_both (type_at (map series_entry series) (child_of device other.measurement))
       (λ (t : DataType). value_of other.value t ≡ None)
-      (subst (λ (c : Cell). IsUnfit (map entry_of series) device c) same unfit) missing)
+      (subst (λ (c : Cell). IsUnfitCell (map series_entry series) device c) same unfit) missing)
       (either_push read cell other among);
   fits = λ e. absurd (false≢true e);
   unfit = λ e. record { element = cell; among = among_right read (cell ∷ []) cell (inl refl); holds = unfit };
@@ -151,10 +151,10 @@ read_unfit series device cells i fit items cell found within at part is one =
 
 pub read_missing : (series : List Schema) (device : List ℕ) (cells row : List Cell) (i : ℕ) (cell : Cell)
     (found : CellFound) → cells ≡ row → i < length cells → cell ≡ get_or cells i cell
-    → IsCellFound series device cell found → found ≡ Missing → IsRefused (map entry_of series) device row NoPath
+    → IsCellFound series device cell found → found ≡ Missing → IsRowRefused (map series_entry series) device row NoPath
 read_missing series device cells row i cell found same within at is one =
-    subst (λ l. IsRefused (map entry_of series) device l NoPath) same
-    (any_of (IsMissing (map entry_of series) device) cells (record {
+    subst (λ l. IsRowRefused (map series_entry series) device l NoPath) same
+    (any_of (IsMissingSeries (map series_entry series) device) cells (record {
       element = cell;
       among = subst (λ (c : Cell). Among c cells) (sym at) (among_get cells i cell within);
       holds = subst (IsCellFound series device cell) one is;
@@ -162,20 +162,20 @@ read_missing series device cells row i cell found same within at is one =
 
 pub row_unfit : (series : List Schema) (device : List ℕ) (cells row : List Cell) (i : ℕ) (fit : Bool)
     (items : List CellRecord) → cells ≡ row → length cells ≤ i → fit ≡ false → IsReadTo series device cells i fit items
-    → IsRefused (map entry_of series) device row WrongType
+    → IsRowRefused (map series_entry series) device row WrongType
 row_unfit series device cells row i fit items same end no_fit part =
     let whole : IsReadPart series device row fit items =
     subst (λ l. IsReadPart series device l fit items) (take_all i cells end ∙ same) part in (
-      λ missing. let one = some_of (IsMissing (map entry_of series) device) row missing in
+      λ missing. let one = some_of (IsMissingSeries (map series_entry series) device) row missing in
           whole.there one.element one.among one.holds,
-      any_of (IsUnfit (map entry_of series) device) row (whole.unfit no_fit),
+      any_of (IsUnfitCell (map series_entry series) device) row (whole.unfit no_fit),
     )
 
 -- a row that was read as cells
 pub record IsRowRead (series : List Schema) (device : List ℕ) (row : Row) (items : List CellRecord) : Type 0 where
-  pub cells : AreCells (map entry_of series) device row.cells items
+  pub cells : AreCells (map series_entry series) device row.cells items
   pub few : length items ≤ max_names
-  pub differ : AreApart items
+  pub differ : AreOfDifferentSeries items
   pub there : AreOfDevice series device items
 
 few_of : (n m : ℕ) → n ≡ m → m ≤ max_names → n ≤ max_names
@@ -185,8 +185,8 @@ pub row_cells : (series : List Schema) (device : List ℕ) (cells : List Cell) (
     (items result : List CellRecord) → result ≡ items → cells ≡ row.cells → length cells ≤ i → fit ≡ true → IsRow row
     → IsReadTo series device cells i fit items → IsRowRead series device row result
 row_cells series device cells row i fit items result is same end all formed part =
-    let are : AreItems series device row.cells result =
-    subst (AreItems series device row.cells) (sym is)
+    let are : AreRowItems series device row.cells result =
+    subst (AreRowItems series device row.cells) (sym is)
     ((subst (λ l. IsReadPart series device l fit items) (take_all i cells end ∙ same) part).fits all) in
     record {
       cells = cells_of_items series device row.cells result are;

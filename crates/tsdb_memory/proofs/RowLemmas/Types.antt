@@ -6,12 +6,12 @@ use Rattle.tsdb_memory.proofs.Numbers.{schema_at}
 use Rattle.tsdb_memory.proofs.Raises.{all_at}
 use Rattle.tsdb_memory.proofs.Types.{type_found, type_of_number}
 use Rattle.tsdb_memory.specs.Model.{IsFormed}
-use Rattle.tsdb_memory.specs.Shown.{entry_of, number_of}
+use Rattle.tsdb_memory.specs.Shown.{series_entry, number_of}
 use Rattle.tsdb_path.specs.Nodes.{IsPath}
 use Rattle.tsdb_state.specs.Worlds.{type_at}
 
 pub no_path : (series : List Schema) (path : List ℕ) → All IsFormed series → ¬ IsPath path
-    → type_at (map entry_of series) path ≡ None
+    → type_at (map series_entry series) path ≡ None
 no_path series path formed bad = type_found series path ∙ by (number_of series path) refl
   where
     by : (o : Option ℕ) → number_of series path ≡ o → type_of_number series o ≡ None

@@ -14,10 +14,10 @@ use Rattle.std.proofs.lemmas.List.Sums.{sum_by-cons}
 use Rattle.tsdb_base.specs.declared.value.Value.{Value}
 use Rattle.tsdb_state.proofs.LayerLemmas.Places.{place_cmp_total, same_content}
 use Rattle.tsdb_base.specs.Lists.{Among, EachPair}
-use Rattle.tsdb_state.specs.Places.{Content, Place, place_cmp}
+use Rattle.tsdb_state.specs.Places.{Content, PointPlace, place_cmp}
 use Rattle.tsdb_memory.proofs.Counts.{AreKeys, keys_left, left_at, none_of, put_back, removed_none}
 
-no_key : (rows : List (Place × Value)) → length rows ≡ 0 → rows ≡ []
+no_key : (rows : List (PointPlace × Value)) → length rows ≡ 0 → rows ≡ []
 no_key [] e = refl
 no_key (row ∷ rows) e = absurd (omega (arith, e))
 
@@ -25,7 +25,7 @@ swap_sums : (a b s r : ℕ) → s ≡ b + r → a + s ≡ b + (a + r)
 swap_sums a b s r e = omega (arith, e)
 
 -- a put in the place of the old value
-pub insert_again : (content : Content) (p : Place) (v : Value)
+pub insert_again : (content : Content) (p : PointPlace) (v : Value)
     → insert content p v ≡ insert (remove content p) p v
 insert_again content p v = same_content (insert content p v) (insert (remove content p) p v) (λ q.
     get-insert place_cmp_total content p v q
@@ -38,8 +38,8 @@ insert_again content p v = same_content (insert content p v) (insert (remove con
     twice false o = refl
 
 module _ (weight : Value → ℕ) where
-  abbrev sum_of : List (Place × Value) → ℕ
-  sum_of rows = sum_by (λ (row : Place × Value). weight row.1) rows
+  abbrev sum_of : List (PointPlace × Value) → ℕ
+  sum_of rows = sum_by (λ (row : PointPlace × Value). weight row.1) rows
 
   -- the weights of all values of a content
   abbrev pub total : Content → ℕ
@@ -48,7 +48,7 @@ module _ (weight : Value → ℕ) where
   pub total_empty : total empty ≡ 0
   total_empty = ap sum_of (no_key (entries empty) (sym (len-entries empty) ∙ len-empty place_cmp Value))
 
-  put_adds : (rows : List (Place × Value)) (p : Place) (v : Value) → find place_cmp p rows ≡ None
+  put_adds : (rows : List (PointPlace × Value)) (p : PointPlace) (v : Value) → find place_cmp p rows ≡ None
       → sum_of (put place_cmp p v rows) ≡ weight v + sum_of rows
   put_adds [] p v none = omega arith
   put_adds (row ∷ rows) p v none = cases (place_cmp p row.0) (λ k. put_adds rows p v k) none
@@ -58,26 +58,26 @@ module _ (weight : Value → ℕ) where
           → cond (is_eq o) (Some row.1) (find place_cmp p rows) ≡ None
           → sum_of (by_order o ((p, v) ∷ row ∷ rows) ((row.0, v) ∷ rows) (row ∷ put place_cmp p v rows))
           ≡ weight v + sum_of (row ∷ rows)
-      cases Less rest e = sum_by-cons (λ (row : Place × Value). weight row.1) (p, v) (row ∷ rows)
+      cases Less rest e = sum_by-cons (λ (row : PointPlace × Value). weight row.1) (p, v) (row ∷ rows)
       cases Equal rest e = cc
       cases Greater rest e =
-          sum_by-cons (λ (row : Place × Value). weight row.1) row (put place_cmp p v rows)
+          sum_by-cons (λ (row : PointPlace × Value). weight row.1) row (put place_cmp p v rows)
           ∙ swap_sums (weight row.1) (weight v) (sum_of (put place_cmp p v rows)) (sum_of rows) (rest e)
-          ∙ ap (λ n. weight v + n) (sym (sum_by-cons (λ (row : Place × Value). weight row.1) row rows))
+          ∙ ap (λ n. weight v + n) (sym (sum_by-cons (λ (row : PointPlace × Value). weight row.1) row rows))
 
-  pub insert_adds : (content : Content) (p : Place) (v : Value) → get content p ≡ None
+  pub insert_adds : (content : Content) (p : PointPlace) (v : Value) → get content p ≡ None
       → total (insert content p v) ≡ weight v + total content
   insert_adds content p v none =
       ap sum_of (entries-insert place_cmp_total content p v)
       ∙ put_adds (entries content) p v (sym (get-entries content p) ∙ none)
 
-  pub total_split : (content : Content) (p : Place) (v : Value) → get content p ≡ Some v
+  pub total_split : (content : Content) (p : PointPlace) (v : Value) → get content p ≡ Some v
       → total content ≡ weight v + total (remove content p)
   total_split content p v at =
       ap total (put_back content p v at) ∙ insert_adds (remove content p) p v (removed_none content p)
 
   -- a value that is put adds its weight at most
-  pub total_put : (content : Content) (p : Place) (v : Value) → total (insert content p v) ≤ weight v + total content
+  pub total_put : (content : Content) (p : PointPlace) (v : Value) → total (insert content p v) ≤ weight v + total content
   total_put content p v = by (get content p) refl
     where
       again : total (insert content p v) ≡ weight v + total (remove content p)
@@ -88,16 +88,16 @@ module _ (weight : Value → ℕ) where
       by (Some old) e = omega (arith, again, total_split content p old e)
 
   -- a content has the weights of its places
-  pub total_of : (at : Place → ℕ) (places : List Place) (content : Content)
-      → EachPair (λ (p q : Place). p ≢ q) places → AreKeys places content
-      → ((q : Place) (v : Value) → get content q ≡ Some v → at q ≡ weight v)
+  pub total_of : (at : PointPlace → ℕ) (places : List PointPlace) (content : Content)
+      → EachPair (λ (p q : PointPlace). p ≢ q) places → AreKeys places content
+      → ((q : PointPlace) (v : Value) → get content q ≡ Some v → at q ≡ weight v)
       → total content ≡ sum_by at places
   total_of at [] content differ are is =
       ap total (same_content content empty
       (λ q. none_of (get content q) (λ some. nothing q ((are q).1 some)) ∙ sym (get-empty place_cmp q)))
       ∙ total_empty
     where
-      nothing : (q : Place) → Among q [] → ⊥
+      nothing : (q : PointPlace) → Among q [] → ⊥
       nothing q among = absurd among
   total_of at (p ∷ places) content differ are is =
       by (get content p) refl

@@ -11,7 +11,7 @@ use Rattle.tsdb_log.specs.declared.record.LogRecord.{LogRecord}
 use Rattle.tsdb_log.specs.declared.record.LogRecord.TheVariants.{Create, Delete, Flushed, Freeze, Insert, Replaced, Snapshot}
 use Rattle.tsdb_state.specs.Records.{Replacement, after, flush_oldest, names, new_file, new_numbers, number_list}
 use Rattle.tsdb_state.specs.Records.{numbers_of, replace, replace_in}
-use Rattle.tsdb_state.specs.State.{File, FrozenPair, StoreState}
+use Rattle.tsdb_state.specs.State.{File, FrozenContent, StoreState}
 use Rattle.tsdb_state.specs.Steps.{number_or_none, output_number}
 
 each_take : {X : Type 0} (P : X → Type 0) (n : ℕ) (xs : List X) → Each P xs → Each P (take n xs)
@@ -48,7 +48,7 @@ module _ (P : File → Type 0) where
       by true new = new
       by false new = λ number among. new number (inr among)
 
-  flushed_files : (s u : ℕ) (frozen : List FrozenPair) (store : StoreState)
+  flushed_files : (s u : ℕ) (frozen : List FrozenContent) (store : StoreState)
       → OfNumbers (new_numbers (s ∷ u ∷ [])) → Listed store → Listed (flush_oldest s u frozen store)
   flushed_files s u [] store new all = all
   flushed_files s u (oldest ∷ newer) store new all =

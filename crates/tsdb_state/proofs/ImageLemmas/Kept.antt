@@ -8,9 +8,9 @@ use Rattle.std.proofs.lemmas.Bool.{eqb-true}
 use Rattle.tsdb_state.specs.Stored.{IsKeptWhole, kept_bytes, without_numbers}
 use Rattle.tsdb_base.specs.Lists.{Among}
 use Rattle.tsdb_outside.specs.Files.{StoredFile}
-use Rattle.tsdb_state.specs.Stores.{Files, HoldsKept, IsContentOf, IsWhole}
+use Rattle.tsdb_state.specs.Stores.{BytesByNumber, HoldsKept, IsTreeContent, IsWhole}
 use Rattle.tsdb_state.specs.Records.{numbers_of}
-use Rattle.tsdb_state.specs.State.{File, Told}
+use Rattle.tsdb_state.specs.State.{File, ToldContents}
 
 -- the test for a number
 abbrev pub has_number : ℕ → StoredFile → Bool
@@ -20,7 +20,7 @@ abbrev pub found_bytes : Option StoredFile → Option (List ℕ)
 found_bytes found = option_map (λ (file : StoredFile). file.bytes) found
 
 -- files that hold the kept ones have their bytes
-pub holds_found : (kept : List StoredFile) (files : Files) → HoldsKept kept files → (number : ℕ) (bytes : List ℕ)
+pub holds_found : (kept : List StoredFile) (files : BytesByNumber) → HoldsKept kept files → (number : ℕ) (bytes : List ℕ)
     → kept_bytes kept number ≡ Some bytes → files number ≡ Some bytes
 holds_found [] files holds number bytes is = absurd cc
 holds_found (file ∷ kept) files holds number bytes is =
@@ -76,7 +76,7 @@ found_without numbers (file ∷ kept) number other =
     by false here rest = ap (λ found. cond (nat_eq file.number number) (Some file) found) rest
 
 -- that a file is whole says its number, what is told of it, and its bytes alone
-pub whole_as : (files others : Files) (told other : Told) (a b : File) → a.number ≡ b.number
+pub whole_as : (files others : BytesByNumber) (told other : ToldContents) (a b : File) → a.number ≡ b.number
     → told a.number ≡ other a.number
     → ((bytes : List ℕ) → files a.number ≡ Some bytes → others a.number ≡ Some bytes)
     → IsWhole files told a → IsWhole others other b
@@ -87,11 +87,11 @@ whole_as files others told other a b same as_told there whole = record {
   is_tree = whole.is_tree;
   is_made = whole.is_made;
   is_file = whole.is_file;
-  content = subst (λ n. IsContentOf whole.tree (other n)) same (subst (IsContentOf whole.tree) as_told whole.content);
+  content = subst (λ n. IsTreeContent whole.tree (other n)) same (subst (IsTreeContent whole.tree) as_told whole.content);
 }
 
 -- a kept file is kept by whatever born it is named with
-pub kept_by_number : (kept : List StoredFile) (told : Told) (files : List File) → Each (IsKeptWhole kept told) files
+pub kept_by_number : (kept : List StoredFile) (told : ToldContents) (files : List File) → Each (IsKeptWhole kept told) files
     → (number : ℕ) → Among number (numbers_of files) → (born : ℕ)
     → IsKeptWhole kept told (record { number = number; born = born })
 kept_by_number kept told [] whole number among born = absurd among

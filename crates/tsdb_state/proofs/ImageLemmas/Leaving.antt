@@ -18,14 +18,14 @@ use Rattle.tsdb_outside.specs.Disk.{Image, IsLawful, DiskState, in_slot}
 use Rattle.tsdb_outside.specs.Files.{StoredFile}
 use Rattle.tsdb_outside.specs.declared.disk.Slot.{Slot}
 use Rattle.tsdb_state.proofs.ReplayLemmas.Stores.{stands_for_one_of}
-use Rattle.tsdb_state.specs.Stores.{Files, HoldsKept, IsSound, IsStateOf, IsStoreOf, IsWhole, LeadsToState}
+use Rattle.tsdb_state.specs.Stores.{BytesByNumber, HoldsKept, IsSound, IsStateOf, IsStoreOf, IsWhole, LeadsToState}
 use Rattle.tsdb_state.specs.Stores.{Recorded, StandsForOneOf}
 use Rattle.tsdb_state.specs.Order.{DoubtInOrder}
 use Rattle.tsdb_state.specs.Records.{after, names, numbers_of}
-use Rattle.tsdb_state.specs.State.{EngineState, Entries, File, Told}
+use Rattle.tsdb_state.specs.State.{EngineState, KnownFiles, File, ToldContents}
 use Rattle.tsdb_state.specs.Steps.{failed}
 
-module _ (items : List LogRecord) (kept : List StoredFile) (told : Told) (known : Entries) (state : EngineState)
+module _ (items : List LogRecord) (kept : List StoredFile) (told : ToldContents) (known : KnownFiles) (state : EngineState)
     (stored : IsStored items kept told known state) where
   abbrev listed : List File
   listed = state.store.sequence ++ state.store.unsequence
@@ -47,7 +47,7 @@ module _ (items : List LogRecord) (kept : List StoredFile) (told : Told) (known 
       (λ number among born. kept_by_number kept told state.outgoing kept_outgoing number
       (each_among (λ n. Among n (numbers_of state.outgoing)) (names item) number doubt.kept among) born) kept_listed
 
-  module _ (files : Files) (holds : HoldsKept kept files) where
+  module _ (files : BytesByNumber) (holds : HoldsKept kept files) where
     whole : (list : List File) → Each (IsKeptWhole kept told) list → Each (IsWhole files told) list
     whole = each_weaker (IsKeptWhole kept told) (IsWhole files told)
         (λ file. whole_as (kept_bytes kept) files told told file file refl refl
@@ -97,7 +97,7 @@ module _ (items : List LogRecord) (kept : List StoredFile) (told : Told) (known 
 
   -- what a settled engine leaves
   pub settled_is_sound : (disk : DiskState) (lawful : IsLawful disk) (at : plain.State) (slot : Slot) (gate : ℕ)
-      (files : Files)
+      (files : BytesByNumber)
       → state.doubt ≡ None → IsStateOf told state.store at → IsLogOn disk slot gate (map spelling items) None
       → IsSettled slot disk → HoldsKept kept files → IsSound slot disk files at
   settled_is_sound disk lawful at slot gate files none stands log settled holds = record {
@@ -121,7 +121,7 @@ either old new P Q R S first then (inr turns) = record {
 }
 
 -- the state of a store is that of an equal one
-pub append_moments : (items : List LogRecord) (kept : List StoredFile) (told : Told) (known : Entries)
+pub append_moments : (items : List LogRecord) (kept : List StoredFile) (told : ToldContents) (known : KnownFiles)
     (state doubtful : EngineState) (item : LogRecord) (at after : plain.State) (next : Option plain.State) (slot : Slot)
     (old new : DiskState) → IsStored items kept told known state → IsStored items kept told known (failed item doubtful)
     → doubtful.store ≡ state.store → IsStateOf told state.store at → LeadsTo told state.store state.doubt next

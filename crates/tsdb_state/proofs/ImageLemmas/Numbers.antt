@@ -18,7 +18,7 @@ use Rattle.tsdb_state.specs.Jobs.{NumbersInOrder}
 use Rattle.tsdb_base.specs.Limits.{end_of_numbers}
 use Rattle.tsdb_state.specs.Records.{AreNew, CanFollow, Replacement, after, flush_oldest, names, new_file, new_numbers}
 use Rattle.tsdb_state.specs.Records.{number_list, numbers_of, replace, replace_in}
-use Rattle.tsdb_state.specs.State.{File, FrozenPair, StoreState}
+use Rattle.tsdb_state.specs.State.{File, FrozenContent, StoreState}
 
 abbrev listed : StoreState → List File
 listed store = store.sequence ++ store.unsequence
@@ -58,7 +58,7 @@ count_replace n place more output files = omega (
   count_around n place (place + more) files (omega arith),
 )
 
-flushed_count : (n s u : ℕ) (frozen : List FrozenPair) (store : StoreState)
+flushed_count : (n s u : ℕ) (frozen : List FrozenContent) (store : StoreState)
     → count n (numbers_of (listed (flush_oldest s u frozen store)))
     ≤ count n (numbers_of (listed store)) + count n (new_numbers (s ∷ u ∷ []))
 flushed_count n s u [] store = omega arith

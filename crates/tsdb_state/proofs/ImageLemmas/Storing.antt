@@ -34,10 +34,10 @@ use Rattle.tsdb_state.proofs.Told.{opened_in_order, order_same}
 use Rattle.tsdb_state.specs.Commands.{KeepsBytes}
 use Rattle.tsdb_state.specs.Jobs.{EntriesMatch, NumbersInOrder, Stands, drawn_by, job_inputs}
 use Rattle.tsdb_state.specs.NewStore.{opened}
-use Rattle.tsdb_state.specs.Order.{DoubtInOrder, IsInOrder, files_of}
+use Rattle.tsdb_state.specs.Order.{DoubtInOrder, IsInOrder, all_files}
 use Rattle.tsdb_state.specs.Records.{CanCreate, CanDelete, CanFollow, CanFreeze, CanInsert, after, names}
 use Rattle.tsdb_state.specs.Records.{numbers_of}
-use Rattle.tsdb_state.specs.State.{Compaction, EngineState, Entries, File, FlushJob, Pin, StoreState, Told}
+use Rattle.tsdb_state.specs.State.{Compaction, EngineState, KnownFiles, File, FlushState, PinState, StoreState, ToldContents}
 use Rattle.tsdb_state.specs.StoreOrder.{StoreInOrder}
 use Rattle.tsdb_state.specs.Steps.{Begins, CommitsCompaction, CommitsFlush, EndsCompaction, EndsFlush, Sweeps}
 use Rattle.tsdb_state.specs.Steps.{TakesFlush, TakesPin, began, committed, committed_flush, compaction_record}
@@ -58,7 +58,7 @@ counted n (x ∷ xs) (inr among) = let rest = counted n xs among in omega (arith
 pub no_longer : (a b : ℕ) → a ≡ b → a ≤ b
 no_longer a b e = omega arith
 
-module _ (items : List LogRecord) (kept : List StoredFile) (told : Told) (known : Entries) (state : EngineState)
+module _ (items : List LogRecord) (kept : List StoredFile) (told : ToldContents) (known : KnownFiles) (state : EngineState)
     (stored : IsStored items kept told known state) where
   abbrev listed : List File
   listed = state.store.sequence ++ state.store.unsequence
@@ -71,7 +71,7 @@ module _ (items : List LogRecord) (kept : List StoredFile) (told : Told) (known 
 
   -- a step that appends no record
   same_log : (new : EngineState) → new.store ≡ state.store → IsInOrder told known named new
-      → Each (IsKeptWhole kept told) (files_of new) → IfSome new.doubt IsRecord → IsStored items kept told known new
+      → Each (IsKeptWhole kept told) (all_files new) → IfSome new.doubt IsRecord → IsStored items kept told known new
   same_log new same order whole doubt = record {
     named = named;
     good = stored.good;
@@ -85,7 +85,7 @@ module _ (items : List LogRecord) (kept : List StoredFile) (told : Told) (known 
   -- a step that appends one
   one_more : (item : LogRecord) (other : EngineState) → other.store ≡ state.store → IsRecord item
       → CanFollow named item state.store → IsInOrder told known (names item ++ named) (wrote item other)
-      → Each (IsKeptWhole kept told) (files_of (wrote item other))
+      → Each (IsKeptWhole kept told) (all_files (wrote item other))
       → IsStored (items ++ item ∷ []) kept told known (wrote item other)
   one_more item other same good can order whole = record {
     named = names item ++ named;
@@ -173,19 +173,19 @@ module _ (items : List LogRecord) (kept : List StoredFile) (told : Told) (known 
       (each_append (IsKeptWhole kept told) state.outgoing built (kept_outgoing items kept told known state stored) all)
 
   -- FLUSHES
-  pub take_flush_stored : (flush : FlushJob) → TakesFlush flush state
+  pub take_flush_stored : (flush : FlushState) → TakesFlush flush state
       → IsStored items kept told known (took_flush flush state)
   take_flush_stored flush takes = same_log (took_flush flush state) refl
       (take_flush_step told known named state stored.order flush takes) stored.whole stored.doubt
 
-  pub end_flush_stored : (flush : FlushJob) (others : List FlushJob) (built : List File)
+  pub end_flush_stored : (flush : FlushState) (others : List FlushState) (built : List File)
       → EndsFlush flush others built state → Each (IsKeptWhole kept told) built
       → IsStored items kept told known (ended_flush flush others built state)
   end_flush_stored flush others built ends all = same_log (ended_flush flush others built state) refl
       (end_flush_step told known named state stored.order flush others built ends) (more_outgoing built all)
       stored.doubt
 
-  module _ (flush : FlushJob) (others : List FlushJob) (commits : CommitsFlush told known flush others state)
+  module _ (flush : FlushState) (others : List FlushState) (commits : CommitsFlush told known flush others state)
       (good : IsRecord (flush_record flush)) (all : Each (IsKeptWhole kept told) (built_files flush)) where
     drawn : (number : ℕ) → Among number (names (flush_record flush)) → Among number (drawn_by flush)
     drawn number among = named_drawn flush.sequence flush.unsequence number among
@@ -253,18 +253,18 @@ module _ (items : List LogRecord) (kept : List StoredFile) (told : Told) (known 
         (more_outgoing output all) good
 
   -- PINS AND SWEEPS
-  pub pin_stored : (pin : Pin) → TakesPin known pin state → IsStored items kept told known (pinned pin state)
+  pub pin_stored : (pin : PinState) → TakesPin known pin state → IsStored items kept told known (pinned pin state)
   pin_stored pin takes = same_log (pinned pin state) refl (pin_step told known named state stored.order pin takes)
       stored.whole stored.doubt
 
-  pub unpin_stored : (pin : Pin) (others : List Pin) → IsWithOne pin others state.pins
+  pub unpin_stored : (pin : PinState) (others : List PinState) → IsWithOne pin others state.pins
       → IsStored items kept told known (unpinned pin others state)
   unpin_stored pin others out = same_log (unpinned pin others state) refl
       (unpin_step told known named state stored.order pin others out) stored.whole stored.doubt
 
   -- what else is kept is free
   pub others_kept : (others : List StoredFile)
-      → Each (λ file. kept_bytes others file.number ≡ kept_bytes kept file.number) (files_of state)
+      → Each (λ file. kept_bytes others file.number ≡ kept_bytes kept file.number) (all_files state)
       → IsStored items others told known state
   others_kept others same = record {
     named = named;
@@ -274,7 +274,7 @@ module _ (items : List LogRecord) (kept : List StoredFile) (told : Told) (known 
     whole = each_both (λ file. kept_bytes others file.number ≡ kept_bytes kept file.number) (IsKeptWhole kept told)
         (IsKeptWhole others told)
         (λ file as_kept. whole_as (kept_bytes kept) (kept_bytes others) told told file file refl refl
-        (λ bytes there. as_kept ∙ there)) (files_of state) same stored.whole;
+        (λ bytes there. as_kept ∙ there)) (all_files state) same stored.whole;
     doubt = stored.doubt;
   }
 
@@ -286,12 +286,12 @@ module _ (items : List LogRecord) (kept : List StoredFile) (told : Told) (known 
     order = stored.order;
     whole = each_weaker (IsKeptWhole kept told) (IsKeptWhole (kept ++ more) told)
         (λ file. whole_as (kept_bytes kept) (kept_bytes (kept ++ more)) told told file file refl refl
-        (λ bytes. found_with_more kept more file.number bytes)) (files_of state) stored.whole;
+        (λ bytes. found_with_more kept more file.number bytes)) (all_files state) stored.whole;
     doubt = stored.doubt;
   }
 
-  pub others_told : (other : Told) (entries : Entries) → state.doubt ≡ None
-      → Each (λ file. told file.number ≡ other file.number) (files_of state)
+  pub others_told : (other : ToldContents) (entries : KnownFiles) → state.doubt ≡ None
+      → Each (λ file. told file.number ≡ other file.number) (all_files state)
       → Each (λ file. known file.number ≡ entries file.number) listed → IsStored items kept other entries state
   others_told other entries none same as_known = record {
     named = named;
@@ -301,7 +301,7 @@ module _ (items : List LogRecord) (kept : List StoredFile) (told : Told) (known 
         (each_left (λ file. told file.number ≡ other file.number) listed state.outgoing same) as_known;
     whole = each_both (λ file. told file.number ≡ other file.number) (IsKeptWhole kept told) (IsKeptWhole kept other)
         (λ file as_told. whole_as (kept_bytes kept) (kept_bytes kept) told other file file refl as_told
-        (λ bytes there. there)) (files_of state) same stored.whole;
+        (λ bytes there. there)) (all_files state) same stored.whole;
     doubt = stored.doubt;
   }
 
@@ -350,7 +350,7 @@ module _ (items : List LogRecord) (kept : List StoredFile) (told : Told) (known 
     }
 
 -- an engine that was just opened
-pub opened_stored : (items : List LogRecord) (kept : List StoredFile) (told : Told) (known : Entries)
+pub opened_stored : (items : List LogRecord) (kept : List StoredFile) (told : ToldContents) (known : KnownFiles)
     (recorded : Recorded) (next : ℕ) → All IsRecord items
     → Replays store_steps store_steps.new_store items recorded → StoreInOrder told recorded.store
     → Each (IsKeptWhole kept told) (recorded.store.sequence ++ recorded.store.unsequence)

@@ -12,7 +12,7 @@ use Rattle.tsdb_state.proofs.LayerLemmas.Values.{value_of_survivors}
 use Rattle.tsdb_state.specs.Layers.{Layer, survivor, value_in}
 use Rattle.tsdb_base.specs.Lists.{Among}
 use Rattle.tsdb_state.specs.Marks.{marks_up_to, purge, survives}
-use Rattle.tsdb_state.specs.Places.{Place}
+use Rattle.tsdb_state.specs.Places.{PointPlace}
 use Rattle.tsdb_marks.specs.declared.marks.Mark.{Mark}
 
 split_test : (old born version : ℕ) → old ≤ born
@@ -20,7 +20,7 @@ split_test : (old born version : ℕ) → old ≤ born
 split_test old born version h = grind (arith, nat_tests)
 
 -- marks are those up to a stamp, and the newer ones
-survives_up_to : (marks : List Mark) (place : Place) (old born : ℕ) → old ≤ born
+survives_up_to : (marks : List Mark) (place : PointPlace) (old born : ℕ) → old ≤ born
     → survives marks place old ≡ (survives (marks_up_to born marks) place old && survives marks place born)
 survives_up_to marks place old born h =
     clear_alike (nat_lt old) (λ version. (nat_le version born && nat_lt old version) || nat_lt born version) marks place
@@ -35,7 +35,7 @@ cond_both true false o = refl
 cond_both false true o = refl
 cond_both false false o = refl
 
-pub survivor_up_to : (marks : List Mark) (place : Place) (born : ℕ) (layer : Layer) → layer.born ≤ born
+pub survivor_up_to : (marks : List Mark) (place : PointPlace) (born : ℕ) (layer : Layer) → layer.born ≤ born
     → survivor marks place layer
     ≡ cond (survives marks place born) (survivor (marks_up_to born marks) place layer) None
 survivor_up_to marks place born layer h =
@@ -53,7 +53,7 @@ none_by true = refl
 none_by false = refl
 
 -- the value of layers no younger than a stamp is that under the marks up to it, where nothing newer covers the place
-pub value_up_to : (marks : List Mark) (place : Place) (born : ℕ) (layers : List Layer)
+pub value_up_to : (marks : List Mark) (place : PointPlace) (born : ℕ) (layers : List Layer)
     → Each (λ layer. layer.born ≤ born) layers
     → value_in marks place layers
     ≡ cond (survives marks place born) (value_in (marks_up_to born marks) place layers) None
@@ -66,7 +66,7 @@ value_up_to marks place born (layer ∷ layers) older =
     (survivor (marks_up_to born marks) place layer)
 
 -- layers of one born
-pub value_of_born : (marks : List Mark) (place : Place) (born : ℕ) (layers : List Layer)
+pub value_of_born : (marks : List Mark) (place : PointPlace) (born : ℕ) (layers : List Layer)
     → Each (λ layer. layer.born ≡ born) layers
     → value_in marks place layers ≡ cond (survives marks place born) (value_in [] place layers) None
 value_of_born marks place born [] same = none_by (survives marks place born)
@@ -78,7 +78,7 @@ value_of_born marks place born (layer ∷ layers) same =
     ∙ cond_or (survives marks place born) (value_in [] place layers) (survivor [] place layer)
 
 -- the output of a job has the value of its inputs under the marks of now
-pub output_value : (marks at_beginning : List Mark) (place : Place) (born : ℕ) (inputs output : List Layer)
+pub output_value : (marks at_beginning : List Mark) (place : PointPlace) (born : ℕ) (inputs output : List Layer)
     → Each (λ layer. layer.born ≤ born) inputs → Each (λ layer. layer.born ≡ born) output
     → map (survivor at_beginning place) inputs ≡ map (survivor (marks_up_to born marks) place) inputs
     → value_in [] place output ≡ value_in at_beginning place inputs
@@ -97,7 +97,7 @@ purge_up_to borns born old version among =
     absorbed (list_any (λ b. nat_lt b version) borns) (nat_le version born && nat_lt old version)
     (λ e. any_among (λ b. nat_lt b version) borns old among (second_true (nat_le version born) (nat_lt old version) e))
 
-pub survivor_purged_up_to : (borns : List ℕ) (marks : List Mark) (born : ℕ) (place : Place) (layer : Layer)
+pub survivor_purged_up_to : (borns : List ℕ) (marks : List Mark) (born : ℕ) (place : PointPlace) (layer : Layer)
     → Among layer.born borns
     → survivor (marks_up_to born (purge borns marks)) place layer ≡ survivor (marks_up_to born marks) place layer
 survivor_purged_up_to borns marks born place layer among = ap (λ b. cond b (get layer.content place) None)

@@ -16,7 +16,7 @@ use Rattle.tsdb_state.specs.Layers.{Layer, survivor, value_in}
 use Rattle.tsdb_base.specs.Lists.{Among}
 use Rattle.tsdb_state.specs.Marks.{purge, survives}
 use Rattle.tsdb_state.specs.LayerOrder.{IsBeforeInTime}
-use Rattle.tsdb_state.specs.Places.{Content, Place, place_cmp, put}
+use Rattle.tsdb_state.specs.Places.{Content, PointPlace, place_cmp, put_content}
 use Rattle.tsdb_marks.specs.declared.marks.Mark.{Mark}
 
 -- a purge leaves the survivors of what is as old as one of its borns
@@ -25,18 +25,18 @@ purge_test : (borns : List ℕ) (born version : ℕ) → Among born borns
 purge_test borns born version among =
     absorbed (list_any (λ old. nat_lt old version) borns) (nat_lt born version) (any_among _ _ _ among)
 
-pub survives_purge : (borns : List ℕ) (marks : List Mark) (place : Place) (born : ℕ) → Among born borns
+pub survives_purge : (borns : List ℕ) (marks : List Mark) (place : PointPlace) (born : ℕ) → Among born borns
     → survives (purge borns marks) place born ≡ survives marks place born
 survives_purge borns marks place born among =
     clear_filter (nat_lt born) (λ version. list_any (λ old. nat_lt old version) borns) marks place
     ∙ clear_alike _ _ marks place (λ version. purge_test _ _ version among)
 
-pub survivor_purge : (borns : List ℕ) (marks : List Mark) (place : Place) (layer : Layer) → Among layer.born borns
+pub survivor_purge : (borns : List ℕ) (marks : List Mark) (place : PointPlace) (layer : Layer) → Among layer.born borns
     → survivor (purge borns marks) place layer ≡ survivor marks place layer
 survivor_purge borns marks place layer among =
     ap (λ b. cond b (get layer.content place) None) (survives_purge _ _ _ _ among)
 
-pub value_purge : (borns : List ℕ) (marks : List Mark) (place : Place) (layers : List Layer)
+pub value_purge : (borns : List ℕ) (marks : List Mark) (place : PointPlace) (layers : List Layer)
     → Each (λ layer. Among layer.born borns) layers
     → value_in (purge borns marks) place layers ≡ value_in marks place layers
 value_purge borns marks place [] among = refl
@@ -46,36 +46,36 @@ value_purge borns marks place (layer ∷ layers) among =
     λ i. option_or (rest i) (first i)
 
 -- a layer without a point at the place
-pub value_without : (marks : List Mark) (place : Place) (below : List Layer) (layer : Layer) (above : List Layer)
+pub value_without : (marks : List Mark) (place : PointPlace) (below : List Layer) (layer : Layer) (above : List Layer)
     → get layer.content place ≡ None
     → value_in marks place (below ++ layer ∷ above) ≡ value_in marks place (below ++ above)
 value_without marks place below layer above none =
     simp (value_append, no_survivor marks place layer none, or_none {X = Value})
 
 -- a layer in place of another with the same survivor
-pub value_layer : (marks : List Mark) (place : Place) (below : List Layer) (layer other : Layer) (above : List Layer)
+pub value_layer : (marks : List Mark) (place : PointPlace) (below : List Layer) (layer other : Layer) (above : List Layer)
     → survivor marks place layer ≡ survivor marks place other
     → value_in marks place (below ++ layer ∷ above) ≡ value_in marks place (below ++ other ∷ above)
 value_layer marks place below layer other above same = simp (value_append, same)
 
 -- the highest survivor is the value
-pub value_top : (marks : List Mark) (place : Place) (value : Value) (below : List Layer) (layer : Layer)
+pub value_top : (marks : List Mark) (place : PointPlace) (value : Value) (below : List Layer) (layer : Layer)
     (above : List Layer)
     → survivor marks place layer ≡ Some value → value_in marks place above ≡ None
     → value_in marks place (below ++ layer ∷ above) ≡ Some value
 value_top marks place value below layer above is none = simp (value_append, none, is)
 
-pub put_survives : (marks : List Mark) (place : Place) (value : Value) (born : ℕ) (content : Content)
+pub put_survives : (marks : List Mark) (place : PointPlace) (value : Value) (born : ℕ) (content : Content)
     → survives marks place born ≡ true
-    → survivor marks place (record { born = born; content = put place value content }) ≡ Some value
+    → survivor marks place (record { born = born; content = put_content place value content }) ≡ Some value
 put_survives marks place value born content lives =
-    (λ i. cond (lives i) (get (put place value content) place) None)
+    (λ i. cond (lives i) (get (put_content place value content) place) None)
     ∙ get_put _ _ _ _
     ∙ ap (λ b. cond b (Some value) (get content place)) (place_itself _)
 
-pub put_elsewhere : (marks : List Mark) (place other : Place) (value : Value) (born : ℕ) (content : Content)
+pub put_elsewhere : (marks : List Mark) (place other : PointPlace) (value : Value) (born : ℕ) (content : Content)
     → other ≢ place
-    → survivor marks other (record { born = born; content = put place value content })
+    → survivor marks other (record { born = born; content = put_content place value content })
     ≡ survivor marks other (record { born = born; content = content })
 put_elsewhere marks place other value born content apart =
     ap (λ o. cond (survives marks other born) o None) (get_put _ _ _ _ ∙ by (eq_by_cmp place_cmp other place) refl)
@@ -89,7 +89,7 @@ put_elsewhere marks place other value born content apart =
 shares_none : (time : ℤ) → time <ℤ time → ⊥
 shares_none time h = grind (arith, ints)
 
-pub before_none : (marks : List Mark) (place : Place) (earlier later : List Layer) → IsBeforeInTime earlier later
+pub before_none : (marks : List Mark) (place : PointPlace) (earlier later : List Layer) → IsBeforeInTime earlier later
     → (value_in marks place earlier ≡ None) ⊎ (value_in marks place later ≡ None)
 before_none marks place earlier later before = by (value_in marks place earlier) (value_in marks place later) refl refl
   where

@@ -10,12 +10,12 @@ use Rattle.std.specs.declared.cmp.Ordering.{Ordering}
 use Rattle.std.specs.declared.cmp.Ordering.TheVariants.{Less, Equal, Greater}
 use Rattle.tsdb_base.specs.declared.point.Range.{Range}
 use Rattle.tsdb_base.specs.declared.value.Value.{Value}
-use Rattle.tsdb_state.specs.Places.{Content, Place, cut, is_path, is_within, place_cmp, put}
+use Rattle.tsdb_state.specs.Places.{Content, PointPlace, cut_content, is_path, is_within, place_cmp, put_content}
 
 pub place_cmp_total : IsTotalOrder place_cmp
 unfolding place_cmp
 place_cmp_total =
-    then_total (on_total (λ (p : Place). p.path) nat_list_cmp_total) (on_total (λ (p : Place). p.time) int_cmp_total)
+    then_total (on_total (λ (p : PointPlace). p.path) nat_list_cmp_total) (on_total (λ (p : PointPlace). p.time) int_cmp_total)
 
 both_equal : (r s : Ordering) → ordering_then r s ≡ Equal → (r ≡ Equal) × (s ≡ Equal)
 both_equal Less s e = absurd (cc)
@@ -39,10 +39,10 @@ tied Equal h = refl
 tied Greater h = absurd (cc)
 
 -- two places are tied exactly where they are one
-pub is_place : (p q : Place) → eq_by_cmp place_cmp p q ≡ true → p ≡ q
+pub is_place : (p q : PointPlace) → eq_by_cmp place_cmp p q ≡ true → p ≡ q
 is_place p q e = place_cmp-IsAntisymmetric p q (tied (place_cmp p q) e)
 
-pub place_itself : (p : Place) → eq_by_cmp place_cmp p p ≡ true
+pub place_itself : (p : PointPlace) → eq_by_cmp place_cmp p p ≡ true
 place_itself p = ap is_eq (tied_itself place_cmp_total p)
 
 pub path_itself : (p : List ℕ) → is_path p p ≡ true
@@ -51,14 +51,14 @@ path_itself p = ap is_eq (tied_itself nat_list_cmp_total p)
 pub is_path_same : (p q : List ℕ) → is_path p q ≡ true → p ≡ q
 is_path_same p q e = paths_same p q (tied (slice_cmp nat_cmp p q) e)
 
-pub get_put : (content : Content) (place : Place) (value : Value) (q : Place)
-    → get (put place value content) q ≡ cond (eq_by_cmp place_cmp q place) (Some value) (get content q)
+pub get_put : (content : Content) (place : PointPlace) (value : Value) (q : PointPlace)
+    → get (put_content place value content) q ≡ cond (eq_by_cmp place_cmp q place) (Some value) (get content q)
 get_put content place value q = get-insert place_cmp_total content place value q
 
-pub get_cut : (content : Content) (path : List ℕ) (range : Range) (q : Place)
-    → get (cut path range content) q ≡ cond (not (is_within path range q)) (get content q) None
+pub get_cut : (content : Content) (path : List ℕ) (range : Range) (q : PointPlace)
+    → get (cut_content path range content) q ≡ cond (not (is_within path range q)) (get content q) None
 get_cut content path range q = get-retain_keys content (λ place. not (is_within path range place)) q
-    (λ x e. ap (λ (p : Place). not (is_within path range p)) (sym (place_cmp-IsAntisymmetric q x e)))
+    (λ x e. ap (λ (p : PointPlace). not (is_within path range p)) (sym (place_cmp-IsAntisymmetric q x e)))
 
-pub same_content : (a b : Content) → ((q : Place) → get a q ≡ get b q) → a ≡ b
+pub same_content : (a b : Content) → ((q : PointPlace) → get a q ≡ get b q) → a ≡ b
 same_content a b alike = same_map place_cmp_total place_cmp-IsAntisymmetric a b alike

@@ -3,12 +3,12 @@ use Rattle.std.proofs.Common.{List, [], ◌∷◌, ◌++◌, inl, inr, ⊎_elim}
 use Rattle.tsdb_base.specs.declared.value.Value.{Value}
 use Rattle.tsdb_state.proofs.LayerLemmas.Values.{has_cases, has_left, has_right}
 use Rattle.tsdb_state.specs.Layers.{HasPoint, Layer}
-use Rattle.tsdb_state.specs.LayerOrder.{IsBeforeInTime, IsBelow, Rises, Watermarks}
-use Rattle.tsdb_state.specs.Places.{Place}
+use Rattle.tsdb_state.specs.LayerOrder.{IsBeforeInTime, IsBelow, Rises, WatermarkMap}
+use Rattle.tsdb_state.specs.Places.{PointPlace}
 
 -- each point of the one list is one of the other
 abbrev pub IsPartOf : List Layer → List Layer → Type 0
-IsPartOf xs ys = (place : Place) (value : Value) → HasPoint xs place value → HasPoint ys place value
+IsPartOf xs ys = (place : PointPlace) (value : Value) → HasPoint xs place value → HasPoint ys place value
 
 pub part_append : (xs ys vs ws : List Layer) → IsPartOf xs vs → IsPartOf ys ws → IsPartOf (xs ++ ys) (vs ++ ws)
 part_append xs ys vs ws first second place value has = ⊎_elim (λ h. has_left _ _ _ _ (first place value h))
@@ -54,11 +54,11 @@ rises_append (x ∷ xs) ys first second across = (
   rises_append xs ys first.1 second (before_part _ _ (x ∷ xs) _ (has_right (x ∷ []) _) (λ p v h. h) across),
 )
 
-pub below_part : (watermarks : Watermarks) (xs ys : List Layer) → IsPartOf xs ys → IsBelow watermarks ys
+pub below_part : (watermarks : WatermarkMap) (xs ys : List Layer) → IsPartOf xs ys → IsBelow watermarks ys
     → IsBelow watermarks xs
 below_part watermarks xs ys part below place value has = below place value (part place value has)
 
-pub below_both : (watermarks : Watermarks) (xs ys : List Layer) → IsBelow watermarks xs → IsBelow watermarks ys
+pub below_both : (watermarks : WatermarkMap) (xs ys : List Layer) → IsBelow watermarks xs → IsBelow watermarks ys
     → IsBelow watermarks (xs ++ ys)
 below_both watermarks xs ys first second place value has =
     ⊎_elim (first place value) (second place value) (has_cases _ _ _ _ has)

@@ -7,7 +7,7 @@ use Rattle.std.proofs.lemmas.Bool.Decides.{nat_tests}
 use Rattle.tsdb_base.proofs.Lists.{each_all, each_weaker}
 use Rattle.tsdb_state.specs.Layers.{Layer, survivor}
 use Rattle.tsdb_state.specs.Marks.{is_clear, is_over, survives}
-use Rattle.tsdb_state.specs.Places.{Place}
+use Rattle.tsdb_state.specs.Places.{PointPlace}
 use Rattle.tsdb_marks.specs.declared.marks.Mark.{Mark}
 
 -- a test that holds wherever another does adds nothing to it
@@ -21,7 +21,7 @@ second_true true b e = e
 second_true false b e = absurd (false≢true e)
 
 -- tests that agree at the versions of the marks
-pub clear_same : (test other : ℕ → Bool) (marks : List Mark) (place : Place)
+pub clear_same : (test other : ℕ → Bool) (marks : List Mark) (place : PointPlace)
     → Each (λ mark. test mark.version.0 ≡ other mark.version.0) marks
     → is_clear test marks place ≡ is_clear other marks place
 clear_same test other [] place same = refl
@@ -29,14 +29,14 @@ clear_same test other (mark ∷ marks) place same =
     let rest = clear_same test other marks place same.1 in
     λ i. not (is_over mark place && same.0 i) && rest i
 
-pub clear_alike : (test other : ℕ → Bool) (marks : List Mark) (place : Place) → ((version : ℕ)
+pub clear_alike : (test other : ℕ → Bool) (marks : List Mark) (place : PointPlace) → ((version : ℕ)
     → test version ≡ other version)
     → is_clear test marks place ≡ is_clear other marks place
 clear_alike test other marks place same =
     clear_same test other marks place (each_all _ (λ mark. same mark.version.0) marks)
 
 -- the marks that a filter drops count no longer
-pub clear_filter : (test kept : ℕ → Bool) (marks : List Mark) (place : Place)
+pub clear_filter : (test kept : ℕ → Bool) (marks : List Mark) (place : PointPlace)
     → is_clear test (filter (λ mark. kept mark.version.0) marks) place
     ≡ is_clear (λ version. kept version && test version) marks place
 clear_filter test kept [] place = refl
@@ -54,7 +54,7 @@ clear_filter test kept (mark ∷ marks) place = by (kept mark.version.0) (filter
     by false dropped rest e = e ∙ ap (λ b. b && rest) (sym (none (is_over mark place)))
 
 -- to be clear under either test is to be clear under both
-pub clear_either : (test other : ℕ → Bool) (marks : List Mark) (place : Place)
+pub clear_either : (test other : ℕ → Bool) (marks : List Mark) (place : PointPlace)
     → is_clear (λ version. test version || other version) marks place
     ≡ (is_clear test marks place && is_clear other marks place)
 clear_either test other [] place = refl
@@ -71,7 +71,7 @@ clear_either test other (mark ∷ marks) place =
     by true false true false s = refl
     by true false false r s = refl
 
-pub clear_append : (test : ℕ → Bool) (marks others : List Mark) (place : Place)
+pub clear_append : (test : ℕ → Bool) (marks others : List Mark) (place : PointPlace)
     → is_clear test (marks ++ others) place ≡ (is_clear test marks place && is_clear test others place)
 clear_append test [] others place = refl
 clear_append test (mark ∷ marks) others place =
@@ -83,7 +83,7 @@ clear_append test (mark ∷ marks) others place =
     by false b c = refl
 
 -- a mark whose version fails the test does not count
-pub clear_none : (test : ℕ → Bool) (marks : List Mark) (place : Place)
+pub clear_none : (test : ℕ → Bool) (marks : List Mark) (place : PointPlace)
     → Each (λ mark. test mark.version.0 ≡ false) marks
     → is_clear test marks place ≡ true
 clear_none test [] place fail = refl
@@ -96,7 +96,7 @@ clear_none test (mark ∷ marks) place fail =
     by false = refl
 
 -- what is as new as all marks survives
-pub newest_survives : (marks : List Mark) (place : Place) (born : ℕ) → Each (λ mark. mark.version.0 ≤ born) marks
+pub newest_survives : (marks : List Mark) (place : PointPlace) (born : ℕ) → Each (λ mark. mark.version.0 ≤ born) marks
     → survives marks place born ≡ true
 newest_survives marks place born old = clear_none _ _ _ (each_weaker _ _ (λ mark h. low mark.version.0 born h) _ old)
   where
@@ -104,7 +104,7 @@ newest_survives marks place born old = clear_none _ _ _ (each_weaker _ _ (λ mar
     low a b h = grind (arith, nat_tests)
 
 -- the survivor is the layer's value where no mark is newer
-pub newest_survivor : (marks : List Mark) (place : Place) (layer : Layer)
+pub newest_survivor : (marks : List Mark) (place : PointPlace) (layer : Layer)
     → Each (λ mark. mark.version.0 ≤ layer.born) marks
     → survivor marks place layer ≡ Rattle.std.specs.FinMap.get layer.content place
 newest_survivor marks place layer old =

@@ -7,7 +7,7 @@ use Rattle.std.specs.Option.{option_or}
 use Rattle.tsdb_base.specs.declared.value.Value.{Value}
 use Rattle.tsdb_state.specs.Layers.{HasPoint, Layer, survivor, value_in}
 use Rattle.tsdb_state.specs.Marks.{survives}
-use Rattle.tsdb_state.specs.Places.{Place}
+use Rattle.tsdb_state.specs.Places.{PointPlace}
 use Rattle.tsdb_marks.specs.declared.marks.Mark.{Mark}
 
 pub or_none : {X : Type 0} (a : Option X) → option_or a None ≡ a
@@ -18,7 +18,7 @@ pub or_assoc : {X : Type 0} (a b c : Option X) → option_or (option_or a b) c �
 or_assoc None b c = refl
 or_assoc (Some x) b c = refl
 
-pub value_append : (marks : List Mark) (place : Place) (xs ys : List Layer)
+pub value_append : (marks : List Mark) (place : PointPlace) (xs ys : List Layer)
     → value_in marks place (xs ++ ys) ≡ option_or (value_in marks place ys) (value_in marks place xs)
 value_append marks place [] ys = sym (or_none _)
 value_append marks place (x ∷ xs) ys =
@@ -31,7 +31,7 @@ top [] = None
 top (x ∷ xs) = option_or (top xs) x
 
 -- layers of equal survivors have one value
-pub value_of_survivors : (marks others : List Mark) (place : Place) (xs ys : List Layer)
+pub value_of_survivors : (marks others : List Mark) (place : PointPlace) (xs ys : List Layer)
     → map (survivor marks place) xs ≡ map (survivor others place) ys
     → value_in marks place xs ≡ value_in others place ys
 value_of_survivors marks others place xs ys same = last marks xs ∙ ap top same ∙ sym (last others ys)
@@ -41,21 +41,21 @@ value_of_survivors marks others place xs ys same = last marks xs ∙ ap top same
     last marks (x ∷ xs) = ap (λ o. option_or o (survivor marks place x)) (last marks xs)
 
 -- the middle of a list of layers in place of another of the same value
-pub value_middle : (marks others : List Mark) (place : Place) (a b xs ys : List Layer)
+pub value_middle : (marks others : List Mark) (place : PointPlace) (a b xs ys : List Layer)
     → value_in marks place a ≡ value_in others place a → value_in marks place b ≡ value_in others place b
     → value_in marks place xs ≡ value_in others place ys
     → value_in marks place (a ++ (xs ++ b)) ≡ value_in others place (a ++ (ys ++ b))
 value_middle marks others place a b xs ys first last middle = simp (value_append, first, last, middle)
 
 -- runs side by side, of which one has no value, change places
-pub value_swap : (marks : List Mark) (place : Place) (xs ys : List Layer)
+pub value_swap : (marks : List Mark) (place : PointPlace) (xs ys : List Layer)
     → (value_in marks place xs ≡ None) ⊎ (value_in marks place ys ≡ None)
     → value_in marks place (xs ++ ys) ≡ value_in marks place (ys ++ xs)
 value_swap marks place xs ys (inl none) = simp (value_append, none, or_none {X = Value})
 value_swap marks place xs ys (inr none) = simp (value_append, none, or_none {X = Value})
 
 -- a layer without a point at the place has no value there
-pub no_survivor : (marks : List Mark) (place : Place) (layer : Layer) → get layer.content place ≡ None
+pub no_survivor : (marks : List Mark) (place : PointPlace) (layer : Layer) → get layer.content place ≡ None
     → survivor marks place layer ≡ None
 no_survivor marks place layer none = by (survives marks place layer.born)
   where
@@ -64,7 +64,7 @@ no_survivor marks place layer none = by (survives marks place layer.born)
     by false = refl
 
 -- what survives is a point
-pub survivor_is : (marks : List Mark) (place : Place) (layer : Layer) (value : Value)
+pub survivor_is : (marks : List Mark) (place : PointPlace) (layer : Layer) (value : Value)
     → survivor marks place layer ≡ Some value → get layer.content place ≡ Some value
 survivor_is marks place layer value is = by (survives marks place layer.born) is
   where
@@ -72,7 +72,7 @@ survivor_is marks place layer value is = by (survives marks place layer.born) is
     by true e = e
     by false e = absurd (cc)
 
-pub value_is_point : (marks : List Mark) (place : Place) (layers : List Layer) (value : Value)
+pub value_is_point : (marks : List Mark) (place : PointPlace) (layers : List Layer) (value : Value)
     → value_in marks place layers ≡ Some value → HasPoint layers place value
 value_is_point marks place [] value is = absurd (none is)
   where
@@ -87,7 +87,7 @@ value_is_point marks place (layer ∷ layers) value is = by (value_in marks plac
     by (Some v) rest e = inr (rest e)
 
 -- no point at the place, no value
-pub value_none : (marks : List Mark) (place : Place) (layers : List Layer)
+pub value_none : (marks : List Mark) (place : PointPlace) (layers : List Layer)
     → ((value : Value) → ¬ HasPoint layers place value) → value_in marks place layers ≡ None
 value_none marks place layers none = by (value_in marks place layers) refl
   where
@@ -95,18 +95,18 @@ value_none marks place layers none = by (value_in marks place layers) refl
     by None e = refl
     by (Some value) e = absurd (none value (value_is_point _ _ _ _ e))
 
-pub has_left : (xs ys : List Layer) (place : Place) (value : Value) → HasPoint xs place value
+pub has_left : (xs ys : List Layer) (place : PointPlace) (value : Value) → HasPoint xs place value
     → HasPoint (xs ++ ys) place value
 has_left [] ys place value has = absurd has
 has_left (x ∷ xs) ys place value (inl is) = inl is
 has_left (x ∷ xs) ys place value (inr has) = inr (has_left xs ys place value has)
 
-pub has_right : (xs ys : List Layer) (place : Place) (value : Value) → HasPoint ys place value
+pub has_right : (xs ys : List Layer) (place : PointPlace) (value : Value) → HasPoint ys place value
     → HasPoint (xs ++ ys) place value
 has_right [] ys place value has = has
 has_right (x ∷ xs) ys place value has = inr (has_right xs ys place value has)
 
-pub has_cases : (xs ys : List Layer) (place : Place) (value : Value) → HasPoint (xs ++ ys) place value
+pub has_cases : (xs ys : List Layer) (place : PointPlace) (value : Value) → HasPoint (xs ++ ys) place value
     → HasPoint xs place value ⊎ HasPoint ys place value
 has_cases [] ys place value has = inr has
 has_cases (x ∷ xs) ys place value (inl is) = inl (inl is)

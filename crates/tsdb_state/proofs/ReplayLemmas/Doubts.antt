@@ -9,9 +9,9 @@ use Rattle.tsdb_frames.specs.Log.{HasRecordsOrOneMore}
 use Rattle.tsdb_frames.specs.Slots.{HasRecords}
 use Rattle.tsdb_log.specs.Spelling.{IsRecord, spelling}
 use Rattle.tsdb_log.specs.declared.record.LogRecord.{LogRecord}
-use Rattle.tsdb_state.specs.Replays.{CanFollow, IsReplayOf, IsReplayOfOneOf, Replays, Steps}
+use Rattle.tsdb_state.specs.Replays.{HasReplay, IsReplayOf, IsReplayOfOneOf, Replays, RecordSteps}
 
-module _ {S : Type 0} (steps : Steps S) where
+module _ {S : Type 0} (steps : RecordSteps S) where
   -- records, and then further ones
   pub replays_append : (items others : List LogRecord) (old middle new : S)
       → Replays steps old items middle → Replays steps middle others new → Replays steps old (items ++ others) new
@@ -39,7 +39,7 @@ module _ {S : Type 0} (steps : Steps S) where
   -- a slot with the records of a state, or with these and the one in doubt, stands for the state, or for that with the
   -- record in doubt
   pub one_or_more : (items : List LogRecord) (doubt : Option LogRecord) (state : S) (bytes : List ℕ)
-      → All IsRecord items → Replays steps steps.new_store items state → IfSome doubt (CanFollow steps state)
+      → All IsRecord items → Replays steps steps.new_store items state → IfSome doubt (HasReplay steps state)
       → HasRecordsOrOneMore (map spelling items) (option_map spelling doubt) bytes
       → IsReplayOfOneOf steps doubt bytes state
   one_or_more items None state bytes good replayed follows has =

@@ -12,7 +12,7 @@ use Rattle.tsdb_log.specs.Spelling.{IsRecord, spelling}
 use Rattle.tsdb_log.specs.declared.record.LogRecord.{LogRecord}
 use Rattle.tsdb_log.proofs.Bodies.{record_rows}
 use Rattle.tsdb_state.specs.Damage.{IsDamaged, IsDamagedAtGate, IsTornRest, IsUnreplayable}
-use Rattle.tsdb_state.specs.Replays.{IsDeterminate, IsReplayOf, Replays, Steps}
+use Rattle.tsdb_state.specs.Replays.{IsDeterminate, IsReplayOf, Replays, RecordSteps}
 
 -- two records with one spelling are one
 same_item : (a b : LogRecord) → IsRecord a → IsRecord b → spelling a ≡ spelling b → a ≡ b
@@ -43,7 +43,7 @@ long_rest ps rest some = omega (arith, length-append (open_records ps) rest)
 no_gate_in_none : (ps : List (List ℕ)) (rest : List ℕ) → 1 ≤ length rest → [] ≡ open_records ps ++ rest → ⊥
 no_gate_in_none ps rest some same = absurd (omega (arith, ap length same, long_rest ps rest some))
 
-module _ {S : Type 0} (steps : Steps S) where
+module _ {S : Type 0} (steps : RecordSteps S) where
   -- no record that has a replay begins here
   abbrev Stops : S → List ℕ → Type 0
   Stops state rest = (item : LogRecord) (next : S) (after : List ℕ) → IsRecord item → IsPayload (spelling item) → 1 ≤

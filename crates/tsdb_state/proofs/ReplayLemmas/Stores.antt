@@ -21,8 +21,8 @@ use Rattle.tsdb_pages.specs.File.{IsFile}
 use Rattle.tsdb_pages.specs.declared.tree.Tree.{Tree}
 use Rattle.tsdb_pages.proofs.Files.{one_tree}
 use Rattle.tsdb_state.specs.Replays.{IsReplayOfOneOf, Replays}
-use Rattle.tsdb_state.specs.Stores.{Files, IsContentOf, IsSound, IsStoreOf, IsWhole, LeadsToState}
-use Rattle.tsdb_state.specs.Stores.{Recorded, StandsFor, StandsForOneOf, no_changes, store_steps}
+use Rattle.tsdb_state.specs.Stores.{BytesByNumber, IsTreeContent, IsSound, IsStoreOf, IsWhole, LeadsToState}
+use Rattle.tsdb_state.specs.Stores.{Recorded, StoreStandsFor, StandsForOneOf, no_changes, store_steps}
 use Rattle.tsdb_state.specs.Stores.{store_steps_determinate}
 use Rattle.tsdb_state.proofs.ReplayLemmas.Doubts.{one_or_more}
 use Rattle.tsdb_state.proofs.ReplayLemmas.Parted.{replay_once}
@@ -30,7 +30,7 @@ use Rattle.tsdb_state.proofs.Told.{value_same}
 use Rattle.tsdb_state.proofs.NewStore.{new_store_in_order, new_store_stands}
 use Rattle.tsdb_state.proofs.OneWorld.{stands_once as one_world}
 use Rattle.tsdb_state.specs.Records.{after, names}
-use Rattle.tsdb_state.specs.State.{File, StoreState, Told}
+use Rattle.tsdb_state.specs.State.{File, StoreState, ToldContents}
 use Rattle.tsdb_state.specs.Worlds as state
 
 -- the store after a record
@@ -44,24 +44,24 @@ alike None (Some y) to from = from y refl
 alike (Some x) b to from = sym (to x refl)
 
 -- a tree has one content
-one_content : (tree : Tree) (a b : Content) → IsContentOf tree a → IsContentOf tree b → a ≡ b
+one_content : (tree : Tree) (a b : Content) → IsTreeContent tree a → IsTreeContent tree b → a ≡ b
 one_content tree a b is_a is_b = same_content a b (λ place. alike (get a place) (get b place)
     (λ value has. (is_b place value).1 ((is_a place value).0 has))
     (λ value has. (is_a place value).1 ((is_b place value).0 has)))
 
 -- the points of a file that is there are told by its bytes
-one_told : (files : Files) (a b : Told) (file : File) → IsWhole files a file → IsWhole files b file
+one_told : (files : BytesByNumber) (a b : ToldContents) (file : File) → IsWhole files a file → IsWhole files b file
     → a file.number ≡ b file.number
 one_told files a b file one other =
     let there : Some one.bytes ≡ Some other.bytes = sym one.there ∙ other.there in
     let bytes : one.bytes ≡ other.bytes = cc in
     let tree : one.tree ≡ other.tree = one_tree one.tree other.tree one.bytes one.is_tree one.is_made other.is_tree
     other.is_made one.is_file (subst (λ l. IsFile other.tree l) (sym bytes) other.is_file) in
-    one_content other.tree (a file.number) (b file.number) (subst (λ t. IsContentOf t (a file.number)) tree one.content)
+    one_content other.tree (a file.number) (b file.number) (subst (λ t. IsTreeContent t (a file.number)) tree one.content)
     other.content
 
 -- the state stands for the same world by whatever else is told of other files
-stands_by : (a b : Told) (store : StoreState) (world : World)
+stands_by : (a b : ToldContents) (store : StoreState) (world : World)
     → Each (λ (file : File). a file.number ≡ b file.number) (store.sequence ++ store.unsequence)
     → state.StandsFor a store world → state.StandsFor b store world
 stands_by a b store world same stands = record {
@@ -79,7 +79,7 @@ one_state a b world stamp =
     same
 
 -- a store with its files is in one state
-store_stands_once : (files : Files) (store : StoreState) (a b : plain.State) → IsStoreOf files store a
+store_stands_once : (files : BytesByNumber) (store : StoreState) (a b : plain.State) → IsStoreOf files store a
     → IsStoreOf files store b → a ≡ b
 store_stands_once files store a b one other =
     let told = each_both (IsWhole files one.told) (IsWhole files other.told)
@@ -90,8 +90,8 @@ store_stands_once files store a b one other =
     (sym one.stands.stamp ∙ other.stands.stamp)
 
 -- a log with the files that are there stands for one state
-pub stands_once : (files : Files) (bytes : List ℕ) (a b : plain.State) → StandsFor files bytes a
-    → StandsFor files bytes b → a ≡ b
+pub stands_once : (files : BytesByNumber) (bytes : List ℕ) (a b : plain.State) → StoreStandsFor files bytes a
+    → StoreStandsFor files bytes b → a ≡ b
 stands_once files bytes a b one other =
     let recorded : one.recorded ≡ other.recorded = replay_once store_steps store_steps_determinate bytes one.recorded
     other.recorded one.replayed other.replayed in
@@ -99,9 +99,9 @@ stands_once files bytes a b one other =
     one.store) other.store
 
 -- files that are there besides say nothing
-pub stands_with_more : (files more : Files) (bytes : List ℕ) (at : plain.State)
+pub stands_with_more : (files more : BytesByNumber) (bytes : List ℕ) (at : plain.State)
     → ((number : ℕ) (bytes : List ℕ) → files number ≡ Some bytes → more number ≡ Some bytes)
-    → StandsFor files bytes at → StandsFor more bytes at
+    → StoreStandsFor files bytes at → StoreStandsFor more bytes at
 stands_with_more files more bytes at there stands = record {
   recorded = stands.recorded;
   replayed = stands.replayed;
@@ -123,7 +123,7 @@ stands_with_more files more bytes at there stands = record {
 }
 
 -- a slot with the records of a store, or with these and the one in doubt, stands for the state or for the next one
-pub stands_for_one_of : (files : Files) (items : List LogRecord) (doubt : Option LogRecord) (recorded : Recorded)
+pub stands_for_one_of : (files : BytesByNumber) (items : List LogRecord) (doubt : Option LogRecord) (recorded : Recorded)
     (at : plain.State) (next : Option plain.State) (bytes : List ℕ) → All IsRecord items
     → Replays store_steps store_steps.new_store items recorded → IsStoreOf files recorded.store at
     → LeadsToState files recorded doubt next
@@ -153,8 +153,8 @@ seen_some None some = absurd (false≢true some)
 seen_some (Some image) some = (image, refl)
 
 -- whatever a stop leaves of a sound store stands for its state
-pub sound_images : (slot : Slot) (disk : DiskState) (files : Files) (at : plain.State) (image : Image)
-    → IsSound slot disk files at → disk.may_leave image → StandsFor files (in_slot slot image) at
+pub sound_images : (slot : Slot) (disk : DiskState) (files : BytesByNumber) (at : plain.State) (image : Image)
+    → IsSound slot disk files at → disk.may_leave image → StoreStandsFor files (in_slot slot image) at
 sound_images slot disk files at image sound left =
     let seen = seen_some disk.seen sound.told in
     let there = sound.stands seen.0 seen.1 in
@@ -170,7 +170,7 @@ sound_images slot disk files at image sound left =
     }
 
 -- a call that writes nothing leaves a store sound
-pub sound_kept : (slot : Slot) (old new : DiskState) (files : Files) (at : plain.State) → Keeps old new
+pub sound_kept : (slot : Slot) (old new : DiskState) (files : BytesByNumber) (at : plain.State) → Keeps old new
     → IsSound slot old files at → IsSound slot new files at
 sound_kept slot old new files at keeps sound = record {
   told = subst (λ (s : Option Image). IsSome s) (sym keeps.seen) sound.told;
@@ -180,7 +180,7 @@ sound_kept slot old new files at keeps sound = record {
 }
 
 -- the log of a new store has no records, and stands for the world without series
-pub new_log_stands : (files : Files) → StandsFor files (0 ∷ []) no_changes
+pub new_log_stands : (files : BytesByNumber) → StoreStandsFor files (0 ∷ []) no_changes
 new_log_stands files = record {
   recorded = store_steps.new_store;
   replayed = record {

@@ -1,9 +1,9 @@
 use Rattle.std.proofs.Common.{subst, sym, ◌∙◌}
-use Rattle.tsdb_core.specs.Core.{IsAbove}
+use Rattle.tsdb_core.specs.Core.{IsAboveNumbers}
 use Rattle.core_tests.proofs.Ready.{new_ready, none_above}
 use Rattle.core_tests.proofs.asking.new_core.Goals as goal
 
 pub returns : goal.returns
 returns g c store = new_ready c.new.result store
-    (c.new.ensures.quiet (subst (IsAbove c.args.next) (sym c.new-kept.ensures) (none_above c.args.next c.requires.next)))
+    (c.new.ensures.quiet (subst (IsAboveNumbers c.args.next) (sym c.new-kept.ensures) (none_above c.args.next c.requires.next)))
     (c.new.ensures.files ∙ c.new-kept.ensures)

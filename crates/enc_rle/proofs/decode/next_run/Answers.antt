@@ -4,12 +4,12 @@ use Rattle.std.proofs.lemmas.Result.{err_from_is_err_and}
 use Rattle.tsdb_base.specs.Plain.{BeginsWithNone}
 use Rattle.tsdb_bits.specs.Leb.{leb}
 use Rattle.tsdb_bits.proofs.LebLaws.{leb_prefix_free}
-use Rattle.enc_rle.specs.Spelling.{Run, run_bytes}
-use Rattle.enc_rle.specs.Steps.{MayFollow}
+use Rattle.enc_rle.specs.Spelling.{ValueRun, run_bytes}
+use Rattle.enc_rle.specs.Steps.{MayFollowRun}
 use Rattle.enc_rle.proofs.Runs.{first_run}
 use Rattle.enc_rle.proofs.decode.next_run.Goals as goal
 
-run_parts : (run : Run) (bytes rest : List ℕ) → bytes ≡ run_bytes run ++ rest → bytes ≡ leb run.count ++ (leb run.code ++ rest)
+run_parts : (run : ValueRun) (bytes rest : List ℕ) → bytes ≡ run_bytes run ++ rest → bytes ≡ leb run.count ++ (leb run.code ++ rest)
 run_parts run bytes rest e = e ∙ append_assoc (leb run.count) (leb run.code) rest
 
 read_run : (count code : ℕ) (bytes middle behind : List ℕ) → bytes ≡ leb count ++ middle → middle ≡ leb code ++ behind → bytes ≡ leb count ++ (leb code ++ behind)

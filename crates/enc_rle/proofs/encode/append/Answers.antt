@@ -4,26 +4,26 @@ use Rattle.std.specs.List.{flat_map}
 use Rattle.std.proofs.lemmas.Grind.{common_steps}
 use Rattle.std.proofs.lemmas.List.{drop_more, drop_all, append-nil, length-map, replicate_more}
 use Rattle.tsdb_bits.specs.Leb.{leb}
-use Rattle.enc_rle.specs.Spelling.{Run, runs_of, run_bytes, codes_spelling, spelling}
+use Rattle.enc_rle.specs.Spelling.{ValueRun, maximal_runs, run_bytes, codes_spelling, spelling}
 use Rattle.enc_rle.proofs.Runs.{run_in_front, starts_otherwise, no_runs}
 use Rattle.enc_rle.proofs.encode.append.Goals as goal
 use Rattle.enc_rle.proofs.encode.append.Goals.{then-count-gt0+then-code-last+in_ok-put_run, else-count-gt0, else-count-gt0-via-then-count-gt0+else-code-last, else-count-gt0-via-else-count-gt0}
 
 -- the bytes so far, and those of the run that is open and of the codes to come
 abbrev all_bytes : List ℕ → ℕ → ℕ → List ℕ → List ℕ
-all_bytes out count last codes = out ++ flat_map run_bytes (runs_of (replicate count last ++ codes))
+all_bytes out count last codes = out ++ flat_map run_bytes (maximal_runs (replicate count last ++ codes))
 
 -- an open run is written when another value comes
 written : (out now : List ℕ) (count last v : ℕ) (rest : List ℕ) → 0 < count → (v ≡ last → ⊥) → now ≡ out ++ (leb count ++ leb last) → all_bytes now 1 v rest ≡ all_bytes out count last (v ∷ rest)
 written out now count last v rest some ne n =
     let k : count ≡ suc (count - 1) = omega arith in
-    let front : runs_of (replicate count last ++ v ∷ rest) ≡ record { count = count; code = last } ∷ runs_of (v ∷ rest) =
-    ap (λ (t : ℕ). runs_of (replicate t last ++ v ∷ rest)) k
+    let front : maximal_runs (replicate count last ++ v ∷ rest) ≡ record { count = count; code = last } ∷ maximal_runs (v ∷ rest) =
+    ap (λ (t : ℕ). maximal_runs (replicate t last ++ v ∷ rest)) k
     ∙ run_in_front (count - 1) last (v ∷ rest) (starts_otherwise v last rest (λ e. ne (sym e)))
-    ∙ ap (λ (t : ℕ). record { count = t; code = last } ∷ runs_of (v ∷ rest)) (sym k) in
-    ap (λ (t : List ℕ). t ++ flat_map run_bytes (runs_of (v ∷ rest))) n
-    ∙ append_assoc out (leb count ++ leb last) (flat_map run_bytes (runs_of (v ∷ rest)))
-    ∙ ap (λ (t : List Run). out ++ flat_map run_bytes t) (sym front)
+    ∙ ap (λ (t : ℕ). record { count = t; code = last } ∷ maximal_runs (v ∷ rest)) (sym k) in
+    ap (λ (t : List ℕ). t ++ flat_map run_bytes (maximal_runs (v ∷ rest))) n
+    ∙ append_assoc out (leb count ++ leb last) (flat_map run_bytes (maximal_runs (v ∷ rest)))
+    ∙ ap (λ (t : List ValueRun). out ++ flat_map run_bytes t) (sym front)
 
 -- the same value makes it longer
 longer : (count v : ℕ) (rest : List ℕ) → replicate count v ++ v ∷ rest ≡ replicate (count + 1) v ++ rest
@@ -31,7 +31,7 @@ longer count v rest = sym (append_assoc (replicate count v) (v ∷ []) rest) ∙
 
 grown : (out : List ℕ) (count last v : ℕ) (rest : List ℕ) → v ≡ last → all_bytes out (count + 1) v rest ≡ all_bytes out count last (v ∷ rest)
 grown out count last v rest e =
-    ap (λ (t : List ℕ). out ++ flat_map run_bytes (runs_of t)) (sym (longer count v rest)) ∙ ap (λ (t : ℕ). all_bytes out count t (v ∷ rest)) e
+    ap (λ (t : List ℕ). out ++ flat_map run_bytes (maximal_runs t)) (sym (longer count v rest)) ∙ ap (λ (t : ℕ). all_bytes out count t (v ∷ rest)) e
 
 -- the first value opens one
 opened : (out : List ℕ) (count last v : ℕ) (rest : List ℕ) → count ≡ 0 → all_bytes out (count + 1) v rest ≡ all_bytes out count last (v ∷ rest)
@@ -43,10 +43,10 @@ here {A} code values i item v lt is e =
     ap (map code) (drop_more values i item lt ∙ ap (λ (t : A). t ∷ drop (i + 1) values) (sym is)) ∙ ap (λ (t : ℕ). t ∷ map code (drop (i + 1) values)) (sym e)
 
 -- the count is written
-begins : (out now : List ℕ) (n : ℕ) (codes : List ℕ) → now ≡ out ++ leb n → length codes ≡ n → now ++ flat_map run_bytes (runs_of codes) ≡ out ++ codes_spelling codes
+begins : (out now : List ℕ) (n : ℕ) (codes : List ℕ) → now ≡ out ++ leb n → length codes ≡ n → now ++ flat_map run_bytes (maximal_runs codes) ≡ out ++ codes_spelling codes
 unfolding codes_spelling
 begins out now n codes e l =
-    ap (λ (t : List ℕ). t ++ flat_map run_bytes (runs_of codes)) (e ∙ ap (λ (t : ℕ). out ++ leb t) (sym l)) ∙ append_assoc out (leb (length codes)) (flat_map run_bytes (runs_of codes))
+    ap (λ (t : List ℕ). t ++ flat_map run_bytes (maximal_runs codes)) (e ∙ ap (λ (t : ℕ). out ++ leb t) (sym l)) ∙ append_assoc out (leb (length codes)) (flat_map run_bytes (maximal_runs codes))
 
 -- as the branches join
 same_state : (out out' : List ℕ) (count count' v : ℕ) (rest whole : List ℕ) → out' ≡ out → count' ≡ count → all_bytes out (count + 1) v rest ≡ whole → all_bytes out' (count' + 1) v rest ≡ whole
@@ -93,20 +93,20 @@ loop-value-preserved g c =
 finished : {A : Type 0} (code : A → ℕ) (out final whole : List ℕ) (count last : ℕ) (values : List A) (i : ℕ) → length values ≤ i → 0 < count → final ≡ out ++ (leb count ++ leb last) → all_bytes out count last (map code (drop i values)) ≡ whole → final ≡ whole
 finished code out final whole count last values i done some n so_far =
     let k : count ≡ suc (count - 1) = omega arith in
-    let front : runs_of (replicate count last ++ []) ≡ record { count = count; code = last } ∷ [] =
-    ap (λ (t : ℕ). runs_of (replicate t last ++ [])) k
+    let front : maximal_runs (replicate count last ++ []) ≡ record { count = count; code = last } ∷ [] =
+    ap (λ (t : ℕ). maximal_runs (replicate t last ++ [])) k
     ∙ run_in_front (count - 1) last [] (rw no_runs tt)
     ∙ rw no_runs (ap (λ (t : ℕ). record { count = t; code = last } ∷ []) (sym k)) in
     n ∙ ap (λ (t : List ℕ). out ++ t) (sym (append-nil (leb count ++ leb last)))
-    ∙ ap (λ (t : List Run). out ++ flat_map run_bytes t) (sym front)
+    ∙ ap (λ (t : List ValueRun). out ++ flat_map run_bytes t) (sym front)
     ∙ ap (λ (t : List ℕ). all_bytes out count last t) (sym (ap (map code) (drop_all i values done)))
     ∙ so_far
 
 none_open : {A : Type 0} (code : A → ℕ) (out whole : List ℕ) (count last : ℕ) (values : List A) (i : ℕ) → length values ≤ i → count ≡ 0 → all_bytes out count last (map code (drop i values)) ≡ whole → out ≡ whole
 none_open code out whole count last values i done z so_far =
-    let front : runs_of (replicate count last ++ []) ≡ [] = ap (λ (t : ℕ). runs_of (replicate t last ++ [])) z ∙ no_runs in
+    let front : maximal_runs (replicate count last ++ []) ≡ [] = ap (λ (t : ℕ). maximal_runs (replicate t last ++ [])) z ∙ no_runs in
     sym (append-nil out)
-    ∙ ap (λ (t : List Run). out ++ flat_map run_bytes t) (sym front)
+    ∙ ap (λ (t : List ValueRun). out ++ flat_map run_bytes t) (sym front)
     ∙ ap (λ (t : List ℕ). all_bytes out count last t) (sym (ap (map code) (drop_all i values done)))
     ∙ so_far
 

@@ -11,7 +11,7 @@ use Rattle.tsdb_bits.specs.Faults.{IsPacking}
 use Rattle.tsdb_bits.proofs.ZigzagLaws.{unzigzag-zigzag}
 use Rattle.tsdb_base.specs.declared.fault.DecodeFault.{DecodeFault}
 use Rattle.tsdb_base.specs.declared.fault.DecodeFault.TheVariants as fault
-use Rattle.enc_ts2diff.specs.Spelling.{least, offsets, width_of, at_width, block}
+use Rattle.enc_ts2diff.specs.Spelling.{least, offsets, offset_width, at_width, block}
 use Rattle.enc_ts2diff.specs.Steps.{IsBlockOf, FindsBlock, AreOffsets}
 use Rattle.enc_ts2diff.proofs.Numbers.{zigzag-lt, least_of_fits}
 use Rattle.enc_ts2diff.proofs.Canonical.{are_offsets, block_back}
@@ -48,7 +48,7 @@ behind (d ∷ ds) bytes base count digits pack_bytes some l h e f =
       numbers = os;
       packing = subst (λ (t : ℕ). IsPacking digits t pack_bytes os) n (numbers_packed os digits pack_bytes p.1);
       block = (b, ap (λ (t : ℤ). offsets t (d ∷ ds)) (sym b));
-      offsets = let w : width_of os ≡ digits = let q = p.1 in cc in are_offsets d ds digits w;
+      offsets = let w : offset_width os ≡ digits = let q = p.1 in cc in are_offsets d ds digits w;
     }
 
 -- nothing stands behind it

@@ -14,8 +14,8 @@ use Rattle.tsdb_bits.specs.Leb.{leb}
 use Rattle.tsdb_bits.specs.Zigzag.{zigzag, unzigzag}
 use Rattle.tsdb_bits.proofs.ZigzagLaws.{unzigzag-zigzag}
 use Rattle.tsdb_bits.specs.Lists.{IsListOf, IsSpelling}
-use Rattle.enc_ts2diff.specs.Spelling.{differences, block, content, spelling}
-use Rattle.enc_ts2diff.specs.Steps.{Finds, FindsBlock, Continues, Restores, steps_of}
+use Rattle.enc_ts2diff.specs.Spelling.{differences, block, values_content, spelling}
+use Rattle.enc_ts2diff.specs.Steps.{Finds, FindsBlock, Continues, Restores, offsets_above}
 use Rattle.enc_ts2diff.proofs.Numbers.{zigzag-lt, differences_fit, length-differences}
 use Rattle.enc_ts2diff.proofs.Canonical.{length-restored, spells, spells_none}
 use Rattle.enc_ts2diff.proofs.Parts.{spelling_parts, content_parts, list_continues}
@@ -24,11 +24,11 @@ use Rattle.enc_ts2diff.proofs.decode.list_in.Goals as goal
 -- a list that is spelled so has a count
 no_count : (values : List ℤ) (bytes : List ℕ) → IsListOf (FitsSigned w64) values → spelling values ≡ bytes → BeginsWithNone leb (λ count. count ≤ max_values) bytes → ⊥
 unfolding spelling
-no_count values bytes p e none = none (length values) (content values) p.few (sym e)
+no_count values bytes p e none = none (length values) (values_content values) p.few (sym e)
 
 no_first : (values : List ℤ) (bytes rest : List ℕ) (count : ℕ) → (count ≡ 0 → ⊥) → IsListOf (FitsSigned w64) values → spelling values ≡ bytes → bytes ≡ leb count ++ rest
     → BeginsWithNone leb (λ number. number < 2 ^ 64) rest → ⊥
-unfolding content
+unfolding values_content
 no_first [] bytes rest count some p e f none = some (sym (spelling_parts [] bytes rest count e f).0)
 no_first (x ∷ xs) bytes rest count some p e f none =
     none (zigzag x) (block (differences x xs)) (zigzag-lt x (All-head (FitsSigned w64) x xs p.typed)) (sym (spelling_parts (x ∷ xs) bytes rest count e f).1)
@@ -68,11 +68,11 @@ returns-in_err-count-clause-finds c = λ values p e. absurd (no_count values c.a
 
 -- nothing stands behind a count of 0
 nothing_behind : (values : List ℤ) (bytes rest : List ℕ) (count : ℕ) → count ≡ 0 → spelling values ≡ bytes → bytes ≡ leb count ++ rest → [] ≡ rest
-unfolding content
+unfolding values_content
 nothing_behind values bytes rest count z e f =
     let k = spelling_parts values bytes rest count e f in
     let none : values ≡ [] = nil_from_length values (k.0 ∙ z) in
-    sym (ap content none) ∙ k.1
+    sym (ap values_content none) ∙ k.1
 
 pub returns-then-not-is_empty-clause-finds : goal.returns-then-not-is_empty-clause-finds
 returns-then-not-is_empty-clause-finds c = λ values p e.
@@ -139,6 +139,6 @@ returns-clause-found c =
       list = record { few = omega (arith, size, few); typed = is.1.fits };
       bytes_are = spells c.args.bytes.now c.in_ok-count.rest.now c.in_ok-first.rest.now c.in_ok-count.count c.in_ok-first.first base first is.0 c.deref.result.now values.items
           c.in_ok-count.ensures.found c.in_ok-first.ensures.found first-is
-          (c.in_ok-base.ensures.found ∙ ap (λ (t : ℤ). block (steps_of t c.in_ok-base.above.items)) (sym base-is) ∙ ap (λ (t : List ℕ). block (steps_of base t)) (sym above-is)) is.1 size;
+          (c.in_ok-base.ensures.found ∙ ap (λ (t : ℤ). block (offsets_above t c.in_ok-base.above.items)) (sym base-is) ∙ ap (λ (t : List ℕ). block (offsets_above base t)) (sym above-is)) is.1 size;
     })
     c.restore.ensures.found

@@ -5,18 +5,18 @@ use Rattle.std.proofs.lemmas.Int.{to_z-of_z}
 use Rattle.std.proofs.lemmas.List.{take_rest, append-nil}
 use Rattle.tsdb_bits.specs.Leb.{leb}
 use Rattle.tsdb_bits.specs.Zigzag.{zigzag}
-use Rattle.enc_ts2diff.specs.Spelling.{differences, block, content, spelling}
+use Rattle.enc_ts2diff.specs.Spelling.{differences, block, values_content, spelling}
 use Rattle.enc_ts2diff.proofs.Numbers.{differences_fit}
 use Rattle.enc_ts2diff.proofs.encode.append.Goals as goal
 
 spells_none : (out o0 o1 : List ℕ) (values : List ℤ) → length values < 1 → o1 ≡ o0 ++ leb (length values) → out ≡ o1 → out ≡ o0 ++ spelling values
-unfolding spelling content
+unfolding spelling values_content
 spells_none out o0 o1 [] lt e1 e = e ∙ e1 ∙ ap (λ (t : List ℕ). o0 ++ t) (sym (append-nil (leb 0)))
 spells_none out o0 o1 (x ∷ xs) lt e1 e = absurd (omega arith)
 
 spells_some : (out o0 o1 o2 o3 : List ℕ) (values rest steps lent : List ℤ) (first : ℤ) (z : ℕ) → 1 ≤ length values → o1 ≡ o0 ++ leb (length values) → o2 ≡ o1 ++ leb z → z ≡ zigzag first → first ≡ get_or values 0 (pos 0)
     → rest ≡ take (length values - 1) (drop 1 values) → steps ≡ differences first rest → lent ≡ steps → o3 ≡ o2 ++ block lent → out ≡ o3 → out ≡ o0 ++ spelling values
-unfolding spelling content
+unfolding spelling values_content
 spells_some out o0 o1 o2 o3 [] rest steps lent first z some e1 e2 ez ef er es el e3 e = absurd (omega arith)
 spells_some out o0 o1 o2 o3 (x ∷ xs) rest steps lent first z some e1 e2 ez ef er es el e3 e =
     let n = length (x ∷ xs) in

@@ -6,7 +6,7 @@ use Rattle.std.proofs.lemmas.List.{nil_from_length, take_rest, append-nil}
 use Rattle.tsdb_bits.specs.Packing.{binary_digits, pack_bytes}
 use Rattle.tsdb_bits.specs.Leb.{leb}
 use Rattle.tsdb_bits.specs.Zigzag.{zigzag}
-use Rattle.enc_ts2diff.specs.Spelling.{least, offsets, width_of, at_width, block}
+use Rattle.enc_ts2diff.specs.Spelling.{least, offsets, offset_width, at_width, block}
 use Rattle.enc_ts2diff.proofs.Numbers.{fits_width, width_within, least_of_fits, offsets-lt}
 use Rattle.enc_ts2diff.proofs.encode.put_block.Goals as goal
 
@@ -19,7 +19,7 @@ returns-in_default-clause-ok c = no_block c.args.into.now.items c.args.steps.now
 
 -- the least step and the offsets make the block
 record IsBlock (base : ℤ) (above : List ℕ) (steps : List ℤ) : Type 0 where
-  within : width_of above ≤ 64
+  within : offset_width above ≤ 64
   whole : block steps ≡ leb (zigzag base) ++ at_width above
 
 makes_block : (steps rest : List ℤ) (first base : ℤ) (above : List ℕ) → 1 ≤ length steps → All (FitsSigned w64) steps → first ≡ get_or steps 0 (pos 0) → rest ≡ take (length steps - 1) (drop 1 steps)
@@ -38,7 +38,7 @@ makes_block (x ∷ xs) rest first base above some h f r b o =
 as_passed : (z : ℤ) → FitsSigned w64 z → to_z w64 (of_z w64 z) ≡ z
 as_passed z f = to_z-of_z w64 z f
 
-digits_are : (base : ℤ) (above lent : List ℕ) (greatest digits : ℕ) → digits ≡ binary_digits greatest → greatest ≡ fold max 0 lent → lent ≡ above → digits ≡ width_of above
+digits_are : (base : ℤ) (above lent : List ℕ) (greatest digits : ℕ) → digits ≡ binary_digits greatest → greatest ≡ fold max 0 lent → lent ≡ above → digits ≡ offset_width above
 digits_are base above lent greatest digits d g l = d ∙ ap binary_digits (g ∙ ap (fold max 0) l)
 
 pub pack-requires-clause-width_fits : goal.pack-requires-clause-width_fits
@@ -49,16 +49,16 @@ pack-requires-clause-width_fits c =
     let same : to_z w64 (of_z w64 base) ≡ base = as_passed base (search rules) in
     let k = makes_block steps (take (length steps - 1) (drop 1 steps)) (to_z w64 (of_z w64 (get_or steps 0 (pos 0)))) base c.in_ok-above.above.items c.in-len1-up.len_at_least
     c.requires (as_passed (get_or steps 0 (pos 0)) first) refl c.least_of-base.ensures (c.in_ok-above.ensures ∙ ap (λ (t : ℤ). offsets t steps) same) in
-    rw (digits_are base c.in_ok-above.above.items c.deref.result.now c.greatest_of.result c.width-digits.result c.width-digits.ensures c.greatest_of.ensures c.deref.ensures.value) k.within
+    rw (digits_are base c.in_ok-above.above.items c.deref.result.now c.greatest_or_zero.result c.width-digits.result c.width-digits.ensures c.greatest_or_zero.ensures c.deref.ensures.value) k.within
 
 pub pack-requires-clause-values_fit : goal.pack-requires-clause-values_fit
 pack-requires-clause-values_fit c =
     let above = c.in_ok-above.above.items in
-    let d = digits_are c.least_of-base.result above c.deref.result.now c.greatest_of.result c.width-digits.result c.width-digits.ensures c.greatest_of.ensures c.deref.ensures.value in
+    let d = digits_are c.least_of-base.result above c.deref.result.now c.greatest_or_zero.result c.width-digits.result c.width-digits.ensures c.greatest_or_zero.ensures c.deref.ensures.value in
     subst (λ (t : List ℕ). All (λ v. v < 2 ^ c.width-digits.result) t) (sym c.deref-2.ensures.value)
     (subst (λ (t : ℕ). All (λ v. v < 2 ^ t) above) (sym d) (fits_width above))
 
-joined_up : (into o1 o2 o3 above lent : List ℕ) (base base' : ℤ) (z digits : ℕ) (steps : List ℤ) → IsBlock base above steps → o1 ≡ into ++ leb z → z ≡ zigzag base' → base' ≡ base → o2 ≡ o1 ++ digits ∷ [] → digits ≡ width_of above → lent ≡ above
+joined_up : (into o1 o2 o3 above lent : List ℕ) (base base' : ℤ) (z digits : ℕ) (steps : List ℤ) → IsBlock base above steps → o1 ≡ into ++ leb z → z ≡ zigzag base' → base' ≡ base → o2 ≡ o1 ++ digits ∷ [] → digits ≡ offset_width above → lent ≡ above
     → o3 ≡ o2 ++ pack_bytes digits lent → o3 ≡ into ++ block steps
 joined_up into o1 o2 o3 above lent base base' z digits steps k e1 ez eb e2 ed el e3 =
     e3 ∙ ap (λ (t : List ℕ). t ++ pack_bytes digits lent) (e2 ∙ ap (λ (t : List ℕ). t ++ digits ∷ []) (e1 ∙ ap (λ (t : ℕ). into ++ leb t) (ez ∙ ap zigzag eb)))
@@ -76,7 +76,7 @@ returns-clause-ok c =
     let same : to_z w64 (of_z w64 base) ≡ base = as_passed base (search rules) in
     let k = makes_block steps (take (length steps - 1) (drop 1 steps)) (to_z w64 (of_z w64 (get_or steps 0 (pos 0)))) base c.in_ok-above.above.items c.in-len1-up.len_at_least
     c.requires (as_passed (get_or steps 0 (pos 0)) first) refl c.least_of-base.ensures (c.in_ok-above.ensures ∙ ap (λ (t : ℤ). offsets t steps) same) in
-    let d = digits_are base c.in_ok-above.above.items c.deref.result.now c.greatest_of.result c.width-digits.result c.width-digits.ensures c.greatest_of.ensures c.deref.ensures.value in
+    let d = digits_are base c.in_ok-above.above.items c.deref.result.now c.greatest_or_zero.result c.width-digits.result c.width-digits.ensures c.greatest_or_zero.ensures c.deref.ensures.value in
     joined_up c.args.into.now.items c.put_leb.new.into.items c.push.new.self.items c.pack.new.into.items c.in_ok-above.above.items c.deref-2.result.now base (to_z w64 (of_z w64 base)) c.zigzag.result c.width-digits.result steps
     k c.in_ok-put_leb.ensures.ok c.zigzag.ensures same c.in_ok-push.ensures.items d c.deref-2.ensures.value c.in_ok-pack.ensures.ok
 

@@ -1,7 +1,7 @@
 use Rattle.std.proofs.lemmas.Grind.{common_steps}
 use Rattle.std.proofs.Common.{rules, ◌≡◌, false, inl, inr, refl, arith}
 use Rattle.tsdb_aggregate.proofs.EntryLemmas.{all_later, cut_at, cut_first, one_more}
-use Rattle.tsdb_aggregate.specs.declared.entry.Entry.{Entry}
+use Rattle.tsdb_aggregate.specs.declared.entry.PieceEntry.{PieceEntry}
 use Rattle.tsdb_aggregate.proofs.entry.group_length.Goals.{then-piece-via-then-piece, then-piece-via-else-piece+then-begins_after}
 use Rattle.tsdb_aggregate.proofs.entry.group_length.Goals as goal
 
@@ -16,7 +16,7 @@ returns-then-piece-clause-cut c = λ order.
 pub loop-place-preserved : goal.loop-place-preserved
 loop-place-preserved c = (
   all_later c.args.entries.now c.loop-place.place c.index-entries-place.result _ _ c.later_end-end.result _ (omega arith) c.index-entries-place.is refl (search rules) c.later_end-end.ensures c.loop-place.invariant.0,
-  one_more (λ (e : Entry). e.piece.now.clean ≡ false) c.args.entries.now c.loop-place.place c.index-entries-place.result (omega arith) c.index-entries-place.is c.loop-place.invariant.1 c.if-piece.false,
+  one_more (λ (e : PieceEntry). e.piece.now.clean ≡ false) c.args.entries.now c.loop-place.place c.index-entries-place.result (omega arith) c.index-entries-place.is c.loop-place.invariant.1 c.if-piece.false,
 )
 
 pub loop-place-init : goal.loop-place-init

@@ -2,7 +2,7 @@ use Rattle.std.proofs.Common.{ap, ◌∙◌, sum_by, subst, arith}
 use Rattle.std.specs.List.{zip}
 use Rattle.std.specs.Prelude.{AllPairs}
 use Rattle.std.proofs.lemmas.Result.{err_from_is_err_and}
-use Rattle.tsdb_aggregate.specs.Pieces.{AreSound}
+use Rattle.tsdb_aggregate.specs.Pieces.{ArePiecesSound}
 use Rattle.tsdb_aggregate.specs.Steps.{HasTally, ComesBefore, cost_of, held_parts}
 use Rattle.tsdb_aggregate.proofs.EntryLemmas.{in_order}
 use Rattle.tsdb_aggregate.proofs.GroupLemmas.{aggregate_of_all, cost_of_all, meet_entries, sound_entries}
@@ -32,7 +32,7 @@ returns-clause-found g c = λ sound.
     let perm = c.in_ok-entries.ensures.all held c.requires.one_each in
     let inside = sound_entries range parts held entries perm sound in
     let order : AllPairs ComesBefore entries = in_order range held entries c.in_ok-entries.ensures.order inside.apart (meet_entries range parts held entries perm) in
-    let found = subst (λ es. AreSound range (held_parts held es) → AllPairs ComesBefore es → HasTally held range c.args.name es c.in_ok-tally.tally) c.deref.ensures.value c.in_ok-tally.ensures.found in
+    let found = subst (λ es. ArePiecesSound range (held_parts held es) → AllPairs ComesBefore es → HasTally held range c.args.name es c.in_ok-tally.tally) c.deref.ensures.value c.in_ok-tally.ensures.found in
     aggregate_of_all range parts held entries c.in_ok-tally.tally c.args.name c.in_ok-answer.field-0 perm sound (found inside order) c.in_ok-answer.ensures
 
 pub returns-clause-spends : goal.returns-clause-spends

@@ -1,6 +1,6 @@
 use Rattle.std.proofs.lemmas.Grind.{common_steps}
 use Rattle.std.proofs.Common.{sym, subst, arith}
-use Rattle.tsdb_aggregate.specs.Steps.{IsGroup}
+use Rattle.tsdb_aggregate.specs.Steps.{IsPieceGroup}
 use Rattle.tsdb_aggregate.proofs.WalkLemmas.{walk_more, walk_none}
 use Rattle.tsdb_aggregate.proofs.fold.tally_of.Goals as goal
 
@@ -8,7 +8,7 @@ pub loop-start-init : goal.loop-start-init
 loop-start-init g c = walk_none _ c.args.name _ _ c.args.entries.now _ (c.new-tally.ensures c.args.name)
 
 pub add_winners-requires-clause-group : goal.add_winners-requires-clause-group
-add_winners-requires-clause-group g c = subst IsGroup (sym c.split_at-in-loop-start.ensures.front) c.group_length.ensures.group
+add_winners-requires-clause-group g c = subst IsPieceGroup (sym c.split_at-in-loop-start.ensures.front) c.group_length.ensures.group
 
 pub loop-start-preserved : goal.loop-start-preserved
 loop-start-preserved g c =

@@ -1,6 +1,6 @@
 use Rattle.std.proofs.Common.{subst, sym}
 use Rattle.std.specs.Option.{option_map}
-use Rattle.tsdb_tasks.specs.Files.{new_file}
+use Rattle.tsdb_tasks.specs.Files.{file_built}
 use Rattle.tsdb_core.proofs.OutputsBuilt.{listed_as, of_number, sent_as, unread}
 use Rattle.tsdb_core.specs.Ending.{PartEnds}
 use Rattle.tsdb_fileset.specs.Files.{IsOpen}
@@ -22,7 +22,7 @@ returns-in-Gone g c = sent_as g.F.Sealed.SealedFile.file g.F.Sealed.SealedFile.r
 
 pub returns-in_default : goal.returns-in_default
 returns-in_default g c = subst (λ file. PartEnds c.args.commit c.args.space c.args.number
-    (option_map (new_file g.F.Sealed.SealedFile.file) file) c.args.files.now c.give_up.new.files) (sym c.in_default.is)
+    (option_map (file_built g.F.Sealed.SealedFile.file) file) c.args.files.now c.give_up.new.files) (sym c.in_default.is)
     (c.give_up.ensures c.args.commit)
 
 pub enlist-requires-clause-place : goal.enlist-requires-clause-place

@@ -1,7 +1,7 @@
 use Rattle.std.proofs.Common.{◌≡◌, ◌∷◌, [], Option, length, sym, ap, subst, ◌∙◌, arith}
 use Rattle.std.specs.Prelude.{IfSome}
 use Rattle.std.proofs.lemmas.List.{nil_from_length}
-use Rattle.tsdb_fileset.specs.Closing.{AreRising, names_at}
+use Rattle.tsdb_fileset.specs.Closing.{AreNumbersRising, names_at}
 use Rattle.tsdb_fileset.specs.Places.{KeptFile, Places, file_at}
 use Rattle.tsdb_fileset.proofs.PlaceFacts.{all_above, one_taken}
 use Rattle.tsdb_fileset.proofs.PutBack.{IsAtRestAfter, next_at_rest, none_at_rest}
@@ -39,7 +39,7 @@ loop-preserved g c =
           c.loop.invariant.5 last
           (subst After (sym removal) (next_at_rest c.in-Some._number c.in-Some.place new _ _ last
           c.keep_file.ensures.at_rest rest)),
-      λ rest. c.loop.invariant.6 (subst AreRising (sym removal)
+      λ rest. c.loop.invariant.6 (subst AreNumbersRising (sym removal)
           (all_above c.in-Some._number new c.in-Some.ensures.all_above, rest)),
     )
 
@@ -58,4 +58,4 @@ returns-clause-rising g c =
     let none : c.loop.places.entries ≡ [] =
     nil_from_length c.loop.places.entries
     (omega (arith, c.loop.invariant.0, c.loop-test.false, c.loop.auto.counter-end)) in
-    c.loop.invariant.6 (subst AreRising (sym none) tt)
+    c.loop.invariant.6 (subst AreNumbersRising (sym none) tt)

@@ -1,5 +1,5 @@
 use Rattle.std.proofs.Common.{◌≡◌, ◌+◌, List, Option, length}
-use Rattle.tsdb_fileset.specs.Closing.{AreRising, names_at}
+use Rattle.tsdb_fileset.specs.Closing.{AreNumbersRising, names_at}
 use Rattle.tsdb_fileset.specs.Places.{AreOfStore, AreUnread}
 use Rattle.tsdb_fileset.proofs.PutBack.{IsAtRestAfter}
 use Rattle.tsdb_fileset.proofs.closing.keep_files.Given as goal
@@ -14,4 +14,4 @@ invariant-loop g l =
     × (g.F.Counted.faults l.files ≡ g.F.Counted.faults l.initial.files)
     × ((new : Option (List StoredFile)) → IsAtRestAfter (names_at l.places.entries) (g.F.Files.at_rest l.files) new
     → IsAtRestAfter (names_at l.initial.places.entries) (g.F.Files.at_rest l.initial.files) new)
-    × (AreRising l.places.entries → AreRising l.initial.places.entries)
+    × (AreNumbersRising l.places.entries → AreNumbersRising l.initial.places.entries)

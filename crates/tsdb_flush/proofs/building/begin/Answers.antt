@@ -1,7 +1,7 @@
 use Rattle.tsdb_flush.specs.MakingSteps.{filled_with}
 use Rattle.tsdb_flush.proofs.Trees.{given_more, may_follow}
 use Rattle.std.proofs.Common.{[], map}
-use Rattle.tsdb_flush.specs.Parts.{series_of}
+use Rattle.tsdb_flush.specs.Parts.{builder_series}
 use Rattle.tsdb_flush.proofs.building.begin.Goals as goal
 
 pub series-requires-clause-follows : goal.series-requires-clause-follows
@@ -11,5 +11,5 @@ series-requires-clause-follows c =
 
 pub returns-in-Ok : goal.returns-in-Ok
 returns-in-Ok c = record {
-  ok = λ part was. given_more c.series.new.self part (filled_with c.args.schema.now []) (c.in-Ok.ensures.ok (map series_of part) was);
+  ok = λ part was. given_more c.series.new.self part (filled_with c.args.schema.now []) (c.in-Ok.ensures.ok (map builder_series part) was);
 }

@@ -1,6 +1,6 @@
 use Rattle.std.proofs.Common.{length, sym, ap, rules, arith}
 use Rattle.std.specs.Arc.{arc_value}
-use Rattle.tsdb_flush.specs.Parts.{HasPointsOf}
+use Rattle.tsdb_flush.specs.Parts.{HasPointsOfType}
 use Rattle.tsdb_flush.proofs.PartsInMaking.{all_gathered, at_place, next_may_add, none_gathered, nothing_gathered, one_gathered, schema_at, typed_at, zip_lengths}
 use Rattle.tsdb_flush.proofs.flush.gather.Goals as goal
 use Rattle.tsdb_flush.proofs.flush.gather.Goals.{then-not-is_empty+in_ok-add, else-not-is_empty}
@@ -15,7 +15,7 @@ bounds-numbers-place c =
       c.loop-place-test.true,
       ap length c.items-schema-items.ensures,
       ap length c.items-numbers.ensures,
-      zip_lengths (HasPointsOf (arc_value c.args.job.now.pair)) c.args.job.now.schemas c.args.job.now.series c.requires.typed,
+      zip_lengths (HasPointsOfType (arc_value c.args.job.now.pair)) c.args.job.now.schemas c.args.job.now.series c.requires.typed,
     )
 
 pub add-requires-clause-nodes : goal.add-requires-clause-nodes

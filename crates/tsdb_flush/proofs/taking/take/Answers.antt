@@ -7,7 +7,7 @@ use Rattle.tsdb_flush.proofs.TakenParts.{some_drawn}
 use Rattle.tsdb_flush.specs.TakingSteps.{AreSeriesOf, schema_in}
 use Rattle.tsdb_flush.specs.declared.series.PairSeries.{PairSeries}
 use Rattle.tsdb_flush.specs.declared.job.FlushJob.{FlushJob}
-use Rattle.tsdb_memory.specs.Fits.{HasNoPoint}
+use Rattle.tsdb_memory.specs.Fits.{HasNoPairPoint}
 use Rattle.tsdb_memory.specs.Model.{AreFrozenInTurn, HasKnownSeries, frozen_in}
 use Rattle.tsdb_memory.specs.Store.{FrozenPair}
 use Rattle.tsdb_memtable.specs.Pairs.{HasRisingSeries, Pair}
@@ -50,13 +50,13 @@ returns-in-Some c =
     } in
     let taken = is_taken store c.args.next oldest series job c.sound.ensures found has in
     let is = is_job store c.args.next oldest series job c.sound.ensures found has in
-    let filled : ¬ HasNoPoint oldest.pair =
+    let filled : ¬ HasNoPairPoint oldest.pair =
     (subst (AreFrozenInTurn store.stamp) found.are c.sound.ensures.in_turn).filled.0 in
     record {
       job = is;
       taken = taken;
       some = some_drawn store.series (arc_value job.pair) job.schemas job.series
           (subst HasRisingSeries (c.pair-2.ensures ∙ sym has.pair) c.points.ensures.rising)
-          (subst (λ (p : Pair). ¬ HasNoPoint p) (sym has.pair) filled) taken.of job.sequence job.unsequence
+          (subst (λ (p : Pair). ¬ HasNoPairPoint p) (sym has.pair) filled) taken.of job.sequence job.unsequence
           is.sequence_drawn is.unsequence_drawn;
     }

@@ -7,7 +7,7 @@ use Rattle.std.proofs.lemmas.List.{length-set}
 use Rattle.tsdb_history.proofs.Replies.{sure_still}
 use Rattle.tsdb_history.proofs.SoFar.{SoFar, devices_more, few_of, nothing_so_far, one_more, whole_slice}
 use Rattle.tsdb_history.proofs.Steps.{none_served, one_more_served, stays_on}
-use Rattle.tsdb_history.specs.History.{IsHistory, IsInLineOrder, is_device, session_numbers}
+use Rattle.tsdb_history.specs.History.{IsHistory, IsInLineOrder, told_device, session_numbers}
 use Rattle.tsdb_querying.specs.Serving.{IsSure}
 use Rattle.tsdb_history.specs.declared.told.Told.{Told}
 use Rattle.tsdb_script.specs.declared.numbered.Numbered.{Numbered}
@@ -105,7 +105,7 @@ loop-numbered-preserved g c =
       sure = λ sure. sure_still store mid core numbered.command told.reply
           (λ tells. c.serve-reply.ensures.answers (ap (λ s. s.tells) same_store ∙ tells))
           (c.loop-numbered.invariant.sure sure);
-      devices = λ sure. subst (λ h. min ((faults_under first + g.F.Port.Counted.faults c.args.port.now) + count_by is_device h) (2 ^ 64 - 1)
+      devices = λ sure. subst (λ h. min ((faults_under first + g.F.Port.Counted.faults c.args.port.now) + count_by told_device h) (2 ^ 64 - 1)
           ≤ faults_under core + g.F.Port.Counted.faults c.serve-reply.new.port) (sym same)
           (devices_more (faults_under first + g.F.Port.Counted.faults c.args.port.now) (faults_under mid) (faults_under core)
           (g.F.Port.Counted.faults c.loop-numbered.port) (g.F.Port.Counted.faults c.serve-reply.new.port)

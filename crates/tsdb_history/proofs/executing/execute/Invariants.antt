@@ -2,7 +2,7 @@
 use Rattle.std.proofs.Common.{◌≡◌, ◌+◌, ◌≤◌, length, take, true, List, None}
 use Rattle.std.specs.Prelude.{◌-◌, ◌*◌, ◌^◌, count_by, min, vec_len, vec_capacity}
 use Rattle.tsdb_history.proofs.SoFar.{SoFar}
-use Rattle.tsdb_history.specs.History.{is_device, session_numbers}
+use Rattle.tsdb_history.specs.History.{told_device, session_numbers}
 use Rattle.tsdb_querying.specs.Core.{next_of}
 use Rattle.tsdb_history.specs.Reach.{max_drawn}
 use Rattle.tsdb_history.specs.Serves.{HasServed}
@@ -28,7 +28,7 @@ invariant-loop-numbered g l = record {
       → IsServing l.fn.core files start None → HasServed l.fn.core l.core files start entries;
   sure : IsSure (g.F.Port.Port.store l.fn.port) l.fn.core → IsSure (g.F.Port.Port.store l.fn.port) l.core;
   devices : IsSure (g.F.Port.Port.store l.fn.port) l.fn.core
-      → min ((faults_under l.fn.core + g.F.Port.Counted.faults l.fn.port) + count_by is_device l.history.items) (2 ^ 64 - 1)
+      → min ((faults_under l.fn.core + g.F.Port.Counted.faults l.fn.port) + count_by told_device l.history.items) (2 ^ 64 - 1)
       ≤ faults_under l.core + g.F.Port.Counted.faults l.port;
   later : (faults_under l.fn.core ≤ faults_under l.core)
       × (g.F.Port.Counted.faults l.fn.port ≤ g.F.Port.Counted.faults l.port);

@@ -4,16 +4,16 @@ use Rattle.tsdb_history.proofs.serving.query.Goals as goal
 
 pub returns-then-ask_aggregates-clause-cause : goal.returns-then-ask_aggregates-clause-cause
 returns-then-ask_aggregates-clause-cause g c = sure_cause (g.F.Port.Port.store c.args.port.now) c.args.core.now
-    c.aggregates.result (Rose (g.F.Port.Counted.faults c.args.port.now) (g.F.Port.Counted.faults c.aggregates.new.port))
-    c.aggregates.ensures.cause c.aggregates.ensures.untold
+    c.select_aggregates.result (Rose (g.F.Port.Counted.faults c.args.port.now) (g.F.Port.Counted.faults c.select_aggregates.new.port))
+    c.select_aggregates.ensures.cause c.select_aggregates.ensures.untold
 
 pub returns-clause-cause : goal.returns-clause-cause
 returns-clause-cause g c = sure_cause (g.F.Port.Port.store c.args.port.now) c.args.core.now
-    c.select.result (Rose (g.F.Port.Counted.faults c.args.port.now) (g.F.Port.Counted.faults c.select.new.port))
-    c.select.ensures.cause c.select.ensures.untold
+    c.select_rows.result (Rose (g.F.Port.Counted.faults c.args.port.now) (g.F.Port.Counted.faults c.select_rows.new.port))
+    c.select_rows.ensures.cause c.select_rows.ensures.untold
 
 pub returns-then-ask_aggregates-clause-answers : goal.returns-then-ask_aggregates-clause-answers
-returns-then-ask_aggregates-clause-answers g c = c.aggregates.ensures.answers
+returns-then-ask_aggregates-clause-answers g c = c.select_aggregates.ensures.answers
 
 pub returns-clause-answers : goal.returns-clause-answers
-returns-clause-answers g c = c.select.ensures.answers
+returns-clause-answers g c = c.select_rows.ensures.answers

@@ -1,13 +1,13 @@
 use Rattle.std.proofs.Common.{◌∙◌, subst, sym}
 use Rattle.tsdb_model.specs.declared.command.Command.TheVariants.{Select}
 use Rattle.tsdb_model.specs.declared.reply.Reply.TheVariants.{Plain}
-use Rattle.tsdb_querying.specs.Serving.{Answers}
+use Rattle.tsdb_querying.specs.Serving.{ServesCommand}
 use Rattle.tsdb_querying.proofs.ServingFull.{no_full}
 use Rattle.tsdb_history.proofs.serving.serve.Goals as goal
 
 pub returns-in-Create-clause-answers : goal.returns-in-Create-clause-answers
 returns-in-Create-clause-answers g c = λ tells.
-    subst (λ command. Answers c.args.core.now c.create.new.core command (Plain c.create.result)) (sym c.in-Create.is)
+    subst (λ command. ServesCommand c.args.core.now c.create.new.core command (Plain c.create.result)) (sym c.in-Create.is)
     c.create.ensures.answers
 
 pub returns-in-Create-clause-ready : goal.returns-in-Create-clause-ready
@@ -15,12 +15,12 @@ returns-in-Create-clause-ready g c = c.create.ensures.ready (g.F.Port.Port.store
 
 pub returns-in-Insert-clause-answers : goal.returns-in-Insert-clause-answers
 returns-in-Insert-clause-answers g c = λ tells.
-    subst (λ command. Answers c.args.core.now c.insert.new.core command (Plain c.insert.result)) (sym c.in-Insert.is)
+    subst (λ command. ServesCommand c.args.core.now c.insert.new.core command (Plain c.insert.result)) (sym c.in-Insert.is)
     (c.insert.ensures.answers tells)
 
 pub returns-in-Delete-clause-answers : goal.returns-in-Delete-clause-answers
 returns-in-Delete-clause-answers g c = λ tells.
-    subst (λ command. Answers c.args.core.now c.delete.new.core command (Plain c.delete.result)) (sym c.in-Delete.is)
+    subst (λ command. ServesCommand c.args.core.now c.delete.new.core command (Plain c.delete.result)) (sym c.in-Delete.is)
     c.delete.ensures.answers
 
 pub returns-in-Delete-clause-ready : goal.returns-in-Delete-clause-ready
@@ -28,28 +28,28 @@ returns-in-Delete-clause-ready g c = c.delete.ensures.ready (g.F.Port.Port.store
 
 pub returns-in-Select-clause-answers : goal.returns-in-Select-clause-answers
 returns-in-Select-clause-answers g c = λ tells.
-    subst (λ command. Answers c.args.core.now c.query.new.core command c.query.result) (sym c.in-Select.is)
-    (subst (λ items. Answers c.args.core.now c.query.new.core (Select c.in-Select.device items c.in-Select.range)
+    subst (λ command. ServesCommand c.args.core.now c.query.new.core command c.query.result) (sym c.in-Select.is)
+    (subst (λ items. ServesCommand c.args.core.now c.query.new.core (Select c.in-Select.device items c.in-Select.range)
     c.query.result) c.items.ensures c.query.ensures.answers)
 
 pub returns-in-Flush-clause-answers : goal.returns-in-Flush-clause-answers
 returns-in-Flush-clause-answers g c = λ tells.
-    subst (λ command. Answers c.args.core.now c.flushed.new.core command (Plain c.flushed.result)) (sym c.in-Flush.is)
+    subst (λ command. ServesCommand c.args.core.now c.flushed.new.core command (Plain c.flushed.result)) (sym c.in-Flush.is)
     (c.flushed.ensures.answers tells)
 
 pub returns-in-ShowFiles-clause-answers : goal.returns-in-ShowFiles-clause-answers
 returns-in-ShowFiles-clause-answers g c = λ tells.
-    subst (λ command. Answers c.args.core.now c.args.core.now command c.shown.result) (sym c.in-ShowFiles.is)
+    subst (λ command. ServesCommand c.args.core.now c.args.core.now command c.shown.result) (sym c.in-ShowFiles.is)
     c.shown.ensures.answers
 
 pub returns-in-CompactInner-clause-answers : goal.returns-in-CompactInner-clause-answers
 returns-in-CompactInner-clause-answers g c = λ tells.
-    subst (λ command. Answers c.args.core.now c.inner_compacted.new.core command (Plain c.inner_compacted.result))
+    subst (λ command. ServesCommand c.args.core.now c.inner_compacted.new.core command (Plain c.inner_compacted.result))
     (sym c.in-CompactInner.is) (c.inner_compacted.ensures.answers tells)
 
 pub returns-in-CompactCross-clause-answers : goal.returns-in-CompactCross-clause-answers
 returns-in-CompactCross-clause-answers g c = λ tells.
-    subst (λ command. Answers c.args.core.now c.cross_compacted.new.core command (Plain c.cross_compacted.result))
+    subst (λ command. ServesCommand c.args.core.now c.cross_compacted.new.core command (Plain c.cross_compacted.result))
     (sym c.in-CompactCross.is) (c.cross_compacted.ensures.answers tells)
 
 pub returns-in-Select-clause-full : goal.returns-in-Select-clause-full

@@ -8,7 +8,7 @@ use Rattle.tsdb_base.specs.Plain.{AreValues}
 use Rattle.tsdb_fields.proofs.Parts.{parts_of}
 use Rattle.tsdb_fields.proofs.Taken.{no_fields}
 use Rattle.tsdb_index.specs.declared.index.IndexEntry.{IndexEntry}
-use Rattle.tsdb_index.specs.Steps.{IsCounted}
+use Rattle.tsdb_index.specs.Steps.{IsCountedList}
 use Rattle.tsdb_index.specs.Entries.{IsEntry}
 use Rattle.tsdb_index.specs.Spelling.{entry_field}
 use Rattle.tsdb_index.proofs.Entries.{entry-prefix_free}
@@ -22,7 +22,7 @@ pub returns-in_err-count : goal.returns-in_err-count
 returns-in_err-count c =
     let p = err_from_is_err_and c.from_residual.result c.from_residual.ensures.1 in
     let fields = c.in-Some.rest.bytes in
-    let lacks = whole_fault number16 (λ n. n < 2 ^ 16) (IsCounted 73 number16 (2 ^ 16) entry_field IsEntry c.args.bytes.now) c.in-Some.rest (λ n. n) (λ (vs : Vec IndexEntry Global). vs.items) c.in_err-count.field-0.0
+    let lacks = whole_fault number16 (λ n. n < 2 ^ 16) (IsCountedList 73 number16 (2 ^ 16) entry_field IsEntry c.args.bytes.now) c.in-Some.rest (λ n. n) (λ (vs : Vec IndexEntry Global). vs.items) c.in_err-count.field-0.0
     (no_count 73 number16 (2 ^ 16) entry_field IsEntry c.args.bytes.now fields.now c.in-Some.ensures) (parts_of number16 (λ n. n < 2 ^ 16) c.in-Some.rest (λ v. v) c.in_err-count.field-0.0 c.in_err-count.ensures.exact) in
     rw (p.1, p.2) lacks
 
@@ -31,7 +31,7 @@ returns-in_err-entries c =
     let p = err_from_is_err_and c.from_residual-in_err-entries.result c.from_residual-in_err-entries.ensures.1 in
     let fields = c.in-Some.rest.bytes in
     let n = c.in_ok-count in
-    let lacks = whole_fault (flat_map entry_field) (AreValues IsEntry n.count) (IsCounted 73 number16 (2 ^ 16) entry_field IsEntry c.args.bytes.now) n.rest (λ (vs : Vec IndexEntry Global). vs.items) (λ (vs : Vec IndexEntry Global). vs.items) c.in_err-entries.field-0.0
+    let lacks = whole_fault (flat_map entry_field) (AreValues IsEntry n.count) (IsCountedList 73 number16 (2 ^ 16) entry_field IsEntry c.args.bytes.now) n.rest (λ (vs : Vec IndexEntry Global). vs.items) (λ (vs : Vec IndexEntry Global). vs.items) c.in_err-entries.field-0.0
     (no_items 73 number16 (2 ^ 16) entry_field IsEntry number16-prefix_free c.args.bytes.now fields.now n.rest.bytes.now n.count c.in-Some.ensures n.ensures.exact.0.bytes n.ensures.exact.1) (no_fields entry_field IsEntry entry-prefix_free n.count n.rest (λ (vs : Vec IndexEntry Global). vs.items) c.in_err-entries.field-0.0 c.in_err-entries.ensures.exact) in
     rw (p.1, p.2) lacks
 

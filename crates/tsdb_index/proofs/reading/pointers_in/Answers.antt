@@ -8,7 +8,7 @@ use Rattle.tsdb_base.specs.Plain.{AreValues}
 use Rattle.tsdb_fields.proofs.Parts.{parts_of}
 use Rattle.tsdb_fields.proofs.Taken.{no_fields}
 use Rattle.tsdb_index.specs.declared.pointer.Pointer.{Pointer}
-use Rattle.tsdb_index.specs.Steps.{IsCounted}
+use Rattle.tsdb_index.specs.Steps.{IsCountedList}
 use Rattle.tsdb_index.specs.Parts.{IsPointer, pointer_bytes}
 use Rattle.tsdb_index.proofs.Entries.{pointer-prefix_free}
 use Rattle.tsdb_index.proofs.Fields.{is_counted, more_behind, no_count, no_items, no_mark, whole_fault}
@@ -21,7 +21,7 @@ pub returns-in_err-count : goal.returns-in_err-count
 returns-in_err-count c =
     let p = err_from_is_err_and c.from_residual.result c.from_residual.ensures.1 in
     let fields = c.in-Some.rest.bytes in
-    let lacks = whole_fault number32 (λ n. n < 2 ^ 32) (IsCounted 82 number32 (2 ^ 32) pointer_bytes IsPointer c.args.bytes.now) c.in-Some.rest (λ n. n) (λ (vs : Vec Pointer Global). vs.items) c.in_err-count.field-0.0
+    let lacks = whole_fault number32 (λ n. n < 2 ^ 32) (IsCountedList 82 number32 (2 ^ 32) pointer_bytes IsPointer c.args.bytes.now) c.in-Some.rest (λ n. n) (λ (vs : Vec Pointer Global). vs.items) c.in_err-count.field-0.0
     (no_count 82 number32 (2 ^ 32) pointer_bytes IsPointer c.args.bytes.now fields.now c.in-Some.ensures) (parts_of number32 (λ n. n < 2 ^ 32) c.in-Some.rest (λ v. v) c.in_err-count.field-0.0 c.in_err-count.ensures.exact) in
     rw (p.1, p.2) lacks
 
@@ -30,7 +30,7 @@ returns-in_err-pointers c =
     let p = err_from_is_err_and c.from_residual-in_err-pointers.result c.from_residual-in_err-pointers.ensures.1 in
     let fields = c.in-Some.rest.bytes in
     let n = c.in_ok-count in
-    let lacks = whole_fault (flat_map pointer_bytes) (AreValues IsPointer n.count) (IsCounted 82 number32 (2 ^ 32) pointer_bytes IsPointer c.args.bytes.now) n.rest (λ (vs : Vec Pointer Global). vs.items) (λ (vs : Vec Pointer Global). vs.items) c.in_err-pointers.field-0.0
+    let lacks = whole_fault (flat_map pointer_bytes) (AreValues IsPointer n.count) (IsCountedList 82 number32 (2 ^ 32) pointer_bytes IsPointer c.args.bytes.now) n.rest (λ (vs : Vec Pointer Global). vs.items) (λ (vs : Vec Pointer Global). vs.items) c.in_err-pointers.field-0.0
     (no_items 82 number32 (2 ^ 32) pointer_bytes IsPointer number32-prefix_free c.args.bytes.now fields.now n.rest.bytes.now n.count c.in-Some.ensures n.ensures.exact.0.bytes n.ensures.exact.1) (no_fields pointer_bytes IsPointer pointer-prefix_free n.count n.rest (λ (vs : Vec Pointer Global). vs.items) c.in_err-pointers.field-0.0 c.in_err-pointers.ensures.exact) in
     rw (p.1, p.2) lacks
 

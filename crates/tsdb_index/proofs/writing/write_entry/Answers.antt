@@ -4,7 +4,7 @@ use Rattle.tsdb_base.specs.Fields.{number32, number64, type_field, encoding_fiel
 use Rattle.tsdb_base.specs.Plain.{plain_text}
 use Rattle.tsdb_fields.specs.Statistics.{stats_field}
 use Rattle.tsdb_fields.proofs.Appending.{both_written}
-use Rattle.tsdb_index.specs.Spelling.{page_field}
+use Rattle.tsdb_index.specs.Spelling.{page_entry_field}
 use Rattle.tsdb_index.proofs.Leaves.{written_behind}
 use Rattle.tsdb_index.proofs.writing.write_entry.Goals as goal
 
@@ -28,5 +28,5 @@ returns c = record {
       let stats = written_behind old to_place (stats_field e.stats) c.put-3.new.into.items c.write_stats.new.into.items place c.in_ok-write_stats.ensures.ok in
       let number = written_behind old to_stats (number32 (length e.pages)) c.write_stats.new.into.items c.put-4.new.into.items stats
       (c.in_ok-put-4.ensures.ok ∙ ap (λ n. c.write_stats.new.into.items ++ number32 n) count) in
-      both_written r old (to_stats ++ number32 (length e.pages)) (flat_map page_field e.pages) c.put-4.new.into.items new number (rw c.items-2.ensures at c.write_pages.ensures.ok);
+      both_written r old (to_stats ++ number32 (length e.pages)) (flat_map page_entry_field e.pages) c.put-4.new.into.items new number (rw c.items-2.ensures at c.write_pages.ensures.ok);
 }

@@ -5,7 +5,7 @@ use Rattle.std.proofs.lemmas.Result.{err_from_is_err_and}
 use Rattle.tsdb_streams.proofs.Reasons.{reason_memory, reason_ok, reason_then, same_reason}
 use Rattle.tsdb_inner.proofs.All.{among_at}
 use Rattle.tsdb_inner.proofs.Lists.{zip_more}
-use Rattle.tsdb_inner.specs.Inputs.{IsInputOf, IsOpenedAs, IsWhole}
+use Rattle.tsdb_inner.specs.Inputs.{IsInputOf, IsOpenedAs, IsWholeInput}
 use Rattle.tsdb_base.proofs.Lists.{each_among}
 use Rattle.tsdb_inner.proofs.inputs.open_inputs.Goals as goal
 
@@ -40,7 +40,7 @@ returns-in_err-open_input-clause-reason g c =
     let p = err_from_is_err_and c.from_residual-in_err-open_input.result c.from_residual-in_err-open_input.ensures.1 in
     let among = among_at c.args.inputs.now c.loop-input.input-index c.input-item.result c.loop-input-test.true c.input-item.is in
     rw (p.1, p.2) (same_reason _ _ _ _ (reason_then _ _ _ _ _ (Err c.in_err-open_input.field-0.0)
-    (λ whole. each_among (IsWhole file) c.args.inputs.now c.input-item.result whole among) c.loop-input.invariant.1
+    (λ whole. each_among (IsWholeInput file) c.args.inputs.now c.input-item.result whole among) c.loop-input.invariant.1
     c.in_err-open_input.ensures.reason))
 
 pub returns-in_err-open_input-clause-later : goal.returns-in_err-open_input-clause-later

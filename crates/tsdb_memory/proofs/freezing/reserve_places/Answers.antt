@@ -1,7 +1,7 @@
 use Rattle.std.proofs.Common.{◌∙◌, List, subst}
 use Rattle.std.proofs.lemmas.List.{take_all}
 use Rattle.tsdb_memory.proofs.Raises.{place_more}
-use Rattle.tsdb_memory.specs.Freezing.{HasPlaces}
+use Rattle.tsdb_memory.specs.Freezing.{HaveWatermarkPlaces}
 use Rattle.tsdb_memory.specs.declared.freezing.Raise.{Raise}
 use Rattle.tsdb_memory.proofs.freezing.reserve_places.Goals as goal
 
@@ -15,5 +15,5 @@ loop-raise-preserved c = record {
 
 pub returns-clause-places : goal.returns-clause-places
 returns-clause-places c =
-    subst (λ (l : List Raise). HasPlaces c.loop-raise.watermarks l)
+    subst (λ (l : List Raise). HaveWatermarkPlaces c.loop-raise.watermarks l)
     (take_all c.loop-raise.raise-index c.args.raises.now c.loop-raise-test.false) c.loop-raise.invariant.places

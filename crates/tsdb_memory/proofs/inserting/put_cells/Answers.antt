@@ -6,7 +6,7 @@ use Rattle.std.specs.Vec.Iter.{into_iter_items}
 use Rattle.std.proofs.lemmas.List.Elements.{All-head, All-tail}
 use Rattle.tsdb_log.specs.declared.record.CellRecord.{CellRecord}
 use Rattle.tsdb_memory.proofs.RowCells.{Differs, HasRoom, no_length, pairs_first, pairs_rest, room_left}
-use Rattle.tsdb_memory.specs.Rows.{put_all}
+use Rattle.tsdb_memory.specs.Rows.{put_row_cells}
 use Rattle.tsdb_memtable.specs.Pairs.{Pair}
 use Rattle.tsdb_memory.proofs.inserting.put_cells.Goals as goal
 
@@ -17,7 +17,7 @@ loop-cell-init c =
       finite = (tt, tt);
       room = subst (λ (l : List CellRecord). All (HasRoom c.args.pair.now) l) (sym all) c.requires.room;
       differ = subst (λ (l : List CellRecord). AllPairs Differs l) (sym all) c.requires.differ;
-      rest = ap (λ (l : List CellRecord). put_all c.args.space (to_z w64 (of_z w64 c.args.time)) l c.args.pair.now) all;
+      rest = ap (λ (l : List CellRecord). put_row_cells c.args.space (to_z w64 (of_z w64 c.args.time)) l c.args.pair.now) all;
     }
 
 pub put_at-requires : goal.put_at-requires
@@ -42,8 +42,8 @@ loop-cell-preserved c =
           (All-head (HasRoom old) cell next room) next (pairs_first Differs cell next differ)
           (All-tail (HasRoom old) cell next room));
       differ = pairs_rest Differs cell next differ;
-      rest = ap (put_all c.args.space t next) c.put_at.ensures
-          ∙ ap (λ (l : List CellRecord). put_all c.args.space t l old) (sym split) ∙ c.loop-cell.invariant.rest;
+      rest = ap (put_row_cells c.args.space t next) c.put_at.ensures
+          ∙ ap (λ (l : List CellRecord). put_row_cells c.args.space t l old) (sym split) ∙ c.loop-cell.invariant.rest;
     }
 
 pub returns : goal.returns
@@ -53,6 +53,6 @@ returns c =
     let none : into_iter_items c.loop-cell.cell-iterator ≡ [] =
     no_length (into_iter_items c.loop-cell.cell-iterator)
     (sym c.loop-cell.cell-iterator.rest.ok.0 ∙ c.in-None.ensures.steps.0) in
-    ap (λ (l : List CellRecord). put_all c.args.space t l c.loop-cell.pair) (sym none)
+    ap (λ (l : List CellRecord). put_row_cells c.args.space t l c.loop-cell.pair) (sym none)
     ∙ c.loop-cell.invariant.rest
-    ∙ ap (λ (z : ℤ). put_all c.args.space z c.args.cells c.args.pair.now) same
+    ∙ ap (λ (z : ℤ). put_row_cells c.args.space z c.args.cells c.args.pair.now) same

@@ -6,7 +6,7 @@ use Rattle.std.proofs.lemmas.List.Filters.{sum_by-filter_both}
 use Rattle.std.proofs.lemmas.List.Kept.{AllPairs-filter}
 use Rattle.tsdb_base.specs.declared.point.Point.{Point}
 use Rattle.tsdb_base.specs.Points.{IsRising}
-use Rattle.tsdb_memtable.specs.Points.{is_outside, is_within, point_bytes, counted_bytes}
+use Rattle.tsdb_memtable.specs.Points.{is_outside, is_point_within, point_bytes, counted_bytes}
 use Rattle.tsdb_memtable.proofs.PointLemmas.{none-within}
 use Rattle.tsdb_memtable.proofs.points.erase.Goals as goal
 
@@ -16,13 +16,13 @@ kept c = filter_same _ (is_outside c.args.range.now) _ (λ x b f' t. search rule
 pub bytes_of-bytes-requires : goal.bytes_of-bytes-requires
 bytes_of-bytes-requires c =
     let items = c.args.points.now.items in
-    let found = ap counted_bytes (c.slice-within.ensures ∙ ap (filter (is_within c.args.range.now)) c.as_slice.ensures.value) in
-    let both = sum_by-filter_both (is_within c.args.range.now) (is_outside c.args.range.now) (λ _. refl) point_bytes items in
+    let found = ap counted_bytes (c.slice-within.ensures ∙ ap (filter (is_point_within c.args.range.now)) c.as_slice.ensures.value) in
+    let both = sum_by-filter_both (is_point_within c.args.range.now) (is_outside c.args.range.now) (λ _. refl) point_bytes items in
     omega (arith, found, both, c.requires.most)
 
 pub returns-then-is_empty-clause-items : goal.returns-then-is_empty-clause-items
 returns-then-is_empty-clause-items c =
-    let found = c.slice-within.ensures ∙ ap (filter (is_within c.args.range.now)) c.as_slice.ensures.value in
+    let found = c.slice-within.ensures ∙ ap (filter (is_point_within c.args.range.now)) c.as_slice.ensures.value in
     let none : length c.slice-within.result.now ≡ 0 = search rules in
     sym (none-within c.args.range.now c.args.points.now.items (sym (ap length found) ∙ none))
 
@@ -35,6 +35,6 @@ returns-clause-rising c = subst IsRising (sym (kept c)) (AllPairs-filter (λ (a 
 pub returns-clause-bytes : goal.returns-clause-bytes
 returns-clause-bytes c =
     let items = c.args.points.now.items in
-    let found = c.bytes_of-bytes.ensures ∙ ap counted_bytes (c.slice-within.ensures ∙ ap (filter (is_within c.args.range.now)) c.as_slice.ensures.value) in
-    let both = sum_by-filter_both (is_within c.args.range.now) (is_outside c.args.range.now) (λ _. refl) point_bytes items in
+    let found = c.bytes_of-bytes.ensures ∙ ap counted_bytes (c.slice-within.ensures ∙ ap (filter (is_point_within c.args.range.now)) c.as_slice.ensures.value) in
+    let both = sum_by-filter_both (is_point_within c.args.range.now) (is_outside c.args.range.now) (λ _. refl) point_bytes items in
     omega (arith, found, both, ap counted_bytes (kept c))

@@ -4,7 +4,7 @@ use Rattle.std.proofs.lemmas.Int.{ints}
 use Rattle.std.proofs.lemmas.List.{take_all}
 use Rattle.tsdb_pages.specs.declared.tree.Page.{Page}
 use Rattle.tsdb_base.specs.Points.{IsRising}
-use Rattle.tsdb_pages.specs.Trees.{points_of}
+use Rattle.tsdb_pages.specs.Trees.{page_points}
 use Rattle.tsdb_pages.proofs.Order.{first_page, meets, page_more, pages_fall}
 use Rattle.tsdb_pages.proofs.check.rise_through.Goals as goal
 
@@ -30,4 +30,4 @@ loop-i-preserved c =
     page_more pages c.loop-i.i last.result first.result m c.requires.some c.requires.rising (grind (arith, ints)) c.loop-i.invariant
 
 pub returns : goal.returns
-returns c = (λ _. subst (λ (ps : List Page). IsRising (points_of ps)) (take_all c.loop-i.i c.args.pages.now (omega arith)) c.loop-i.invariant, λ _. refl)
+returns c = (λ _. subst (λ (ps : List Page). IsRising (page_points ps)) (take_all c.loop-i.i c.args.pages.now (omega arith)) c.loop-i.invariant, λ _. refl)

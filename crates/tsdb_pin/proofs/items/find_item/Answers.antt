@@ -1,6 +1,6 @@
 use Rattle.std.proofs.Common.{refl, sym}
 use Rattle.tsdb_fileset.proofs.MemoryNumbers.{none_first}
-use Rattle.tsdb_fileset.specs.Numbered.{Numbered}
+use Rattle.tsdb_fileset.specs.NumberedSeries.{NumberedSeries}
 use Rattle.tsdb_path.specs.Nodes.{child_of}
 use Rattle.tsdb_pin.proofs.Asked.{missing_item, unnumbered}
 use Rattle.tsdb_fileset.proofs.RowLemmas.Types.{no_path}
@@ -15,5 +15,5 @@ returns-in_default c = missing_item c.args.memory.now.series c.args.device.now
 pub returns-in_default-series : goal.returns-in_default-series
 returns-in_default-series c = missing_item c.args.memory.now.series c.args.device.now c.in-Ok.path c.args.item.now
     c.in-Ok.ensures.ok (unnumbered c.args.memory.now.series c.in-Ok.path
-    (sym (none_first (λ (series : Numbered). series.id.0) c.series.result _ c.series.ensures.number
+    (sym (none_first (λ (series : NumberedSeries). series.id.0) c.series.result _ c.series.ensures.number
     c.in_default-series.is)))

@@ -8,7 +8,7 @@ use Rattle.tsdb_pins.specs.Reading.{IsLentAs}
 use Rattle.tsdb_pins.proofs.streaming.open_one.Goals as goal
 
 pub open_column-requires-clause-of_store : goal.open_column-requires-clause-of_store
-open_column-requires-clause-of_store g c = λ lifetimes lives.
+open_stream-requires-clause-of_store g c = λ lifetimes lives.
     of_store_lent g.F.Right.ReadRight.file _ c.args.column.now.sources c.in_ok-sources.sources.items
     (subst (λ l. AllZip IsLentAs l c.in_ok-sources.sources.items) c.items.ensures c.in_ok-sources.ensures) c.requires.of_store
 
@@ -20,19 +20,19 @@ returns-clause-opened g c = λ pages truth.
     ok_then _ _ (λ stream merged lists told rising.
     merged _ (all_left file pages path c.args.pin.now.range c.args.pin.now.marks.marks c.args.column.now.sources c.in_ok-sources.sources.items lists zip told)
     (kept_rising file pages path c.args.pin.now.range c.args.pin.now.marks.marks c.args.column.now.sources lists rising))
-    c.open_column.result (c.open_column.ensures.merged (pages path) (true_lent file pages path c.args.column.now.sources c.in_ok-sources.sources.items zip truth))
+    c.open_stream.result (c.open_stream.ensures.merged (pages path) (true_lent file pages path c.args.column.now.sources c.in_ok-sources.sources.items zip truth))
 
 pub returns-clause-truth : goal.returns-clause-truth
 returns-clause-truth g c = λ pages truth.
     let path = c.args.column.now.schema.path in
     let zip = subst (λ l. AllZip IsLentAs l c.in_ok-sources.sources.items) c.items.ensures c.in_ok-sources.ensures in
-    c.open_column.ensures.truth (pages path) (true_lent g.F.Right.ReadRight.file pages path c.args.column.now.sources c.in_ok-sources.sources.items zip truth)
+    c.open_stream.ensures.truth (pages path) (true_lent g.F.Right.ReadRight.file pages path c.args.column.now.sources c.in_ok-sources.sources.items zip truth)
 
 pub returns-clause-told : goal.returns-clause-told
 returns-clause-told g c = λ pages told.
     let path = c.args.column.now.schema.path in
     let zip = subst (λ l. AllZip IsLentAs l c.in_ok-sources.sources.items) c.items.ensures c.in_ok-sources.ensures in
-    c.open_column.ensures.told (pages path) (told_lent g.F.Right.ReadRight.file pages path c.args.column.now.sources c.in_ok-sources.sources.items zip told)
+    c.open_stream.ensures.told (pages path) (told_lent g.F.Right.ReadRight.file pages path c.args.column.now.sources c.in_ok-sources.sources.items zip told)
 
 pub returns-clause-reason : goal.returns-clause-reason
 returns-clause-reason g c = λ pages truth.
@@ -40,7 +40,7 @@ returns-clause-reason g c = λ pages truth.
     let path = c.args.column.now.schema.path in
     let zip = subst (λ l. AllZip IsLentAs l c.in_ok-sources.sources.items) c.items.ensures c.in_ok-sources.ensures in
     reason_then _ _ _ _ _ _ (told_lent file pages path c.args.column.now.sources c.in_ok-sources.sources.items zip) (omega arith)
-    (c.open_column.ensures.reason (pages path) (true_lent file pages path c.args.column.now.sources c.in_ok-sources.sources.items zip truth))
+    (c.open_stream.ensures.reason (pages path) (true_lent file pages path c.args.column.now.sources c.in_ok-sources.sources.items zip truth))
 
 pub returns-in_err-sources-clause-reason : goal.returns-in_err-sources-clause-reason
 returns-in_err-sources-clause-reason g c = λ pages truth.

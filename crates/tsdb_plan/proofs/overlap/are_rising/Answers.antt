@@ -1,7 +1,7 @@
 use Rattle.std.proofs.Common.{◌≡◌, take, refl, subst, ⊎_elim, arith}
 use Rattle.std.proofs.lemmas.Bool.{false≢true}
 use Rattle.std.proofs.lemmas.List.{take_all}
-use Rattle.tsdb_plan.specs.Files.{AreRising}
+use Rattle.tsdb_plan.specs.Files.{AreHullsRising}
 use Rattle.tsdb_plan.proofs.Walk.{rising_more, not_rising}
 use Rattle.tsdb_plan.proofs.overlap.are_rising.Goals as goal
 
@@ -20,4 +20,4 @@ loop-i-preserved c =
 pub returns : goal.returns
 returns c =
     let all : take c.loop-i.i c.args.hulls.now ≡ c.args.hulls.now = take_all c.loop-i.i c.args.hulls.now (omega arith) in
-    (λ _. subst AreRising all c.loop-i.invariant, λ _. refl)
+    (λ _. subst AreHullsRising all c.loop-i.invariant, λ _. refl)

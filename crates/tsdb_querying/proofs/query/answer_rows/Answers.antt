@@ -4,8 +4,8 @@ use Rattle.tsdb_serving.specs.Core.{files_of, logged_of}
 use Rattle.tsdb_frames.specs.Frames.{faults_of}
 use Rattle.tsdb_memory.specs.Logged.{log_of, memory_of}
 use Rattle.tsdb_model.specs.declared.reply.Reply.TheVariants.{Lines, Plain}
-use Rattle.tsdb_memory.specs.Shown.{entry_of}
-use Rattle.tsdb_pin.specs.Items.{IsRefused}
+use Rattle.tsdb_memory.specs.Shown.{series_entry}
+use Rattle.tsdb_pin.specs.Items.{AreItemsRefused}
 use Rattle.tsdb_pin.specs.declared.pin.PinFault.TheVariants as fault
 use Rattle.tsdb_pins.proofs.Held.{columns_of}
 use Rattle.tsdb_pins.proofs.Named.{have_nodes}
@@ -23,7 +23,7 @@ returns-in-Err-NoPath-clause-answers g c = λ files at next serving. not_taken g
     c.in-Err-NoPath.ensures.not c.args.device.now c.args.items.now c.args.range.now (Plain answer.NoPath) files at next
     serving refl (allowed_reply at c.args.device.now c.args.items.now c.args.range.now (Plain answer.NoPath)
     (refused c.args.core.now files at next serving c.args.device.now c.args.items.now c.args.range.now fault.NoPath
-    (subst (IsRefused (map entry_of (memory_of (logged_of c.args.core.now)).series) c.args.device.now c.args.items.now)
+    (subst (AreItemsRefused (map series_entry (memory_of (logged_of c.args.core.now)).series) c.args.device.now c.args.items.now)
     c.in-Err-NoPath.field-0-is c.in-Err-NoPath.ensures.answer)))
 
 pub returns-in-Err-WrongType-clause-answers : goal.returns-in-Err-WrongType-clause-answers
@@ -32,7 +32,7 @@ returns-in-Err-WrongType-clause-answers g c = λ files at next serving. not_take
     (Plain answer.WrongType) files at next serving refl
     (allowed_reply at c.args.device.now c.args.items.now c.args.range.now (Plain answer.WrongType)
     (refused c.args.core.now files at next serving c.args.device.now c.args.items.now c.args.range.now fault.WrongType
-    (subst (IsRefused (map entry_of (memory_of (logged_of c.args.core.now)).series) c.args.device.now c.args.items.now)
+    (subst (AreItemsRefused (map series_entry (memory_of (logged_of c.args.core.now)).series) c.args.device.now c.args.items.now)
     c.in-Err-WrongType.field-0-is c.in-Err-WrongType.ensures.answer)))
 
 pub returns-in-Err-Memory-clause-answers : goal.returns-in-Err-Memory-clause-answers

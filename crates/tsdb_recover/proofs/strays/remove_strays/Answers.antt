@@ -1,5 +1,5 @@
 use Rattle.std.proofs.Common.{◌∙◌, Ok, [], refl, sym, take}
-use Rattle.tsdb_recover.specs.Adopting.{files_of}
+use Rattle.tsdb_recover.specs.Adopting.{adopting_files}
 use Rattle.tsdb_outside.specs.Files.{plain_numbers}
 use Rattle.tsdb_recover.proofs.Causes.{cause_then, none_yet}
 use Rattle.tsdb_recover.proofs.Gone.{less_in, next_gone, none_in, then_in}
@@ -7,7 +7,7 @@ use Rattle.tsdb_recover.proofs.strays.remove_strays.Goals as goal
 
 pub loop-number-init : goal.loop-number-init
 loop-number-init g c = record {
-  gone = none_in (files_of c.args.adopting.now) (g.F.Files.at_rest c.args.files.now)
+  gone = none_in (adopting_files c.args.adopting.now) (g.F.Files.at_rest c.args.files.now)
       (g.F.Files.at_rest c.args.files.now)
       refl;
   same_store = refl;
@@ -22,7 +22,7 @@ remove_if_stray-requires-clause-port g c κs within =
 
 pub loop-number-preserved : goal.loop-number-preserved
 loop-number-preserved g c = record {
-  gone = next_gone c.args.numbers.now c.loop-number.number-index (record { 0 = 0 }) (files_of c.args.adopting.now)
+  gone = next_gone c.args.numbers.now c.loop-number.number-index (record { 0 = 0 }) (adopting_files c.args.adopting.now)
       (g.F.Files.at_rest c.args.files.now) (g.F.Files.at_rest c.loop-number.files)
       (g.F.Files.at_rest c.remove_if_stray.new.files) c.loop-number-test.true c.loop-number.invariant.gone
       c.in-Ok.ensures.gone;
@@ -37,7 +37,7 @@ loop-number-preserved g c = record {
 
 pub returns-in-Err-clause-others : goal.returns-in-Err-clause-others
 returns-in-Err-clause-others g c =
-    let files = files_of c.args.adopting.now in
+    let files = adopting_files c.args.adopting.now in
     let a = g.F.Files.at_rest c.args.files.now in
     let b = g.F.Files.at_rest c.loop-number.files in
     then_in [] [] files a b (g.F.Files.at_rest c.remove_if_stray.new.files)

@@ -1,5 +1,5 @@
 use Rattle.std.proofs.Common.{◌∙◌, Ok, refl, subst, sym}
-use Rattle.tsdb_recover.specs.Adopting.{files_of, wanted_file}
+use Rattle.tsdb_recover.specs.Adopting.{adopting_files, wanted_file}
 use Rattle.tsdb_state.specs.Stored.{kept_bytes}
 use Rattle.tsdb_recover.proofs.Causes.{cause_then, none_yet}
 use Rattle.tsdb_recover.proofs.Steps.{fewer_left, goes_nowhere, goes_then, takes_then}
@@ -48,7 +48,7 @@ adopt_next-requires-clause-port g c κs within =
 
 pub adopt_next-requires-clause-wanted : goal.adopt_next-requires-clause-wanted
 adopt_next-requires-clause-wanted g c κs within = λ recorded is.
-    said_next c.in-Some.number.0 (wanted_file (files_of c.next.adopting) recorded.store)
+    said_next c.in-Some.number.0 (wanted_file (adopting_files c.next.adopting) recorded.store)
     (c.in-Some.ensures.first recorded is.opening)
 
 pub returns-in-Err-clause-goes_on : goal.returns-in-Err-clause-goes_on
@@ -64,7 +64,7 @@ returns-in-Err-clause-taking g c =
 
 pub returns-in-Err-clause-damaged : goal.returns-in-Err-clause-damaged
 returns-in-Err-clause-damaged g c = λ part at is stored recorded adopting up.
-    let files = files_of c.next.adopting in
+    let files = adopting_files c.next.adopting in
     let here = c.next.invariant.goes_on.adopting recorded adopting in
     let reached = c.next.invariant.taking stored recorded adopting up in
     let found = c.in-Err.ensures.damaged part at is in
@@ -95,7 +95,7 @@ returns-clause-all g c =
     record {
       recorded = c.requires.some.0;
       is = here;
-      all = said_none (wanted_file (files_of c.next.adopting) c.requires.some.0.store)
+      all = said_none (wanted_file (adopting_files c.next.adopting) c.requires.some.0.store)
           (c.in_default.ensures.first c.requires.some.0 here.opening);
     }
 

@@ -1,7 +1,7 @@
 use Rattle.std.proofs.Common.{◌+◌, ◌∙◌, Some, drop, refl, sym, ap}
 use Rattle.tsdb_memory.specs.Least.{least_with}
 use Rattle.tsdb_redo.proofs.Leasts.{at_end, at_next}
-use Rattle.tsdb_redo.specs.Lists.{borns_of, files_of}
+use Rattle.tsdb_redo.specs.Lists.{borns_of_files, listed_files}
 use Rattle.tsdb_redo.proofs.lists.least_with.Goals as goal
 
 pub loop-file-init : goal.loop-file-init
@@ -9,7 +9,7 @@ loop-file-init c = record { rest = refl }
 
 pub loop-file-preserved : goal.loop-file-preserved
 loop-file-preserved c = record {
-  rest = ap (λ s. least_with (Some s) (borns_of (files_of (drop (c.loop-file.file-index + 1) c.args.files.now))))
+  rest = ap (λ s. least_with (Some s) (borns_of_files (listed_files (drop (c.loop-file.file-index + 1) c.args.files.now))))
       c.lesser.ensures
       ∙ sym (at_next c.args.files.now c.loop-file.file-index _ c.loop-file.least c.loop-file-test.true)
       ∙ c.loop-file.invariant.rest;

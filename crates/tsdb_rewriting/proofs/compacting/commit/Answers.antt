@@ -4,7 +4,7 @@ use Rattle.tsdb_rewriting.proofs.Ended.{commit_ends}
 use Rattle.tsdb_rewriting.proofs.Outputs.{finished, output_in, output_numbered, output_tells, output_unread}
 use Rattle.tsdb_rewriting.proofs.Ready.{is_job_out}
 use Rattle.tsdb_serving.specs.Replacements.{IsJobCommit}
-use Rattle.tsdb_serving.specs.TasksFiles.{new_file}
+use Rattle.tsdb_serving.specs.TasksFiles.{file_built}
 use Rattle.tsdb_rewriting.proofs.compacting.commit.Goals as goal
 
 pub list-requires-clause-out : goal.list-requires-clause-out
@@ -18,7 +18,7 @@ pub returns-in-Ok-clause-ends : goal.returns-in-Ok-clause-ends
 returns-in-Ok-clause-ends g c = λ store rewriting of_store.
     let file = g.F.Sealed.SealedFile.file in
     commit_ends g.J.Disk.lawful g.F.Right.ReadRight.file store c.args.core.now c.list.new.core c.args.job rewriting
-    (option_map (new_file file) c.args.output) c.list.result c.list.ensures (output_unread file c.args.output)
+    (option_map (file_built file) c.args.output) c.list.result c.list.ensures (output_unread file c.args.output)
     (output_in file store c.args.output of_store)
     (λ tells. output_tells file g.F.Sealed.SealedFile.tells store tells c.args.output of_store)
 
@@ -26,13 +26,13 @@ pub returns-in-Err-clause-ends : goal.returns-in-Err-clause-ends
 returns-in-Err-clause-ends g c = λ store rewriting of_store.
     let file = g.F.Sealed.SealedFile.file in
     commit_ends g.J.Disk.lawful g.F.Right.ReadRight.file store c.args.core.now c.list.new.core c.args.job rewriting
-    (option_map (new_file file) c.args.output) c.list.result c.list.ensures (output_unread file c.args.output)
+    (option_map (file_built file) c.args.output) c.list.result c.list.ensures (output_unread file c.args.output)
     (output_in file store c.args.output of_store)
     (λ tells. output_tells file g.F.Sealed.SealedFile.tells store tells c.args.output of_store)
 
 pub returns-in-Ok-clause-finished : goal.returns-in-Ok-clause-finished
 returns-in-Ok-clause-finished g c =
-    let file = option_map (new_file g.F.Sealed.SealedFile.file) c.args.output in
+    let file = option_map (file_built g.F.Sealed.SealedFile.file) c.args.output in
     let commits = subst (IsJobCommit g.F.Right.ReadRight.file c.args.core.now c.list.new.core c.args.job file) c.in-Ok.is
     c.list.ensures in
     finished c.args.core.now c.list.new.core c.args.job file commits.runs commits.stand
@@ -41,7 +41,7 @@ returns-in-Ok-clause-finished g c =
 
 pub returns-in-Err-clause-cause : goal.returns-in-Err-clause-cause
 returns-in-Err-clause-cause g c =
-    let file = option_map (new_file g.F.Sealed.SealedFile.file) c.args.output in (
+    let file = option_map (file_built g.F.Sealed.SealedFile.file) c.args.output in (
       refl,
       (subst (IsJobCommit g.F.Right.ReadRight.file c.args.core.now c.list.new.core c.args.job file) c.in-Err.is
           c.list.ensures).cause.failed,

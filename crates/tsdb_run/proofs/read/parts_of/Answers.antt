@@ -1,5 +1,5 @@
 use Rattle.std.proofs.Common.{◌≡◌, ◌<◌, length, rules}
-use Rattle.tsdb_run.specs.WordSteps.{nothing, shown}
+use Rattle.tsdb_run.specs.WordSteps.{nothing, argument_of}
 use Rattle.tsdb_run.proofs.ReadLemmas.{at_end, kept, none_follows, refused}
 use Rattle.tsdb_run.proofs.read.parts_of.Goals as goal
 
@@ -11,12 +11,12 @@ returns-in_err-part-clause-none c =
 
 pub returns-then-not-take-clause-none : goal.returns-then-not-take-clause-none
 returns-then-not-take-clause-none c =
-    refused nothing c.loop-rest.seen c.take.new.self (shown c.in_ok-part.part) c.take.result c.args.words.now c.loop-rest.rest.now c.in_ok-part.behind.now
+    refused nothing c.loop-rest.seen c.take.new.self (argument_of c.in_ok-part.part) c.take.result c.args.words.now c.loop-rest.rest.now c.in_ok-part.behind.now
     c.in_ok-part.ensures.found c.take.ensures c.if-not-take.true c.loop-rest.invariant
 
 pub loop-rest-preserved : goal.loop-rest-preserved
 loop-rest-preserved c =
-    kept nothing c.loop-rest.seen c.take.new.self (shown c.in_ok-part.part) c.take.result c.args.words.now c.loop-rest.rest.now c.in_ok-part.behind.now
+    kept nothing c.loop-rest.seen c.take.new.self (argument_of c.in_ok-part.part) c.take.result c.args.words.now c.loop-rest.rest.now c.in_ok-part.behind.now
     c.in_ok-part.ensures.found c.take.ensures c.if-not-take.false c.loop-rest.invariant
 
 pub returns-clause-found : goal.returns-clause-found

@@ -1,6 +1,6 @@
 use Rattle.std.proofs.Common.{◌∙◌, ◌+◌, Err, Some, ap, inl, inr, refl, sym}
 use Rattle.std.specs.Prelude.{count_by}
-use Rattle.tsdb_history.specs.History.{is_device}
+use Rattle.tsdb_history.specs.History.{told_device}
 use Rattle.tsdb_base.specs.Causes.{Rose}
 use Rattle.tsdb_run.proofs.Executed.{counted_down, if_ok, more_down, placed, sure_before}
 use Rattle.tsdb_run.proofs.Ends.{device_down, device_failed, device_memory}
@@ -20,13 +20,13 @@ returns-in-Ok-take_up-clause-executed g c =
     placed c.args.script.now history (g.P.Disk.state old) (g.P.Journal.Disk.state journal) (g.P.Journal.Disk.state last)
     (g.P.Disk.state new) (g.P.Place.stored old) (g.P.Files.Files.at_rest c.in-Ok-take_up.files)
     (g.P.Files.Files.at_rest c.run_on-journal.new.files) (g.P.Place.stored new)
-    (Rose (count_by is_device history)
+    (Rose (count_by told_device history)
     (g.P.Journal.Counted.faults last + g.P.Files.Counted.faults c.run_on-journal.new.files))
-    (Rose (g.P.Counted.faults old + count_by is_device history) (g.P.Counted.faults new))
+    (Rose (g.P.Counted.faults old + count_by told_device history) (g.P.Counted.faults new))
     (g.P.Disk.lawful old) (g.P.Journal.Disk.lawful journal) (g.P.Journal.Disk.lawful last) (g.P.Disk.lawful new)
     c.in-Ok-take_up.ensures.keeps c.in-Ok-take_up.ensures.at_rest c.put_down.ensures.keeps c.put_down.ensures.stored
     (more_down (g.P.Counted.faults old) (g.P.Counted.faults c.take_up.new.self) (g.P.Counted.faults new)
-    (g.P.Journal.Counted.faults last) (g.P.Files.Counted.faults c.run_on-journal.new.files) (count_by is_device history)
+    (g.P.Journal.Counted.faults last) (g.P.Files.Counted.faults c.run_on-journal.new.files) (count_by told_device history)
     c.take_up.ensures.cause.later c.put_down.ensures.faults) run)
     c.run_on-journal.ensures.executed
 
@@ -37,7 +37,7 @@ returns-in-Ok-take_up-clause-devices g c =
     if_ok _ _ c.run_on-journal.result.1 (λ history counts sure.
     counted_down (g.P.Counted.faults old) (g.P.Counted.faults c.take_up.new.self) (g.P.Counted.faults new)
     (g.P.Journal.Counted.faults c.run_on-journal.result.0) (g.P.Files.Counted.faults c.run_on-journal.new.files)
-    (count_by is_device history) c.take_up.ensures.cause.later c.put_down.ensures.faults
+    (count_by told_device history) c.take_up.ensures.cause.later c.put_down.ensures.faults
     (counts (sure_before (g.P.Disk.state old) (g.P.Journal.Disk.state c.in-Ok-take_up.journal) (g.P.Place.stored old)
     (g.P.Files.Files.at_rest c.in-Ok-take_up.files) c.in-Ok-take_up.ensures.keeps c.in-Ok-take_up.ensures.at_rest sure)))
     c.run_on-journal.ensures.devices

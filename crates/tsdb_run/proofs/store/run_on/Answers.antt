@@ -1,6 +1,6 @@
 use Rattle.std.proofs.Common.{◌≡◌, ◌∙◌, ◌+◌, inl, inr, ap, length, refl, subst, sym, None}
 use Rattle.std.specs.Prelude.{◌*◌, count_by}
-use Rattle.tsdb_history.specs.History.{is_device}
+use Rattle.tsdb_history.specs.History.{told_device}
 use Rattle.tsdb_history.specs.Reach.{AreFullWithin, max_drawn}
 use Rattle.std.specs.Prelude.{is_some}
 use Rattle.tsdb_recover.specs.CoreType.{Core}
@@ -16,7 +16,7 @@ use Rattle.tsdb_history.specs.Serving.{IsSure, disk_under}
 use Rattle.tsdb_outside.proofs.DiskLemmas.{Keeps-same}
 use Rattle.tsdb_run.proofs.Refused.{never_opened, opening_refused, reports, same_refused}
 use Rattle.tsdb_run.specs.Causes.{ReportsDamage}
-use Rattle.tsdb_run.specs.Steps.{IsRefused}
+use Rattle.tsdb_run.specs.Steps.{IsOpeningRefused}
 use Rattle.tsdb_run.specs.declared.status.Status.TheVariants.{Memory}
 use Rattle.tsdb_run.proofs.store.run_on.Goals as goal
 
@@ -30,7 +30,7 @@ returns-in-Ok-recover-clause-executed g c =
     let journal = c.serve_script-journal.result.0 in
     let left = g.F.Files.at_rest c.serve_script-journal.new.files in
     let served = c.serve_script-journal.ensures.served in
-    let more = Rose (count_by is_device c.serve_script-journal.result.1)
+    let more = Rose (count_by told_device c.serve_script-journal.result.1)
     (g.J.Counted.faults journal + g.F.Counted.faults c.serve_script-journal.new.files) in
     record {
       entries = served.entries;
@@ -91,7 +91,7 @@ returns-in-Ok-recover-clause-damaged g c = λ part at damaged.
 
 pub returns-in-Err-clause-refused : goal.returns-in-Err-clause-refused
 returns-in-Err-clause-refused g c =
-    subst (IsRefused (contents (g.J.Disk.state c.args.journal) (g.F.Files.at_rest c.args.files.now))
+    subst (IsOpeningRefused (contents (g.J.Disk.state c.args.journal) (g.F.Files.at_rest c.args.files.now))
     (contents (g.J.Disk.state c.in-Err.field-0.journal) (g.F.Files.at_rest c.end_port.new.self))) (sym c.status_of.ensures)
     (opening_refused (g.J.Disk.state c.args.journal) (g.J.Disk.state c.in-Err.field-0.journal)
     (g.F.Files.at_rest c.args.files.now) (g.F.Files.at_rest c.port.new.self) (g.F.Files.at_rest c.recover.new.files)

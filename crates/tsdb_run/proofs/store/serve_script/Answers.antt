@@ -1,6 +1,6 @@
 use Rattle.std.proofs.Common.{◌∙◌, ◌+◌, ◌++◌, ◌≤◌, None, ap, inr, length, sym, subst}
 use Rattle.std.specs.Prelude.{◌*◌, ◌-◌, ◌^◌, count_by, min}
-use Rattle.tsdb_history.specs.History.{is_device}
+use Rattle.tsdb_history.specs.History.{told_device}
 use Rattle.tsdb_recover.specs.Core.{next_of}
 use Rattle.tsdb_history.proofs.Reach.{all_further}
 use Rattle.tsdb_history.specs.Reach.{max_drawn}
@@ -30,12 +30,12 @@ returns-clause-served g c =
           has_run core last files start executed.entries served c.requires.slot c.execute-history.ensures.stays.slot
           (g.J.Disk.state journal) (g.J.Disk.lawful journal) closed.0
           (Rose (faults_under last) (g.J.Counted.faults journal)) closed.2 left
-          (Rose (count_by is_device c.execute-history.result)
+          (Rose (count_by told_device c.execute-history.result)
           (g.J.Counted.faults journal + g.F.Counted.faults c.close.new.files)) closed.1 below
           (one_more_fault (faults_under core) (faults_under last) (g.J.Counted.faults journal)
           (g.F.Port.Counted.faults c.args.port) (g.F.Port.Counted.faults c.execute-history.new.port)
           (g.F.Counted.faults c.args.files.now) (g.F.Counted.faults c.close.new.files)
-          (count_by is_device c.execute-history.result)
+          (count_by told_device c.execute-history.result)
           (c.execute-history.ensures.devices (inr (files, start, None, serving)))
           (subst (λ n. min (g.F.Counted.faults c.args.files.now + g.F.Port.Counted.faults c.execute-history.new.port)
           (2 ^ 64 - 1) ≤ n) (sym c.close.ensures.faults) c.end_port.ensures.faults));

@@ -8,7 +8,7 @@ use Rattle.tsdb_run.proofs.Written.{headline_written, small_sessions}
 use Rattle.tsdb_run.specs.Causes.{IsRefusedStore, ReportsDamage}
 use Rattle.tsdb_run.specs.Output.{output_text}
 use Rattle.tsdb_run.specs.Headline.{Headline}
-use Rattle.tsdb_run.specs.Steps.{IsAnswered, IsOpeningStatus, IsWritten, run_of}
+use Rattle.tsdb_run.specs.Steps.{IsAnswered, IsOpeningStatus, IsOutputWritten, whole_run}
 use Rattle.tsdb_run.specs.Store.{contents}
 use Rattle.tsdb_run.specs.declared.status.Status.TheVariants.{Sink}
 use Rattle.tsdb_script.proofs.ReadingLemmas.{well_formed, within_limits}
@@ -47,12 +47,12 @@ returns-in-Ok-clause-headline g c = λ words left are read.
     let status = c.write_output-status.result in
     let old = g.K.Sink.held c.args.out.now in
     let new = g.K.Sink.held c.write_output-status.new.out in
-    let run = run_of words left (contents (g.P.Disk.state c.args.place.now) (g.P.Place.stored c.args.place.now))
+    let run = whole_run words left (contents (g.P.Disk.state c.args.place.now) (g.P.Place.stored c.args.place.now))
     (contents (g.P.Disk.state c.run_commands.new.place) (g.P.Place.stored c.run_commands.new.place))
     (g.P.Counted.faults c.args.place.now) (g.P.Counted.faults c.run_commands.new.place)
     (g.P.Place.asked c.run_commands.new.place) history old new in
     headline_written run script c.args.asked.now are c.in-Ok.ensures.directory read c.in-Ok.ensures.executed status
-    (subst (λ h. IsWritten status old new (output_text script h)) c.items.ensures c.write_output-status.ensures.written)
+    (subst (λ h. IsOutputWritten status old new (output_text script h)) c.items.ensures c.write_output-status.ensures.written)
 
 pub returns-in-Ok-clause-device : goal.returns-in-Ok-clause-device
 returns-in-Ok-clause-device g c =
@@ -73,7 +73,7 @@ returns-in-Err-clause-in_line_order g c = inl c.end_without_commands.ensures.his
 pub returns-in-Err-clause-headline : goal.returns-in-Err-clause-headline
 returns-in-Err-clause-headline g c = λ words left are read.
     let held = g.K.Sink.held c.args.out.now in
-    let run = run_of words left (contents (g.P.Disk.state c.args.place.now) (g.P.Place.stored c.args.place.now))
+    let run = whole_run words left (contents (g.P.Disk.state c.args.place.now) (g.P.Place.stored c.args.place.now))
     (contents (g.P.Disk.state c.run_commands.new.place) (g.P.Place.stored c.run_commands.new.place))
     (g.P.Counted.faults c.args.place.now) (g.P.Counted.faults c.run_commands.new.place)
     (g.P.Place.asked c.run_commands.new.place) c.end_without_commands.result.history held held in

@@ -2,7 +2,7 @@ use Rattle.std.proofs.Common.{subst, sym, ◌∙◌}
 use Rattle.tsdb_core.specs.Core.{next_of}
 use Rattle.tsdb_serving.proofs.Causes.{cause_before}
 use Rattle.tsdb_serving.proofs.Flushes.{and_then, both_dropped}
-use Rattle.tsdb_serving.specs.Flushing.{GoesOn, IsReady, faults_under, frozen_in}
+use Rattle.tsdb_serving.specs.Flushing.{GoesOn, IsReady, faults_under, frozen_under}
 use Rattle.tsdb_serving.proofs.flushing.flush_both.Goals as goal
 
 pub flush_oldest-requires-in-Ok-clause-ready : goal.flush_oldest-requires-in-Ok-clause-ready
@@ -20,8 +20,8 @@ returns-in-Ok-clause-cause g c = cause_before c.flush_oldest-in-Ok.result (fault
     (next_of c.flush_oldest-in-Ok.new.core) c.flush_oldest.ensures.goes_on.later c.flush_oldest.ensures.later c.flush_oldest-in-Ok.ensures.cause
 
 pub returns-in-Ok-clause-flushed : goal.returns-in-Ok-clause-flushed
-returns-in-Ok-clause-flushed g c = both_dropped (frozen_in c.args.core.now) (frozen_in c.flush_oldest.new.core)
-    (frozen_in c.flush_oldest-in-Ok.new.core) c.flush_oldest-in-Ok.result c.flush_oldest.ensures.few
+returns-in-Ok-clause-flushed g c = both_dropped (frozen_under c.args.core.now) (frozen_under c.flush_oldest.new.core)
+    (frozen_under c.flush_oldest-in-Ok.new.core) c.flush_oldest-in-Ok.result c.flush_oldest.ensures.few
     c.in-Ok.ensures.flushed c.flush_oldest-in-Ok.ensures.flushed
 
 pub returns-in-Ok-clause-working : goal.returns-in-Ok-clause-working

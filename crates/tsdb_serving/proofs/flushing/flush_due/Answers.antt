@@ -1,8 +1,8 @@
 use Rattle.std.proofs.Common.{Ok, ap, arith, subst, sym, ◌∙◌}
 use Rattle.tsdb_core.specs.Core.{logged_of, next_of}
-use Rattle.tsdb_core.specs.Flushes.{IsTakeAnswer, IsTakenOrNot}
+use Rattle.tsdb_core.specs.Flushes.{IsTakeAnswer, IsFlushTakenOrNot}
 use Rattle.tsdb_memory.specs.Logged.{memory_of}
-use Rattle.tsdb_memory.specs.Store.{Store}
+use Rattle.tsdb_memory.specs.Store.{MemoryState}
 use Rattle.tsdb_serving.proofs.Causes.{cause_before, core_cause, full_is}
 use Rattle.tsdb_serving.proofs.Flushes.{dropped, flushed, no_less, not_taken, oldest_still}
 use Rattle.tsdb_serving.proofs.Jobs.{is_busy}
@@ -12,17 +12,17 @@ use Rattle.tsdb_serving.proofs.Full.{few_drawn}
 use Rattle.tsdb_serving.proofs.flushing.flush_due.Goals as goal
 
 pub run_job-requires-clause-is_job : goal.run_job-requires-clause-is_job
-run_job-requires-clause-is_job g c = λ lifetimes lives. (subst (IsTakenOrNot c.args.core.now c.take_flush.new.self) (c.in-Ok-Some.is ∙ ap Ok c.in-Ok-Some.field-0-is)
+run_job-requires-clause-is_job g c = λ lifetimes lives. (subst (IsFlushTakenOrNot c.args.core.now c.take_flush.new.self) (c.in-Ok-Some.is ∙ ap Ok c.in-Ok-Some.field-0-is)
     c.take_flush.ensures.taken).is_job
 
 pub run_job-requires-clause-busy : goal.run_job-requires-clause-busy
 run_job-requires-clause-busy g c = λ lifetimes lives. is_busy (g.F.Port.Port.store c.args.port.now) c.args.core.now c.take_flush.new.self
-    c.in-Ok-Some.job c.take_flush.ensures.memory (subst (IsTakenOrNot c.args.core.now c.take_flush.new.self) (c.in-Ok-Some.is ∙ ap Ok c.in-Ok-Some.field-0-is)
+    c.in-Ok-Some.job c.take_flush.ensures.memory (subst (IsFlushTakenOrNot c.args.core.now c.take_flush.new.self) (c.in-Ok-Some.is ∙ ap Ok c.in-Ok-Some.field-0-is)
     c.take_flush.ensures.taken) c.requires.ready
 
 pub run_job-requires-clause-oldest : goal.run_job-requires-clause-oldest
 run_job-requires-clause-oldest g c = λ lifetimes lives. oldest_still c.args.core.now c.take_flush.new.self c.in-Ok-Some.job
-    c.take_flush.ensures.memory (subst (IsTakenOrNot c.args.core.now c.take_flush.new.self) (c.in-Ok-Some.is ∙ ap Ok c.in-Ok-Some.field-0-is)
+    c.take_flush.ensures.memory (subst (IsFlushTakenOrNot c.args.core.now c.take_flush.new.self) (c.in-Ok-Some.is ∙ ap Ok c.in-Ok-Some.field-0-is)
     c.take_flush.ensures.taken)
 
 pub returns-in-Ok-Some-clause-flushed : goal.returns-in-Ok-Some-clause-flushed
@@ -31,11 +31,11 @@ returns-in-Ok-Some-clause-flushed g c = dropped c.args.core.now c.take_flush.new
 
 pub returns-in-Ok-Some-clause-working : goal.returns-in-Ok-Some-clause-working
 returns-in-Ok-Some-clause-working g c = c.run_job.ensures.working
-    ∙ ap (λ (store : Store). store.working) c.take_flush.ensures.memory.memory
+    ∙ ap (λ (store : MemoryState). store.working) c.take_flush.ensures.memory.memory
 
 pub returns-in-Ok-Some-clause-goes_on : goal.returns-in-Ok-Some-clause-goes_on
 returns-in-Ok-Some-clause-goes_on g c = flushed g.J.Disk.lawful (g.F.Port.Port.store c.args.port.now) c.args.core.now c.take_flush.new.self
-    c.run_job.new.core c.in-Ok-Some.job c.take_flush.ensures.memory (subst (IsTakenOrNot c.args.core.now c.take_flush.new.self) (c.in-Ok-Some.is ∙ ap Ok c.in-Ok-Some.field-0-is)
+    c.run_job.new.core c.in-Ok-Some.job c.take_flush.ensures.memory (subst (IsFlushTakenOrNot c.args.core.now c.take_flush.new.self) (c.in-Ok-Some.is ∙ ap Ok c.in-Ok-Some.field-0-is)
     c.take_flush.ensures.taken)
     c.run_job.ensures.ends
 
@@ -51,19 +51,19 @@ returns-in-Ok-None-clause-flushed g c = absurd (subst (IsTakeAnswer c.args.upto.
     c.take_flush.ensures.answer c.requires.due)
 
 pub returns-in-Ok-None-clause-working : goal.returns-in-Ok-None-clause-working
-returns-in-Ok-None-clause-working g c = ap (λ (store : Store). store.working) c.take_flush.ensures.memory.memory
+returns-in-Ok-None-clause-working g c = ap (λ (store : MemoryState). store.working) c.take_flush.ensures.memory.memory
 
 pub returns-in-Ok-None-clause-goes_on : goal.returns-in-Ok-None-clause-goes_on
 returns-in-Ok-None-clause-goes_on g c = not_taken g.J.Disk.lawful (g.F.Port.Port.store c.args.port.now) c.args.core.now c.take_flush.new.self
-    c.take_flush.ensures.memory (subst (IsTakenOrNot c.args.core.now c.take_flush.new.self)
+    c.take_flush.ensures.memory (subst (IsFlushTakenOrNot c.args.core.now c.take_flush.new.self)
     (c.in-Ok-None.is ∙ ap Ok c.in-Ok-None.field-0-is) c.take_flush.ensures.taken) c.requires.ready
 
 pub returns-in-Err-clause-working : goal.returns-in-Err-clause-working
-returns-in-Err-clause-working g c = ap (λ (store : Store). store.working) c.take_flush.ensures.memory.memory
+returns-in-Err-clause-working g c = ap (λ (store : MemoryState). store.working) c.take_flush.ensures.memory.memory
 
 pub returns-in-Err-clause-goes_on : goal.returns-in-Err-clause-goes_on
 returns-in-Err-clause-goes_on g c = not_taken g.J.Disk.lawful (g.F.Port.Port.store c.args.port.now) c.args.core.now c.take_flush.new.self
-    c.take_flush.ensures.memory (subst (IsTakenOrNot c.args.core.now c.take_flush.new.self) c.in-Err.is
+    c.take_flush.ensures.memory (subst (IsFlushTakenOrNot c.args.core.now c.take_flush.new.self) c.in-Err.is
     c.take_flush.ensures.taken) c.requires.ready
 
 pub returns-in-Err-clause-cause : goal.returns-in-Err-clause-cause
@@ -74,23 +74,23 @@ returns-in-Err-clause-cause g c = subst (HasFlushCause (faults_under c.args.core
     (full_is c.args.upto.0 (next_of c.args.core.now) (memory_of (logged_of c.args.core.now)) c.in-Err.fault
     (subst (IsTakeAnswer c.args.upto.0 (next_of c.args.core.now) (memory_of (logged_of c.args.core.now))) c.in-Err.is
     c.take_flush.ensures.answer))
-    (subst (IsTakenOrNot c.args.core.now c.take_flush.new.self) c.in-Err.is c.take_flush.ensures.taken).next)
+    (subst (IsFlushTakenOrNot c.args.core.now c.take_flush.new.self) c.in-Err.is c.take_flush.ensures.taken).next)
 
 pub returns-in-Ok-Some-clause-draws : goal.returns-in-Ok-Some-clause-draws
 returns-in-Ok-Some-clause-draws g c =
     let ends = c.run_job.ensures.ends.next in
-    let taken = (subst (IsTakenOrNot c.args.core.now c.take_flush.new.self) (c.in-Ok-Some.is ∙ ap Ok c.in-Ok-Some.field-0-is)
+    let taken = (subst (IsFlushTakenOrNot c.args.core.now c.take_flush.new.self) (c.in-Ok-Some.is ∙ ap Ok c.in-Ok-Some.field-0-is)
     c.take_flush.ensures.taken).next in
     let few = few_drawn c.in-Ok-Some.job in
     omega (arith, ends, taken, few)
 
 pub returns-in-Ok-None-clause-draws : goal.returns-in-Ok-None-clause-draws
 returns-in-Ok-None-clause-draws g c =
-    let same = (subst (IsTakenOrNot c.args.core.now c.take_flush.new.self) (c.in-Ok-None.is ∙ ap Ok c.in-Ok-None.field-0-is)
+    let same = (subst (IsFlushTakenOrNot c.args.core.now c.take_flush.new.self) (c.in-Ok-None.is ∙ ap Ok c.in-Ok-None.field-0-is)
     c.take_flush.ensures.taken).next in
     omega (arith, same)
 
 pub returns-in-Err-clause-draws : goal.returns-in-Err-clause-draws
 returns-in-Err-clause-draws g c =
-    let same = (subst (IsTakenOrNot c.args.core.now c.take_flush.new.self) c.in-Err.is c.take_flush.ensures.taken).next in
+    let same = (subst (IsFlushTakenOrNot c.args.core.now c.take_flush.new.self) c.in-Err.is c.take_flush.ensures.taken).next in
     omega (arith, same)

@@ -1,7 +1,7 @@
 use Rattle.std.proofs.Common.{sym, ◌∙◌}
 use Rattle.std.proofs.lemmas.Bool.{false≢true}
 use Rattle.tsdb_core.specs.Core.{working_of}
-use Rattle.tsdb_memory.specs.Fits.{HasNoPoint}
+use Rattle.tsdb_memory.specs.Fits.{HasNoPairPoint}
 use Rattle.tsdb_serving.proofs.Flushes.{froze, nothing}
 use Rattle.tsdb_serving.proofs.flushing.freeze.Goals as goal
 
@@ -10,21 +10,21 @@ returns-then-is_idle-clause-goes_on g c = λ store ready. nothing g.J.Disk.lawfu
 
 pub returns-in-Done-clause-goes_on : goal.returns-in-Done-clause-goes_on
 returns-in-Done-clause-goes_on g c =
-    let filled : ¬ HasNoPoint (working_of c.args.core.now) =
+    let filled : ¬ HasNoPairPoint (working_of c.args.core.now) =
     λ none. absurd (false≢true (sym c.if-is_idle.false ∙ c.is_idle.ensures.1 none)) in
     λ store ready. froze g.J.Disk.lawful store c.args.core.now c.freeze.new.self c.freeze.result
     (c.freeze.ensures.command filled) (c.freeze.ensures.can filled) ready
 
 pub returns-in-Device-clause-goes_on : goal.returns-in-Device-clause-goes_on
 returns-in-Device-clause-goes_on g c =
-    let filled : ¬ HasNoPoint (working_of c.args.core.now) =
+    let filled : ¬ HasNoPairPoint (working_of c.args.core.now) =
     λ none. absurd (false≢true (sym c.if-is_idle.false ∙ c.is_idle.ensures.1 none)) in
     λ store ready. froze g.J.Disk.lawful store c.args.core.now c.freeze.new.self c.freeze.result
     (c.freeze.ensures.command filled) (c.freeze.ensures.can filled) ready
 
 pub returns-in_default-clause-goes_on : goal.returns-in_default-clause-goes_on
 returns-in_default-clause-goes_on g c =
-    let filled : ¬ HasNoPoint (working_of c.args.core.now) =
+    let filled : ¬ HasNoPairPoint (working_of c.args.core.now) =
     λ none. absurd (false≢true (sym c.if-is_idle.false ∙ c.is_idle.ensures.1 none)) in
     λ store ready. froze g.J.Disk.lawful store c.args.core.now c.freeze.new.self c.freeze.result
     (c.freeze.ensures.command filled) (c.freeze.ensures.can filled) ready

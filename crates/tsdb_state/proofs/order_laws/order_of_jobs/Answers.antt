@@ -1,11 +1,11 @@
 use Rattle.tsdb_state.proofs.Parts.{numbers_differ}
 use Rattle.tsdb_state.specs.Jobs.{drawn_numbers}
-use Rattle.tsdb_state.specs.Order.{files_of}
+use Rattle.tsdb_state.specs.Order.{all_files}
 use Rattle.tsdb_state.proofs.order_laws.order_of_jobs.Goals as goal
 
 pub returns-clause-distinct_file_numbers : goal.returns-clause-distinct_file_numbers
 returns-clause-distinct_file_numbers c told known named state order =
-    numbers_differ named state.next_file (files_of state) (drawn_numbers state.flushes state.compactions) order.numbers
+    numbers_differ named state.next_file (all_files state) (drawn_numbers state.flushes state.compactions) order.numbers
 
 pub returns-clause-inputs_stand : goal.returns-clause-inputs_stand
 returns-clause-inputs_stand c told known named state order = order.compactions.stand

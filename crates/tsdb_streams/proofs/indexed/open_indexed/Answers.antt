@@ -7,7 +7,7 @@ use Rattle.tsdb_streams.proofs.IndexedFacts.{opened_of}
 use Rattle.tsdb_streams.proofs.OpenedFacts.{merged_of, zip_all}
 use Rattle.tsdb_streams.specs.Indexed.{source_of}
 use Rattle.tsdb_streams.specs.Kept.{is_kept}
-use Rattle.tsdb_streams.specs.Lanes.{IsLaneOf, IsSourceOf, IsToldLane, IsToldSource, IsTrueLane, IsTrueSource, OpensAs}
+use Rattle.tsdb_streams.specs.Lanes.{IsLaneOfStore, IsSourceOfStore, IsToldLane, IsToldSource, IsTrueLane, IsTrueSource, OpensAs}
 use Rattle.tsdb_merge.specs.Steps.{root_left}
 use Rattle.tsdb_merge.specs.Winners.{IsToldMergeOf}
 use Rattle.tsdb_path.specs.Nodes.{device_of, measurement_of}
@@ -28,7 +28,7 @@ returns-clause-merged g c = λ pages truth.
 pub returns-clause-of_store : goal.returns-clause-of_store
 returns-clause-of_store g c = λ store of.
     let file = g.R.ReadRight.file in
-    zip_all (OpensAs file _) (IsSourceOf file store) (IsLaneOf file store) (map source_of c.args.files.now) c.in_ok-lanes.lanes.items
+    zip_all (OpensAs file _) (IsSourceOfStore file store) (IsLaneOfStore file store) (map source_of c.args.files.now) c.in_ok-lanes.lanes.items
     (λ source lane opened is_of. opened_of file _ store source lane opened is_of) c.in_ok-lanes.ensures of
 
 pub returns-clause-truth : goal.returns-clause-truth

@@ -1,7 +1,7 @@
 use Rattle.std.proofs.Common.{rules}
 use Rattle.std.specs.Prelude.{ℕ, List, Option}
 use Rattle.tsdb_streams.proofs.IndexedFacts.{found_by, opened_of}
-use Rattle.tsdb_streams.specs.declared.source.Source.TheVariants as source
+use Rattle.tsdb_streams.specs.declared.source.StreamSource.TheVariants as source
 use Rattle.tsdb_streams.proofs.OpenFacts.{undamaged_index}
 use Rattle.tsdb_streams.proofs.Reasons.{reason_ok, reason_of}
 use Rattle.tsdb_index.specs.declared.index.IndexEntry.{IndexEntry}

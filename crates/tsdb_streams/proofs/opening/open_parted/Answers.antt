@@ -3,7 +3,7 @@ use Rattle.std.specs.List.{AllZip}
 use Rattle.std.proofs.lemmas.Result.{err_from_is_err_and}
 use Rattle.std.specs.Prelude.{All, flat_map}
 use Rattle.tsdb_streams.proofs.OpenedFacts.{zip_all}
-use Rattle.tsdb_streams.specs.Lanes.{IsLaneOf, IsToldLane, IsToldSource, IsTrueLane, IsTrueSource, OpensAs}
+use Rattle.tsdb_streams.specs.Lanes.{IsLaneOfStore, IsToldLane, IsToldSource, IsTrueLane, IsTrueSource, OpensAs}
 use Rattle.tsdb_streams.proofs.Reasons.{reason_memory, reason_ok, same_reason}
 use Rattle.tsdb_path.specs.Nodes.{device_of, measurement_of}
 use Rattle.tsdb_merge.specs.Steps.{root_left}
@@ -63,7 +63,7 @@ pub returns-clause-of_store : goal.returns-clause-of_store
 returns-clause-of_store g c =
     let file = g.P.Right.ReadRight.file in
     let asked : Kept = record { series = c.args.series; range = c.args.range.now; marks = c.args.marks } in
-    all_cleaned asked c.in_ok-lanes.lanes.items c.pass_clean.new.lanes.items (IsLaneOf file (g.P.Port.store c.open_sources.new.port)) (flagged_of file (g.P.Port.store c.open_sources.new.port)) c.in_ok-pass_clean.ensures c.in_ok-lanes.ensures.of_store
+    all_cleaned asked c.in_ok-lanes.lanes.items c.pass_clean.new.lanes.items (IsLaneOfStore file (g.P.Port.store c.open_sources.new.port)) (flagged_of file (g.P.Port.store c.open_sources.new.port)) c.in_ok-pass_clean.ensures c.in_ok-lanes.ensures.of_store
 
 pub returns-in_err-pass_clean-clause-reason : goal.returns-in_err-pass_clean-clause-reason
 returns-in_err-pass_clean-clause-reason g c = λ pages truth.

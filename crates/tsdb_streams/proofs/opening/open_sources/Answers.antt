@@ -5,7 +5,7 @@ use Rattle.std.proofs.lemmas.List.{nil_from_length}
 use Rattle.std.proofs.lemmas.Result.{err_from_is_err_and}
 use Rattle.tsdb_streams.proofs.OpenLoop.{all_opened, next_all, next_fault, next_of, opening_more, opening_none}
 use Rattle.tsdb_streams.proofs.Reasons.{reason_memory, reason_ok}
-use Rattle.tsdb_streams.specs.Lanes.{IsLaneOf, IsSourceOf, IsToldSource, IsTrueSource}
+use Rattle.tsdb_streams.specs.Lanes.{IsLaneOfStore, IsSourceOfStore, IsToldSource, IsTrueSource}
 use Rattle.tsdb_streams.proofs.opening.open_sources.Goals as goal
 
 pub loop-source-init : goal.loop-source-init
@@ -17,7 +17,7 @@ loop-source-init g c = record {
 pub open_source-requires-clause-of_store : goal.open_source-requires-clause-of_store
 open_source-requires-clause-of_store g c = λ lifetimes lives.
     let inv = c.loop-source.invariant.opening in
-    subst (λ s. IsSourceOf g.P.Right.ReadRight.file s c.in-Some.source) (sym inv.same_store) (next_of _ _ _ _ _ _ _ _ _ _ _ c.in-Some.source inv c.in-Some.ensures.steps.0)
+    subst (λ s. IsSourceOfStore g.P.Right.ReadRight.file s c.in-Some.source) (sym inv.same_store) (next_of _ _ _ _ _ _ _ _ _ _ _ c.in-Some.source inv c.in-Some.ensures.steps.0)
 
 pub loop-source-preserved : goal.loop-source-preserved
 loop-source-preserved g c =
@@ -27,7 +27,7 @@ loop-source-preserved g c =
     record {
       finite = (tt, tt);
       opening = opening_more _ _ _ _ _ _ _ _ _ _ (into_iter_items c.loop-source.source-iterator) (into_iter_items c.next.new.self) c.loop-source.lanes.items c.push.new.self.items c.in-Some.source c.in_ok-open_source.field-0
-          inv c.in-Some.ensures.steps.0 pushed done.opens (subst (λ s. IsLaneOf g.P.Right.ReadRight.file s c.in_ok-open_source.field-0) (done.same_store ∙ inv.same_store) done.of_store) done.same_store done.later;
+          inv c.in-Some.ensures.steps.0 pushed done.opens (subst (λ s. IsLaneOfStore g.P.Right.ReadRight.file s c.in_ok-open_source.field-0) (done.same_store ∙ inv.same_store) done.of_store) done.same_store done.later;
     }
 
 pub returns-in_err-open_source-clause-reason : goal.returns-in_err-open_source-clause-reason
@@ -59,7 +59,7 @@ returns-clause-opens g c =
 pub returns-clause-of_store : goal.returns-clause-of_store
 returns-clause-of_store g c =
     let inv = c.loop-source.invariant.opening in
-    subst (λ s. All (IsLaneOf g.P.Right.ReadRight.file s) c.loop-source.lanes.items) (sym inv.same_store) inv.lanes_of
+    subst (λ s. All (IsLaneOfStore g.P.Right.ReadRight.file s) c.loop-source.lanes.items) (sym inv.same_store) inv.lanes_of
 
 pub returns-clause-reason : goal.returns-clause-reason
 returns-clause-reason g c = λ pages truth. reason_ok _ _ _ _ c.loop-source.invariant.opening.later

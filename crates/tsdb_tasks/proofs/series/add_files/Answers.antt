@@ -2,7 +2,7 @@ use Rattle.std.proofs.Common.{[], map, subst, sym, take, ◌+◌, ◌++◌}
 use Rattle.std.specs.Global.{Vec as Items}
 use Rattle.std.specs.List.{flat_map}
 use Rattle.tsdb_tasks.proofs.Gathering.{file_added, no_series, none_added, series_found}
-use Rattle.tsdb_tasks.specs.Series.{AreOfPaths, path_in, series_in}
+use Rattle.tsdb_tasks.specs.Series.{AreOfPaths, input_path, series_in}
 use Rattle.tsdb_tasks.specs.declared.series.InputSeries.{InputSeries}
 use Rattle.tsdb_plan.specs.declared.entry.FileEntry.{FileEntry}
 use Rattle.tsdb_tasks.proofs.series.add_files.Goals.{in-Some+in_ok-add_paths, in_default}
@@ -14,7 +14,7 @@ loop-entry-init g c = none_added _ c.requires
 pub loop-entry-preserved : goal.loop-entry-preserved
 loop-entry-preserved g c =
     let files = c.args.files.now in
-    let before = map path_in c.args.all.now.items in
+    let before = map input_path c.args.all.now.items in
     let i = c.loop-entry.entry-index in
     let entry = c.entry-item.result in
     elim c.match-series.branch [

@@ -1,7 +1,7 @@
 use Rattle.std.proofs.Common.{List, ℕ, ap, map, ◌∙◌}
 use Rattle.std.specs.List.{filter, flat_map}
 use Rattle.tsdb_tasks.proofs.Schemas.{of_job}
-use Rattle.tsdb_tasks.specs.Series.{path_in, run_paths, schemas_at}
+use Rattle.tsdb_tasks.specs.Series.{input_path, run_paths, schemas_at}
 use Rattle.tsdb_tasks.specs.declared.series.InputSeries.{InputSeries}
 use Rattle.tsdb_marks.specs.Lists.{Marks, is_of}
 use Rattle.tsdb_tasks.proofs.series.job_series.Goals as goal
@@ -13,7 +13,7 @@ returns g c =
     of_job (run_paths c.args.runs c.args.files.now) store series _ c.sound.ensures c.in_ok-series.ensures.all
     c.in_ok-series.ensures.order
     (c.in_ok-only.ensures ∙ ap (λ (ps : List (List ℕ)). filter (is_of ps) c.marks.result.now.marks)
-    (c.as_slice-2.ensures.value ∙ c.in_ok-paths.ensures ∙ ap (map path_in) c.as_slice.ensures.value)
-    ∙ ap (λ (m : Marks). filter (is_of (map path_in series)) m.marks) c.marks.ensures)
-    (c.in_ok-schemas_of.ensures ∙ ap (flat_map (λ (one : InputSeries). schemas_at store.series (path_in one)))
+    (c.as_slice-2.ensures.value ∙ c.in_ok-paths.ensures ∙ ap (map input_path) c.as_slice.ensures.value)
+    ∙ ap (λ (m : Marks). filter (is_of (map input_path series)) m.marks) c.marks.ensures)
+    (c.in_ok-schemas_of.ensures ∙ ap (flat_map (λ (one : InputSeries). schemas_at store.series (input_path one)))
     c.as_slice-3.ensures.value)

@@ -1,6 +1,6 @@
 use Rattle.std.proofs.Common.{◌≡◌, map, take}
-use Rattle.tsdb_tasks.specs.Series.{path_in}
+use Rattle.tsdb_tasks.specs.Series.{input_path}
 use Rattle.tsdb_tasks.proofs.series.paths_of.Given as goal
 
 abbrev pub invariant-loop-one : goal.invariant-loop-one
-invariant-loop-one l = l.paths.items ≡ map path_in (take l.one-index l.series)
+invariant-loop-one l = l.paths.items ≡ map input_path (take l.one-index l.series)

@@ -4,7 +4,7 @@ use Rattle.tsdb_fields.specs.declared.rest.Rest.{Rest}
 use Rattle.tsdb_index.specs.declared.index.IndexEntry.{IndexEntry}
 use Rattle.tsdb_index.specs.declared.index.PageEntry.{PageEntry}
 use Rattle.tsfile_reader.specs.declared.parts.Pages.{Pages}
-use Rattle.tsfile_reader.specs.Parts.{Part}
+use Rattle.tsfile_reader.specs.Parts.{FilePart}
 use Rattle.tsfile_reader.specs.Steps.{ReadsChunk, ReadsPages, StopsBehind, chunk_part}
 use Rattle.tsfile_reader.proofs.ChunkLoop.{chunk_read}
 use Rattle.tsfile_reader.proofs.PageLoop.{pass_stop}
@@ -16,7 +16,7 @@ returns-in_err-pages c =
     let h = c.args.head in
     let e = c.in_err-pages in
     let lacks = pass_stop (λ (r : Pages × Rest). ReadsPages h.data_type h.encoding c.args.rest r.1 r.0) (λ (r : IndexEntry × Rest). ReadsChunk c.args.device.now h c.args.place c.args.rest r.1 r.0)
-    (λ at. (m : List ℕ) → StopsBehind (Part.Chunk m h.data_type h.encoding) c.args.rest at) (StopsBehind (chunk_part h) c.args.rest) e.field-0.0 e.ensures (λ at stops. stops h.measurement) in
+    (λ at. (m : List ℕ) → StopsBehind (FilePart.Chunk m h.data_type h.encoding) c.args.rest at) (StopsBehind (chunk_part h) c.args.rest) e.field-0.0 e.ensures (λ at stops. stops h.measurement) in
     rw (p.1, p.2) lacks
 
 pub returns : goal.returns

@@ -6,7 +6,7 @@ use Rattle.tsdb_base.specs.Plain.{BeginsWithNone}
 use Rattle.tsdb_fields.specs.declared.rest.Rest.{Rest}
 use Rattle.tsdb_index.specs.declared.index.IndexEntry.{IndexEntry}
 use Rattle.tsfile_reader.specs.declared.page.ChunkHead.{ChunkHead}
-use Rattle.tsfile_reader.specs.Parts.{Part}
+use Rattle.tsfile_reader.specs.Parts.{FilePart}
 use Rattle.tsfile_reader.specs.Steps.{IsChunkHead, IsLaterHead, ReadsChunk, ReadsChunks, StopsBehind, chunk_part}
 use Rattle.tsfile_reader.proofs.ChunkLoop.{all_chunks, first_chunk, in_first_chunk, in_next_chunk, last_measurement, next_chunk_read, no_first_chunk, no_next_chunk, some_entries}
 use Rattle.tsfile_reader.proofs.Later.{head_bytes}
@@ -16,7 +16,7 @@ use Rattle.tsfile_reader.proofs.parts.read_chunks.Goals as goal
 pub returns-in-Err : goal.returns-in-Err
 returns-in-Err c =
     let d = c.args.device.now in
-    stop head_bytes IsChunkHead c.args.rest (λ (h : ChunkHead). h) c.in-Err.fault c.of_part.result c.args.rest.at (λ (r : Vec IndexEntry Global × Rest). ReadsChunks d c.args.rest r.1 r.0.items) (StopsBehind (Part.Group d) c.args.rest) c.in-Err.ensures.parts c.of_part.ensures
+    stop head_bytes IsChunkHead c.args.rest (λ (h : ChunkHead). h) c.in-Err.fault c.of_part.result c.args.rest.at (λ (r : Vec IndexEntry Global × Rest). ReadsChunks d c.args.rest r.1 r.0.items) (StopsBehind (FilePart.Group d) c.args.rest) c.in-Err.ensures.parts c.of_part.ensures
     (λ none. no_first_chunk d c.args.rest none)
 
 pub returns-in_err-entry : goal.returns-in_err-entry
@@ -26,7 +26,7 @@ returns-in_err-entry c =
     let h = c.in-Ok.read.0 in
     let b = c.in-Ok.read.1 in
     let e = c.in_err-entry in
-    let lacks = pass_stop (λ (r : IndexEntry × Rest). ReadsChunk d h c.args.rest.at b r.1 r.0) (λ (r : Vec IndexEntry Global × Rest). ReadsChunks d c.args.rest r.1 r.0.items) (StopsBehind (chunk_part h) b) (StopsBehind (Part.Group d) c.args.rest) e.field-0.0 e.ensures
+    let lacks = pass_stop (λ (r : IndexEntry × Rest). ReadsChunk d h c.args.rest.at b r.1 r.0) (λ (r : Vec IndexEntry Global × Rest). ReadsChunks d c.args.rest r.1 r.0.items) (StopsBehind (chunk_part h) b) (StopsBehind (FilePart.Group d) c.args.rest) e.field-0.0 e.ensures
     (λ at stops. in_first_chunk d c.args.rest b h at c.in-Ok.ensures.parts.1 c.in-Ok.ensures.parts.0 stops) in
     rw (p.1, p.2) lacks
 
@@ -58,9 +58,9 @@ returns-in-Err-read_next_head c =
     let len = c.len.ensures in
     let same = last_measurement d c.args.rest left c.chunks.entries.items so_far c.index.result.now c.len.result (omega (arith, ok, len)) c.index.ensures in
     let e = c.in-Err-read_next_head in
-    stop head_bytes (IsLaterHead c.index.result.now.measurement) left (λ (h : ChunkHead). h) e.fault c.of_part-in-Err-read_next_head.result left.at (λ (r : Vec IndexEntry Global × Rest). ReadsChunks d c.args.rest r.1 r.0.items) (StopsBehind (Part.Group d) c.args.rest) e.ensures.parts
+    stop head_bytes (IsLaterHead c.index.result.now.measurement) left (λ (h : ChunkHead). h) e.fault c.of_part-in-Err-read_next_head.result left.at (λ (r : Vec IndexEntry Global × Rest). ReadsChunks d c.args.rest r.1 r.0.items) (StopsBehind (FilePart.Group d) c.args.rest) e.ensures.parts
     c.of_part-in-Err-read_next_head.ensures
-    (λ none. no_next_chunk d c.args.rest left c.chunks.entries.items so_far (c.begins_with.ensures.0 c.chunks-test.true) (subst (λ (m : List ℕ). BeginsWithNone head_bytes (IsLaterHead m) c.chunks.left.bytes.now) same none))
+    (λ none. no_next_chunk d c.args.rest left c.chunks.entries.items so_far (c.begins_with_mark.ensures.0 c.chunks-test.true) (subst (λ (m : List ℕ). BeginsWithNone head_bytes (IsLaterHead m) c.chunks.left.bytes.now) same none))
 
 pub returns-in_err-entry-2 : goal.returns-in_err-entry-2
 returns-in_err-entry-2 c =
@@ -76,7 +76,7 @@ returns-in_err-entry-2 c =
     let parts = c.in-Ok-read_next_head.ensures.parts in
     let later : IsLaterHead c.chunks.invariant.final.measurement c.in-Ok-read_next_head.read.0 = subst (λ (m : List ℕ). IsLaterHead m c.in-Ok-read_next_head.read.0) same parts.1 in
     let e = c.in_err-entry-2 in
-    let lacks = pass_stop (λ (r : IndexEntry × Rest). ReadsChunk d h left.at b r.1 r.0) (λ (r : Vec IndexEntry Global × Rest). ReadsChunks d c.args.rest r.1 r.0.items) (StopsBehind (chunk_part h) b) (StopsBehind (Part.Group d) c.args.rest) e.field-0.0 e.ensures
+    let lacks = pass_stop (λ (r : IndexEntry × Rest). ReadsChunk d h left.at b r.1 r.0) (λ (r : Vec IndexEntry Global × Rest). ReadsChunks d c.args.rest r.1 r.0.items) (StopsBehind (chunk_part h) b) (StopsBehind (FilePart.Group d) c.args.rest) e.field-0.0 e.ensures
     (λ at stops. in_next_chunk d c.args.rest left b c.chunks.entries.items so_far h at later parts.0 stops) in
     rw (p.1, p.2) lacks
 
@@ -97,7 +97,7 @@ chunks-preserved c =
 
 pub returns : goal.returns
 returns c =
-    all_chunks c.args.device.now c.args.rest c.chunks.left c.chunks.entries.items c.chunks.invariant (λ mark. let held = c.begins_with.ensures.1 mark in false≢true (sym c.chunks-test.false ∙ held))
+    all_chunks c.args.device.now c.args.rest c.chunks.left c.chunks.entries.items c.chunks.invariant (λ mark. let held = c.begins_with_mark.ensures.1 mark in false≢true (sym c.chunks-test.false ∙ held))
 
 pub chunks-smaller : goal.chunks-smaller
 chunks-smaller c = grind (arith, common_steps)

@@ -9,7 +9,7 @@ use Rattle.tsdb_pages.specs.File.{head}
 use Rattle.tsdb_pages.specs.Trees.{IsBefore}
 use Rattle.tsdb_path.specs.Nodes.{IsPath}
 use Rattle.tsfile_reader.specs.Blame.{HasGroups, IsFirstBadPart}
-use Rattle.tsfile_reader.specs.Parts.{Part}
+use Rattle.tsfile_reader.specs.Parts.{FilePart}
 use Rattle.tsfile_reader.specs.Steps.{ReadsChunks, StopsBehind}
 use Rattle.tsfile_reader.proofs.GroupLoop.{all_groups, first_group, in_first_group, in_next_group, next_group, no_first_group, no_next_group}
 use Rattle.tsfile_reader.proofs.Later.{group_bytes}
@@ -29,7 +29,7 @@ returns-in_err-entries c =
     let d = c.in-Ok.read.0 in
     let b = c.in-Ok.read.1 in
     let e = c.in_err-entries in
-    let lacks = pass_stop (λ (r : Vec IndexEntry Global × Rest). ReadsChunks d b r.1 r.0.items) (λ (entries : Vec IndexEntry Global). (x : Tree) × HasGroups c.args.rest.bytes.now x entries.items) (StopsBehind (Part.Group d) b) (IsFirstBadPart (length head) rest.bytes.now) e.field-0.0 e.ensures
+    let lacks = pass_stop (λ (r : Vec IndexEntry Global × Rest). ReadsChunks d b r.1 r.0.items) (λ (entries : Vec IndexEntry Global). (x : Tree) × HasGroups c.args.rest.bytes.now x entries.items) (StopsBehind (FilePart.Group d) b) (IsFirstBadPart (length head) rest.bytes.now) e.field-0.0 e.ensures
     (λ at stops. subst (λ (n : ℕ). IsFirstBadPart n c.args.rest.bytes.now at) c.requires (in_first_group rest b d at c.in-Ok.ensures.parts.1 c.in-Ok.ensures.parts.0 stops)) in
     rw (p.1, p.2) lacks
 
@@ -58,7 +58,7 @@ returns-in_err-more c =
     let b = c.in-Ok-read_next_group.read.1 in
     let parts = c.in-Ok-read_next_group.ensures.parts in
     let e = c.in_err-more in
-    let lacks = pass_stop (λ (r : Vec IndexEntry Global × Rest). ReadsChunks d b r.1 r.0.items) (λ (entries : Vec IndexEntry Global). (x : Tree) × HasGroups c.args.rest.bytes.now x entries.items) (StopsBehind (Part.Group d) b) (IsFirstBadPart (length head) rest.bytes.now) e.field-0.0 e.ensures
+    let lacks = pass_stop (λ (r : Vec IndexEntry Global × Rest). ReadsChunks d b r.1 r.0.items) (λ (entries : Vec IndexEntry Global). (x : Tree) × HasGroups c.args.rest.bytes.now x entries.items) (StopsBehind (FilePart.Group d) b) (IsFirstBadPart (length head) rest.bytes.now) e.field-0.0 e.ensures
     (λ at stops. subst (λ (n : ℕ). IsFirstBadPart n c.args.rest.bytes.now at) c.requires (in_next_group rest left b c.groups.entries.items c.groups.last d at c.groups.invariant parts.1.0 parts.1.1 parts.0 stops)) in
     rw (p.1, p.2) lacks
 

@@ -6,7 +6,7 @@ use Rattle.tsdb_pages.specs.declared.tree.Page.{Page}
 use Rattle.tsfile_reader.specs.declared.parts.Pages.{Pages}
 use Rattle.tsdb_pages.specs.File.{page_bytes}
 use Rattle.tsfile_reader.specs.Page.{AreGood}
-use Rattle.tsfile_reader.specs.Parts.{Part}
+use Rattle.tsfile_reader.specs.Parts.{FilePart}
 use Rattle.tsfile_reader.specs.Steps.{AreLaterPoints, ReadsPages, StopsBehind}
 use Rattle.tsfile_reader.proofs.PageLoop.{first_so_far, next_so_far, none_first, none_later, place_of_next, room, stop}
 use Rattle.tsfile_reader.proofs.parts.read_pages.Goals as goal
@@ -15,7 +15,7 @@ pub returns-in-Err : goal.returns-in-Err
 returns-in-Err c =
     let t = c.args.data_type in
     let e = c.args.encoding in
-    stop (page_bytes e) (AreGood t) c.args.rest (λ (v : Vec Point Global). v.items) c.in-Err.fault c.of_part.result c.args.rest.at (λ (r : Pages × Rest). ReadsPages t e c.args.rest r.1 r.0) (λ at. (m : List ℕ) → StopsBehind (Part.Chunk m t e) c.args.rest at) c.in-Err.ensures.parts c.of_part.ensures
+    stop (page_bytes e) (AreGood t) c.args.rest (λ (v : Vec Point Global). v.items) c.in-Err.fault c.of_part.result c.args.rest.at (λ (r : Pages × Rest). ReadsPages t e c.args.rest r.1 r.0) (λ at. (m : List ℕ) → StopsBehind (FilePart.Chunk m t e) c.args.rest at) c.in-Err.ensures.parts c.of_part.ensures
     (λ none. none_first t e c.args.rest none)
 
 pub pages-init : goal.pages-init
@@ -48,8 +48,8 @@ pub returns-in-Err-read_next_page : goal.returns-in-Err-read_next_page
 returns-in-Err-read_next_page c =
     let t = c.args.data_type in
     let e = c.args.encoding in
-    stop (page_bytes e) (AreLaterPoints t c.pages.pages) c.pages.left (λ (v : Vec Point Global). v.items) c.in-Err-read_next_page.fault c.of_part-in-Err-read_next_page.result c.pages.left.at (λ (r : Pages × Rest). ReadsPages t e c.args.rest r.1 r.0) (λ at. (m : List ℕ) → StopsBehind (Part.Chunk m t e) c.args.rest at)
-    c.in-Err-read_next_page.ensures.parts c.of_part-in-Err-read_next_page.ensures (λ none. none_later t e c.args.rest c.pages.left c.pages.pages c.pages.invariant (c.begins_with.ensures.0 c.pages-test.true) none)
+    stop (page_bytes e) (AreLaterPoints t c.pages.pages) c.pages.left (λ (v : Vec Point Global). v.items) c.in-Err-read_next_page.fault c.of_part-in-Err-read_next_page.result c.pages.left.at (λ (r : Pages × Rest). ReadsPages t e c.args.rest r.1 r.0) (λ at. (m : List ℕ) → StopsBehind (FilePart.Chunk m t e) c.args.rest at)
+    c.in-Err-read_next_page.ensures.parts c.of_part-in-Err-read_next_page.ensures (λ none. none_later t e c.args.rest c.pages.left c.pages.pages c.pages.invariant (c.begins_with_mark.ensures.0 c.pages-test.true) none)
 
 pub pages-smaller : goal.pages-smaller
 pages-smaller c = grind (arith, common_steps)

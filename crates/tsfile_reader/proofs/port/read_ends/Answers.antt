@@ -1,7 +1,7 @@
 use Rattle.std.proofs.Common.{ℕ, List, Err, refl, subst, arith, rules}
 use Rattle.tsdb_index.specs.Faults.{ReadsWhole}
 use Rattle.tsfile_reader.specs.Outline.{IsTail}
-use Rattle.tsfile_reader.specs.Steps.{HasEnds}
+use Rattle.tsfile_reader.specs.Steps.{HasFileEnds}
 use Rattle.tsfile_reader.proofs.Outlines.{has_ends, head_bad, is_short, tail_bad}
 use Rattle.tsfile_reader.proofs.port.read_ends.Goals as goal
 
@@ -12,7 +12,7 @@ pub returns-in-Err-clause-answers : goal.returns-in-Err-clause-answers
 returns-in-Err-clause-answers g c =
     let o = (g.P.Right.ReadRight.file c.args.right.now).bytes in
     let read = subst (λ (t : List ℕ). ReadsWhole (IsTail c.in_ok-size.size t) (λ (n : ℕ). n) (Err c.in-Err.fault)) c.deref.ensures.value c.in-Err.ensures in
-    tail_bad HasEnds o c.in_ok-size.size c.in_ok-tail.tail.items (λ (n : ℕ). n) c.in-Err.fault c.of_part.result c.in_ok-size.ensures.length (omega arith) c.in_ok-tail.ensures.bytes read (search rules)
+    tail_bad HasFileEnds o c.in_ok-size.size c.in_ok-tail.tail.items (λ (n : ℕ). n) c.in-Err.fault c.of_part.result c.in_ok-size.ensures.length (omega arith) c.in_ok-tail.ensures.bytes read (search rules)
 
 pub returns-then-not-is_head-clause-answers : goal.returns-then-not-is_head-clause-answers
 returns-then-not-is_head-clause-answers g c =

@@ -4,9 +4,9 @@ use Rattle.std.proofs.lemmas.Result.{err_from_is_err_and}
 use Rattle.std.specs.Prelude.{Contains, IsErrAnd, IsErrOf, OnErr, Result}
 use Rattle.tsdb_outside.specs.declared.faults.StoreFault.{StoreFault}
 use Rattle.tsdb_outside.specs.declared.faults.StoreFault.TheVariants.{Failed, Memory}
-use Rattle.tsdb_outside.specs.Files.{numbers_of}
-use Rattle.mem_outside.specs.declared.entry.Entry.{Entry}
-use Rattle.mem_outside.specs.Entry.{entry_files, TakesNode}
+use Rattle.tsdb_outside.specs.Files.{stored_file_numbers}
+use Rattle.mem_outside.specs.declared.entry.StoredEntry.{StoredEntry}
+use Rattle.mem_outside.specs.Entry.{entry_files, TakesFileNode}
 use Rattle.mem_outside.proofs.EntryLemmas.{none_found}
 use Rattle.mem_outside.proofs.files.MemFilesFiles.fetch.Goals as goal
 
@@ -49,8 +49,8 @@ on_err_too (Err error) holds = holds
 
 pub returns-in-None-clause-none : goal.returns-in-None-clause-none
 returns-in-None-clause-none c =
-    subst (λ (l : List Entry). Contains (numbers_of (entry_files l)) c.args.number.0 → ⊥) c.call.ensures.at_rest
-    (none_found (λ node. TakesNode c.args.number.0 node c.call.new.self.at_rest c.take_node.new.entries)
+    subst (λ (l : List StoredEntry). Contains (stored_file_numbers (entry_files l)) c.args.number.0 → ⊥) c.call.ensures.at_rest
+    (none_found (λ node. TakesFileNode c.args.number.0 node c.call.new.self.at_rest c.take_node.new.entries)
     c.in_ok-node.field-0 c.in-None.is c.in_ok-node.ensures.none)
 
 pub returns-in_err-call-clause-drawn : goal.returns-in_err-call-clause-drawn
@@ -78,7 +78,7 @@ pub returns-in_err-call-clause-same_store : goal.returns-in_err-call-clause-same
 returns-in_err-call-clause-same_store c = c.call.ensures.same_store
 
 pub returns-in_err-call-clause-err : goal.returns-in_err-call-clause-err
-returns-in_err-call-clause-err c = on_err_too c.from_residual.result (ap (λ (l : List Entry). Some (entry_files l)) c.call.ensures.at_rest)
+returns-in_err-call-clause-err c = on_err_too c.from_residual.result (ap (λ (l : List StoredEntry). Some (entry_files l)) c.call.ensures.at_rest)
 
 pub returns-in_err-directory-clause-drawn : goal.returns-in_err-directory-clause-drawn
 returns-in_err-directory-clause-drawn c = c.call.ensures.drawn
@@ -108,7 +108,7 @@ returns-in_err-directory-clause-same_store c = c.call.ensures.same_store
 
 pub returns-in_err-directory-clause-err : goal.returns-in_err-directory-clause-err
 returns-in_err-directory-clause-err c =
-    on_err_too c.from_residual-in_err-directory.result (ap (λ (l : List Entry). Some (entry_files l)) c.call.ensures.at_rest)
+    on_err_too c.from_residual-in_err-directory.result (ap (λ (l : List StoredEntry). Some (entry_files l)) c.call.ensures.at_rest)
 
 pub returns-in_err-node-clause-drawn : goal.returns-in_err-node-clause-drawn
 returns-in_err-node-clause-drawn c = c.call.ensures.drawn
@@ -138,7 +138,7 @@ returns-in_err-node-clause-same_store c = c.call.ensures.same_store
 
 pub returns-in_err-node-clause-err : goal.returns-in_err-node-clause-err
 returns-in_err-node-clause-err c =
-    on_err_too c.from_residual-in_err-node.result (ap (λ (l : List Entry). Some (entry_files l)) (c.in_err-node.ensures.err ∙ c.call.ensures.at_rest))
+    on_err_too c.from_residual-in_err-node.result (ap (λ (l : List StoredEntry). Some (entry_files l)) (c.in_err-node.ensures.err ∙ c.call.ensures.at_rest))
 
 pub returns-in-Some-clause-drawn : goal.returns-in-Some-clause-drawn
 returns-in-Some-clause-drawn c = c.call.ensures.drawn
@@ -190,4 +190,4 @@ returns-in-None-clause-same_store c = c.call.ensures.same_store
 
 pub returns-in-None-clause-same : goal.returns-in-None-clause-same
 returns-in-None-clause-same c =
-    λ none. ap (λ (l : List Entry). Some (entry_files l)) (c.in_ok-node.ensures.same c.in-None.is ∙ c.call.ensures.at_rest)
+    λ none. ap (λ (l : List StoredEntry). Some (entry_files l)) (c.in_ok-node.ensures.same c.in-None.is ∙ c.call.ensures.at_rest)

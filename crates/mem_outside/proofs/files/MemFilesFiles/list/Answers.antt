@@ -6,7 +6,7 @@ use Rattle.tsdb_outside.specs.declared.faults.StoreFault.{StoreFault}
 use Rattle.tsdb_outside.specs.declared.faults.StoreFault.TheVariants.{Failed, Memory}
 use Rattle.mem_outside.specs.Entry.{entry_files}
 use Rattle.tsdb_outside.specs.Files.{plain_numbers}
-use Rattle.mem_outside.specs.declared.entry.Entry.{Entry}
+use Rattle.mem_outside.specs.declared.entry.StoredEntry.{StoredEntry}
 use Rattle.mem_outside.proofs.EntryLemmas.{same_numbers}
 use Rattle.mem_outside.proofs.files.MemFilesFiles.list.Goals as goal
 
@@ -45,7 +45,7 @@ ok_fails_not value never = (λ is. never_err _ _ is, λ holds. absurd (never hol
 
 pub returns-clause-exact : goal.returns-clause-exact
 returns-clause-exact c =
-    let collected : c.in_ok-numbers.numbers.items ≡ map (λ (entry : Entry). entry.number) c.args.self.now.at_rest = search rules in
+    let collected : c.in_ok-numbers.numbers.items ≡ map (λ (entry : StoredEntry). entry.number) c.args.self.now.at_rest = search rules in
     λ n fits. subst (λ (l : List ℕ). Contains (plain_numbers c.in_ok-list_of_numbers.field-0.items) n ↔ Contains l n)
     (collected ∙ sym (same_numbers c.args.self.now.at_rest)) (c.in_ok-list_of_numbers.ensures.exact n fits)
 
@@ -65,7 +65,7 @@ pub returns-in_err-call-clause-no_fault : goal.returns-in_err-call-clause-no_fau
 returns-in_err-call-clause-no_fault c = λ never. absurd (false≢true (c.in_err-call.ensures.never never))
 
 pub returns-in_err-call-clause-same : goal.returns-in_err-call-clause-same
-returns-in_err-call-clause-same c = ap (λ (l : List Entry). Some (entry_files l)) c.call.ensures.at_rest
+returns-in_err-call-clause-same c = ap (λ (l : List StoredEntry). Some (entry_files l)) c.call.ensures.at_rest
 
 pub returns-in_err-call-clause-record : goal.returns-in_err-call-clause-record
 returns-in_err-call-clause-record c = (c.call.ensures.at_rest, c.call.ensures.gone)
@@ -94,7 +94,7 @@ pub returns-in_err-numbers-clause-no_fault : goal.returns-in_err-numbers-clause-
 returns-in_err-numbers-clause-no_fault c = λ never. c.in_ok-call.ensures.no_fault
 
 pub returns-in_err-numbers-clause-same : goal.returns-in_err-numbers-clause-same
-returns-in_err-numbers-clause-same c = ap (λ (l : List Entry). Some (entry_files l)) c.call.ensures.at_rest
+returns-in_err-numbers-clause-same c = ap (λ (l : List StoredEntry). Some (entry_files l)) c.call.ensures.at_rest
 
 pub returns-in_err-numbers-clause-record : goal.returns-in_err-numbers-clause-record
 returns-in_err-numbers-clause-record c = (c.call.ensures.at_rest, c.call.ensures.gone)
@@ -123,7 +123,7 @@ pub returns-in_err-list_of_numbers-clause-no_fault : goal.returns-in_err-list_of
 returns-in_err-list_of_numbers-clause-no_fault c = λ never. c.in_ok-call.ensures.no_fault
 
 pub returns-in_err-list_of_numbers-clause-same : goal.returns-in_err-list_of_numbers-clause-same
-returns-in_err-list_of_numbers-clause-same c = ap (λ (l : List Entry). Some (entry_files l)) c.call.ensures.at_rest
+returns-in_err-list_of_numbers-clause-same c = ap (λ (l : List StoredEntry). Some (entry_files l)) c.call.ensures.at_rest
 
 pub returns-in_err-list_of_numbers-clause-record : goal.returns-in_err-list_of_numbers-clause-record
 returns-in_err-list_of_numbers-clause-record c = (c.call.ensures.at_rest, c.call.ensures.gone)
@@ -147,7 +147,7 @@ pub returns-clause-no_fault : goal.returns-clause-no_fault
 returns-clause-no_fault c = λ never. c.in_ok-call.ensures.no_fault
 
 pub returns-clause-same : goal.returns-clause-same
-returns-clause-same c = ap (λ (l : List Entry). Some (entry_files l)) c.call.ensures.at_rest
+returns-clause-same c = ap (λ (l : List StoredEntry). Some (entry_files l)) c.call.ensures.at_rest
 
 pub returns-clause-record : goal.returns-clause-record
 returns-clause-record c = (c.call.ensures.at_rest, c.call.ensures.gone)

@@ -4,7 +4,7 @@ use Rattle.std.proofs.lemmas.Result.{err_from_is_err_and}
 use Rattle.std.specs.Prelude.{IsErrAnd, IsErrOf, IsOk, OnOk, Result}
 use Rattle.tsdb_outside.specs.declared.faults.StoreFault.{StoreFault}
 use Rattle.tsdb_outside.specs.declared.faults.StoreFault.TheVariants.{Failed, Memory}
-use Rattle.mem_outside.specs.declared.entry.Entry.{Entry}
+use Rattle.mem_outside.specs.declared.entry.StoredEntry.{StoredEntry}
 use Rattle.mem_outside.specs.Entry.{entry_file}
 use Rattle.mem_outside.specs.Files.{port_gone}
 use Rattle.mem_outside.proofs.EntryLemmas.{adds_failed}
@@ -35,7 +35,7 @@ ok_holds (Err error) ok holds = absurd (false≢true ok)
 
 pub returns-then-is_err-clause-failed : goal.returns-then-is_err-clause-failed
 returns-then-is_err-clause-failed c =
-    let entry : Entry = record {
+    let entry : StoredEntry = record {
       number = c.args.number.0;
       bytes = c.in_ok-bytes.bytes;
       put_at = c.call-answer.new.self.last.place;

@@ -1,11 +1,11 @@
 use Rattle.std.proofs.Common.{rules}
 use Rattle.std.proofs.lemmas.Result.{IfOk-from_err}
-use Rattle.mem_outside.specs.Place.{journal_of}
+use Rattle.mem_outside.specs.Place.{place_journal}
 use Rattle.mem_outside.proofs.StopLemmas.{allowed_after}
 use Rattle.mem_outside.proofs.place.MemPlace.after_stop.Goals as goal
 
 pub returns-clause-allowed : goal.returns-clause-allowed
-returns-clause-allowed c = allowed_after c.args.kind (journal_of c.args.self.now) c.args.moment c.from_parts.result (search rules)
+returns-clause-allowed c = allowed_after c.args.kind (place_journal c.args.self.now) c.args.moment c.from_parts.result (search rules)
 
 pub returns-in_err-slots-in-Some-clause-seen : goal.returns-in_err-slots-in-Some-clause-seen
 returns-in_err-slots-in-Some-clause-seen c = IfOk-from_err c.from_residual.result _ c.from_residual.ensures.0

@@ -1,6 +1,6 @@
 use Rattle.std.proofs.Common.{◌≡◌, ◌+◌, length, subst, sym}
 use Rattle.std.specs.Option.{option_map}
-use Rattle.tsdb_tasks.specs.Files.{new_file}
+use Rattle.tsdb_tasks.specs.Files.{file_built}
 use Rattle.tsdb_core.proofs.Replacements.{all_inputs, committed_from}
 use Rattle.tsdb_core.specs.Replacements.{EndsFiles, without_claim}
 use Rattle.tsdb_core.proofs.engine.Core.commit_job.Goals as goal
@@ -14,7 +14,7 @@ returns g c = committed_from g.F.Right.ReadRight.file g.F.Sealed.SealedFile.file
       sequence_claimed = without_claim job.space c.log_end-job.new.self.sequence_claimed;
     }) c.log_end-job.ensures.job c.free_sequence.ensures)
     c.end_files.ensures.rest
-    (subst (λ job. EndsFiles job c.runs_of-runs.result (option_map (new_file g.F.Sealed.SealedFile.file) c.args.output)
+    (subst (λ job. EndsFiles job c.runs_of-runs.result (option_map (file_built g.F.Sealed.SealedFile.file) c.args.output)
     c.free_sequence.new.self.files c.end_files.new.self.files c.log_end-job.result.1) c.log_end-job.ensures.job
     c.end_files.ensures.files)
 

@@ -1,4 +1,4 @@
-use Rattle.tsdb_tasks.specs.Files.{new_file, new_files}
+use Rattle.tsdb_tasks.specs.Files.{file_built, new_files}
 use Rattle.std.specs.Option.{option_map}
 use Rattle.tsdb_core.proofs.OutputsBuilt.{all_drawn, drawn_part, sequence_numbered, unsequence_numbered}
 use Rattle.tsdb_core.proofs.Commits.{ends_flush, first_place, first_room, second_place, second_room}
@@ -26,12 +26,12 @@ end_part-requires-clause-numbered g c = λ lifetimes lives. sequence_numbered g.
 
 pub end_part-requires-2-clause-place : goal.end_part-requires-2-clause-place
 end_part-requires-2-clause-place g c = λ lifetimes lives. second_place c.args.self.now c.args.job.now c.requires.out
-    c.args.commit (option_map (new_file g.F.Sealed.SealedFile.file) c.args.files.sequence) c.end_part.new.files
+    c.args.commit (option_map (file_built g.F.Sealed.SealedFile.file) c.args.files.sequence) c.end_part.new.files
     c.end_part.ensures
 
 pub end_part-requires-2-clause-room : goal.end_part-requires-2-clause-room
 end_part-requires-2-clause-room g c = λ lifetimes lives. second_room c.args.self.now c.args.job.now c.requires.out
-    c.args.commit (option_map (new_file g.F.Sealed.SealedFile.file) c.args.files.sequence) c.end_part.new.files
+    c.args.commit (option_map (file_built g.F.Sealed.SealedFile.file) c.args.files.sequence) c.end_part.new.files
     c.end_part.ensures
 
 pub end_part-requires-2-clause-numbered : goal.end_part-requires-2-clause-numbered

@@ -2,7 +2,7 @@ use Rattle.std.proofs.Common.{refl, subst, sym, ◌∙◌}
 use Rattle.std.proofs.lemmas.Bool.{false≢true}
 use Rattle.tsdb_core.proofs.RowLemmas.{can_freeze_now, freeze_command}
 use Rattle.tsdb_core.proofs.Worlds.{freeze_keeps}
-use Rattle.tsdb_memory.specs.Fits.{HasNoPoint}
+use Rattle.tsdb_memory.specs.Fits.{HasNoPairPoint}
 use Rattle.tsdb_core.proofs.engine.Core.freeze.Goals as goal
 
 pub returns-clause-idle : goal.returns-clause-idle
@@ -15,7 +15,7 @@ returns-clause-command g c = λ filled. freeze_command c.args.self.now c.freeze.
     c.requires)
 
 pub returns-clause-emptied : goal.returns-clause-emptied
-returns-clause-emptied g c = λ done. subst HasNoPoint (sym (c.freeze.ensures.working done)) (refl, refl)
+returns-clause-emptied g c = λ done. subst HasNoPairPoint (sym (c.freeze.ensures.working done)) (refl, refl)
 
 pub returns-clause-can : goal.returns-clause-can
 returns-clause-can g c = λ filled. can_freeze_now c.args.self.now c.is_idle.result c.if-is_idle.false

@@ -1,9 +1,9 @@
 use Rattle.std.proofs.Common.{◌+◌, ap, refl, subst, ◌∙◌}
-use Rattle.tsdb_tasks.specs.Series.{AreOfJob, run_paths}
+use Rattle.tsdb_tasks.specs.Series.{AreSeriesOfJob, run_paths}
 use Rattle.tsdb_core.proofs.Beginnings.{job_begun, plan_fits}
 use Rattle.tsdb_core.proofs.BeginningsExits.{memory_taken, untouched}
 use Rattle.tsdb_core.proofs.Commits.{on_err}
-use Rattle.tsdb_memory.specs.Store.{Store}
+use Rattle.tsdb_memory.specs.Store.{MemoryState}
 use Rattle.tsdb_core.proofs.engine.Core.take_inputs.Goals as goal
 
 pub input_count-requires-clause-sequence : goal.input_count-requires-clause-sequence
@@ -48,6 +48,6 @@ returns-clause-begun g c = job_begun g.F.Right.ReadRight.file c.args.self.now c.
     c.in_ok-input_count.field-0 c.in_ok-series.series c.in_ok-inputs.field-0 c.requires.plan c.requires.kept
     c.requires.left c.in_ok-reserve_replaced.ensures.kept c.in_ok-input_count.ensures.count
     c.in_ok-input_count.ensures.few_sequence c.in_ok-input_count.ensures.few_late c.in_ok-reserve_replaced.ensures.room
-    (subst (λ (store : Store). AreOfJob (run_paths c.args.runs c.args.self.now.files) store c.in_ok-series.series)
+    (subst (λ (store : MemoryState). AreSeriesOfJob (run_paths c.args.runs c.args.self.now.files) store c.in_ok-series.series)
     c.memory.ensures c.in_ok-series.ensures) c.in_ok-inputs.ensures.ok refl c.claims_sequence-self.ensures c.stamp.result
-    (c.stamp.ensures.value ∙ ap (λ (store : Store). store.stamp) c.memory-2.ensures)
+    (c.stamp.ensures.value ∙ ap (λ (store : MemoryState). store.stamp) c.memory-2.ensures)

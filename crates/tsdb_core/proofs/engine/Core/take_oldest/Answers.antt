@@ -2,7 +2,7 @@ use Rattle.std.proofs.Common.{◌+◌, ap, refl, subst, sym, ◌∙◌}
 use Rattle.tsdb_core.proofs.Commits.{not_taken, not_taken_world, on_err}
 use Rattle.tsdb_core.proofs.Oldest.{count_is}
 use Rattle.tsdb_core.proofs.Taking.{flush_taken, taken_world}
-use Rattle.tsdb_fileset.specs.Taking.{IsTaken}
+use Rattle.tsdb_fileset.specs.Taking.{IsJobTaken}
 use Rattle.tsdb_core.proofs.engine.Core.take_oldest.Goals as goal
 
 pub returns-in_err-reserve_flushed-clause-not : goal.returns-in_err-reserve_flushed-clause-not
@@ -27,7 +27,7 @@ returns-clause-taken g c = flush_taken c.args.self.now c.reserve_flushed.new.sel
     c.in_ok-job.job
     (c.args.self.now.next_file + c.drawn.result) c.in_ok-reserve_flushed.ensures.kept
     c.in_ok-reserve_flushed.ensures.room c.in_ok-job.ensures.job
-    (subst (λ store. IsTaken store c.args.self.now.next_file c.in_ok-job.job) c.memory.ensures
+    (subst (λ store. IsJobTaken store c.args.self.now.next_file c.in_ok-job.job) c.memory.ensures
     c.in_ok-job.ensures.taken) c.in_ok-job.ensures.some
     c.requires.left c.in_ok-prepare_flush.ensures.lists c.in_ok-prepare_flush.ensures.files
     c.in_ok-prepare_flush.ensures.places c.in_ok-prepare_flush.ensures.room
@@ -55,7 +55,7 @@ returns-clause-world g c = taken_world c.args.self.now _ c.in_ok-job.job
     (flush_taken c.args.self.now c.reserve_flushed.new.self c.prepare_flush.new.self c.in_ok-job.job
     (c.args.self.now.next_file + c.drawn.result) c.in_ok-reserve_flushed.ensures.kept
     c.in_ok-reserve_flushed.ensures.room c.in_ok-job.ensures.job
-    (subst (λ store. IsTaken store c.args.self.now.next_file c.in_ok-job.job) c.memory.ensures
+    (subst (λ store. IsJobTaken store c.args.self.now.next_file c.in_ok-job.job) c.memory.ensures
     c.in_ok-job.ensures.taken) c.in_ok-job.ensures.some
     c.requires.left c.in_ok-prepare_flush.ensures.lists c.in_ok-prepare_flush.ensures.files
     c.in_ok-prepare_flush.ensures.places c.in_ok-prepare_flush.ensures.room

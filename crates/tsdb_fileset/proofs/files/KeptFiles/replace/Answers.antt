@@ -1,6 +1,6 @@
 use Rattle.std.proofs.Common.{List, None, map, refl, sym, ap, subst, ◌∙◌}
 use Rattle.tsdb_fileset.specs.Files.{KeptFiles}
-use Rattle.tsdb_fileset.specs.Places.{file_at, place_at}
+use Rattle.tsdb_fileset.specs.Places.{file_at, place_of_number}
 use Rattle.tsdb_fileset.specs.Replacing.{IsReplacedIn}
 use Rattle.tsdb_fileset.proofs.Replaced.{CanReplace, entry_of_output, replaced_sound}
 use Rattle.tsdb_flush.specs.Least.{least_with}
@@ -19,7 +19,7 @@ invariant_of-self g c =
       outgoing = c.requires.outgoing;
     }) in
     let of = entry_of_output number c.args.output _ _ c.place_output-entry.result
-    (file_at (place_at number c.place_output-entry.new.places.entries)) c.place_output-entry.ensures.entry
+    (file_at (place_of_number number c.place_output-entry.new.places.entries)) c.place_output-entry.ensures.entry
     c.place_output-entry.ensures.file c.requires.numbered in
     replaced_sound c.args.space c.args.sequence c.args.unsequence number c.place_output-entry.result _ c.self.inside _
     c.self.invariant can of refl c.place_output-entry.ensures.others

@@ -3,7 +3,7 @@ use Rattle.std.specs.Prelude.{IfOk, OnErr, OnOk}
 use Rattle.tsdb_fileset.specs.declared.files.Outgoing.{Outgoing}
 use Rattle.tsdb_fileset.specs.Files.{KeptFiles}
 use Rattle.tsdb_fileset.specs.Places.{AreOfStore, TakesAway}
-use Rattle.tsdb_fileset.specs.Sweeps.{AreOnce, LeavesWithout, StopsAt, free_numbers, tried_numbers}
+use Rattle.tsdb_fileset.specs.Sweeps.{AreOnce, LeavesWithout, StopsSweepAt, free_numbers, tried_numbers}
 use Rattle.tsdb_fileset.specs.Kept.{view_of}
 use Rattle.tsdb_fileset.proofs.Swept.{once, swept_failed, swept_ok, swept_sound}
 use Rattle.tsdb_fileset.proofs.files.KeptFiles.sweep.Goals as goal
@@ -24,7 +24,7 @@ invariant_of-self g c =
     let Ok : List Outgoing → Type 0 = λ files.
     OnOk c.remove_free-swept.result (TakesAway (free_numbers c.args.doubted old files) old new) in
     let Err : List Outgoing → Type 0 = λ files. OnErr c.remove_free-swept.result
-    ((stop : StopsAt c.args.doubted old files) × TakesAway (tried_numbers c.args.doubted old stop) old new) in
+    ((stop : StopsSweepAt c.args.doubted old files) × TakesAway (tried_numbers c.args.doubted old stop) old new) in
     swept_sound c.args.doubted c.self.inside _ c.self.invariant c.keep_placed.ensures.files c.keep_placed.ensures.len
     c.keep_placed.ensures.capacity refl refl refl refl c.remove_free-swept.result
     (subst Ok c.deref.ensures.value c.remove_free-swept.ensures.ok)
@@ -58,11 +58,11 @@ returns-clause-failed g c =
     let old = c.self.inside.tokens.entries in
     let new = c.remove_free-swept.new.places.entries in
     let Err : List Outgoing → Type 0 = λ files. OnErr c.remove_free-swept.result
-    ((stop : StopsAt c.args.doubted old files) × TakesAway (tried_numbers c.args.doubted old stop) old new) in
+    ((stop : StopsSweepAt c.args.doubted old files) × TakesAway (tried_numbers c.args.doubted old stop) old new) in
     let inside =
     record c.self.inside { tokens = c.remove_free-swept.new.places; outgoing = c.keep_placed.new.outgoing } in
     let Left : KeptFiles → Type 0 = λ files. OnErr c.remove_free-swept.result
-    ((stop : StopsAt c.args.doubted files.places files.outgoing)
+    ((stop : StopsSweepAt c.args.doubted files.places files.outgoing)
     × LeavesWithout (tried_numbers c.args.doubted files.places stop) files (view_of inside)) in
     subst Left c.self.view_is
     (swept_failed c.args.doubted c.self.inside inside c.self.invariant c.keep_placed.ensures.files

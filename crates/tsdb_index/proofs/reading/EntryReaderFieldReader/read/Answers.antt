@@ -13,7 +13,7 @@ use Rattle.tsdb_fields.specs.Statistics.{stats_field, IsStatsOf}
 use Rattle.tsdb_fields.proofs.Parts.{part_fault, parts_of}
 use Rattle.tsdb_fields.proofs.Taken.{no_fields, takes_both, takes_same}
 use Rattle.tsdb_index.specs.Entries.{IsEntry, IsPageOf}
-use Rattle.tsdb_index.specs.Spelling.{entry_field, page_field}
+use Rattle.tsdb_index.specs.Spelling.{entry_field, page_entry_field}
 use Rattle.tsdb_index.proofs.Entries.{Is32, IsKind, behind_kind, behind_name, behind_path, behind_stats, entry_apart, kind_field, no_kind, no_name, no_number, no_pages, no_path, no_statistics, page-prefix_free, past_kind, past_name, past_number, past_path, past_statistics, unsuited}
 use Rattle.tsdb_index.proofs.reading.EntryReaderFieldReader.read.Goals as goal
 
@@ -99,9 +99,9 @@ returns-in_err-pages c = record {
       let kind : DataType × (Encoding × ℕ) = (k.data_type, (k.encoding, k.place)) in
       let s = c.in_ok-stats in
       let n = c.in_ok-count in
-      let lacks = part_fault (flat_map page_field) (AreValues (IsPageOf k.data_type) n.count) entry_field IsEntry c.args.rest n.behind (λ (vs : Vec PageEntry Global). vs.items) (λ s. s) c.in_err-pages.field-0.0
+      let lacks = part_fault (flat_map page_entry_field) (AreValues (IsPageOf k.data_type) n.count) entry_field IsEntry c.args.rest n.behind (λ (vs : Vec PageEntry Global). vs.items) (λ s. s) c.in_err-pages.field-0.0
       (λ none. past_path d.device c.args.rest.bytes.now d.behind.bytes.now d.ensures.exact.1 d.ensures.exact.0.bytes (past_name d.device m.measurement d.behind.bytes.now m.behind.bytes.now m.ensures.exact.1 m.ensures.exact.0.bytes (past_kind d.device m.measurement kind m.behind.bytes.now k.behind.bytes.now k.ensures.exact.1 k.ensures.exact.0.bytes (past_statistics d.device m.measurement kind s.stats k.behind.bytes.now s.behind.bytes.now s.ensures.exact.1 s.ensures.exact.0.bytes (past_number d.device m.measurement kind s.stats n.count s.behind.bytes.now n.behind.bytes.now n.ensures.exact.1 n.ensures.exact.0.bytes (no_pages d.device m.measurement kind s.stats n.count n.behind.bytes.now none))))))
-      (no_fields page_field (IsPageOf k.data_type) (page-prefix_free k.data_type) n.count n.behind (λ (vs : Vec PageEntry Global). vs.items) c.in_err-pages.field-0.0 c.in_err-pages.ensures.exact) in
+      (no_fields page_entry_field (IsPageOf k.data_type) (page-prefix_free k.data_type) n.count n.behind (λ (vs : Vec PageEntry Global). vs.items) c.in_err-pages.field-0.0 c.in_err-pages.ensures.exact) in
       rw (p.1, p.2) lacks;
 }
 
@@ -117,7 +117,7 @@ returns c = record {
       let g = c.in_ok-pages in
       let e : IndexEntry = record { device = d.device; measurement = m.measurement; data_type = k.data_type; encoding = k.encoding; place = k.place; stats = s.stats; pages = g.pages.items } in
       let len : number32 n.count ≡ number32 (length g.pages.items) = ap number32 (sym g.ensures.exact.1.0) in
-      let pages = takes_both s.behind n.behind g.behind (number32 (length g.pages.items)) (flat_map page_field g.pages.items) (takes_same s.behind n.behind (number32 n.count) (number32 (length g.pages.items)) len n.ensures.exact.0) g.ensures.exact.0 in
+      let pages = takes_both s.behind n.behind g.behind (number32 (length g.pages.items)) (flat_map page_entry_field g.pages.items) (takes_same s.behind n.behind (number32 n.count) (number32 (length g.pages.items)) len n.ensures.exact.0) g.ensures.exact.0 in
       let stats = takes_both k.behind s.behind g.behind (stats_field s.stats) (behind_stats e) s.ensures.exact.0 pages in
       let kinds = takes_both m.behind k.behind g.behind (kind_field kind) (behind_kind e) k.ensures.exact.0 stats in
       let names = takes_both d.behind m.behind g.behind (plain_text m.measurement) (behind_name e) m.ensures.exact.0 kinds in

@@ -5,7 +5,7 @@ use Rattle.std.proofs.lemmas.Result.{err_from_is_err_and}
 use Rattle.std.specs.FinMap.{insert}
 use Rattle.std.specs.Map.{keys_of}
 use Rattle.std.specs.Option.{option_copied_mut}
-use Rattle.tsdb_map.specs.Model.{AreKept, world_of}
+use Rattle.tsdb_map.specs.Model.{AreOrderedDevices, world_of}
 use Rattle.tsdb_map.proofs.WorldLemmas.{dotless-empty, dotless-put, dotless-same, IsDotless-name, kept-found, kept-new, kept-set, Names, path_cmp, world-new, world-same, world-set}
 use Rattle.tsdb_map.proofs.catalog.Catalog.create.Goals as goal
 use Rattle.tsdb_path.specs.Nodes.{child_of}
@@ -43,14 +43,14 @@ returns-in-Some-clause-created c =
 
 pub invariant_of-self-2 : goal.invariant_of-self-2
 invariant_of-self-2 c =
-    let kept = subst AreKept (sym c.get_mut.follows.holds-at-none) c.self.invariant in
+    let kept = subst AreOrderedDevices (sym c.get_mut.follows.holds-at-none) c.self.invariant in
     kept-new c.get_mut.follows.lender-at-none c.insert-3.new.self kept c.args.device c.insert-2.new.self c.in_ok-insert-3.ensures.entries c.in_ok-insert-3.ensures.ordered
     (dotless-put c.new-names.result c.insert-2.new.self c.args.name c.new-series.result (IsDotless-name _ c.bytes.ensures.name)
     (dotless-empty c.new-names.result c.new-names.ensures.empty) c.in_ok-insert-2.ensures.entries)
 
 pub returns-clause-created : goal.returns-clause-created
 returns-clause-created c =
-    let kept = subst AreKept (sym c.get_mut.follows.holds-at-none) c.self.invariant in
+    let kept = subst AreOrderedDevices (sym c.get_mut.follows.holds-at-none) c.self.invariant in
     let same = c.get_mut.follows.holds-at-none in
     let absent = ap (λ (m : BTreeMap (List ℕ) Names). tree.get path_cmp m c.args.device) same ∙ sym c.get_mut.ensures.value ∙ ap option_copied_mut c.in_default.is in
     world-new c.get_mut.follows.lender-at-none c.insert-3.new.self c.args.self.now kept (ap (λ (m : BTreeMap (List ℕ) Names). world_of m.entries) same ∙ c.self.view_is)

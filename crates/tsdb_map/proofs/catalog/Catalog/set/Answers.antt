@@ -4,7 +4,7 @@ use Rattle.std.proofs.lemmas.Result.{IfOk-weaker, on_err_weaker, on_ok_weaker}
 use Rattle.std.specs.Prelude.{IsNone, IsSome}
 use Rattle.std.specs.FinMap.{get, insert}
 use Rattle.std.specs.Option.{option_copied_mut}
-use Rattle.tsdb_model.specs.World.{points_of}
+use Rattle.tsdb_model.specs.World.{points_of_series}
 use Rattle.tsdb_map.specs.Model.{set_at}
 use Rattle.tsdb_map.proofs.WorldLemmas.{change-there, dotless-same, get-world, in_names, insert-same, IsDotless-name, kept-found, kept-set, nothing, world-set}
 use Rattle.tsdb_path.specs.Nodes.{child_of}
@@ -55,8 +55,8 @@ returns c =
     record {
       set = on_ok_weaker c.set.result (λ e. after ∙ change-there world path (set_at c.args.time c.args.value) c.in-Some-get_mut.series.now c.set.new.self there
           (e ∙ ap (λ z. set_at z c.args.value c.in-Some-get_mut.series.now) time)) c.set.ensures.set;
-      old = IfOk-weaker c.set.result _ _ (λ old e. e ∙ ap (get c.in-Some-get_mut.series.now.points) time ∙ sym (ap (λ o. get (points_of o) c.args.time) there)) c.set.ensures.old;
+      old = IfOk-weaker c.set.result _ _ (λ old e. e ∙ ap (get c.in-Some-get_mut.series.now.points) time ∙ sym (ap (λ o. get (points_of_series o) c.args.time) there)) c.set.ensures.old;
       memory = on_err_weaker c.set.result (λ e. after ∙ ap (insert world path) e ∙ insert-same world path c.in-Some-get_mut.series.now there) c.set.ensures.memory;
       fits = λ h. c.set.ensures.fits (subst (λ o. IsNone c.args.value ⊎ IsSome o)
-          (ap (λ o. get (points_of o) c.args.time) there ∙ ap (get c.in-Some-get_mut.series.now.points) (sym time)) h);
+          (ap (λ o. get (points_of_series o) c.args.time) there ∙ ap (get c.in-Some-get_mut.series.now.points) (sym time)) h);
     }

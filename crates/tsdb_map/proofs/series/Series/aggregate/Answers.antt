@@ -7,8 +7,8 @@ use Rattle.tsdb_map.proofs.series.Series.aggregate.Goals as goal
 
 pub returns-in-Count : goal.returns-in-Count
 returns-in-Count c =
-    let small : c.count.result < 2 ^ 63 = omega (arith, c.points_in-points.ensures.fits, c.count.ensures) in
-    ap (λ z. Some (I64 z)) (to_z_pos w64 c.count.result small) ∙ ap (λ n. Some (I64 (pos n))) (c.count.ensures ∙ sym (length-points_of_entries c.points_in-points.result))
+    let small : c.count_points.result < 2 ^ 63 = omega (arith, c.points_in-points.ensures.fits, c.count_points.ensures) in
+    ap (λ z. Some (I64 z)) (to_z_pos w64 c.count_points.result small) ∙ ap (λ n. Some (I64 (pos n))) (c.count_points.ensures ∙ sym (length-points_of_entries c.points_in-points.result))
     ∙ of_range c.args.aggregate _ c.points_in-points.result _ c.in-Count.is c.points_in-points.ensures.points
 
 pub returns-in-FirstValue : goal.returns-in-FirstValue
@@ -35,8 +35,8 @@ returns-in-MaxTime c =
 
 pub returns-in-MinValue : goal.returns-in-MinValue
 returns-in-MinValue c =
-    subst (λ o. IfOk c.least.result (λ v. v ≡ o)) (of_range c.args.aggregate _ c.points_in-points.result _ c.in-MinValue.is c.points_in-points.ensures.points) c.least.ensures
+    subst (λ o. IfOk c.least_number.result (λ v. v ≡ o)) (of_range c.args.aggregate _ c.points_in-points.result _ c.in-MinValue.is c.points_in-points.ensures.points) c.least_number.ensures
 
 pub returns-in-MaxValue : goal.returns-in-MaxValue
 returns-in-MaxValue c =
-    subst (λ o. IfOk c.greatest.result (λ v. v ≡ o)) (of_range c.args.aggregate _ c.points_in-points.result _ c.in-MaxValue.is c.points_in-points.ensures.points) c.greatest.ensures
+    subst (λ o. IfOk c.greatest_number.result (λ v. v ≡ o)) (of_range c.args.aggregate _ c.points_in-points.result _ c.in-MaxValue.is c.points_in-points.ensures.points) c.greatest_number.ensures

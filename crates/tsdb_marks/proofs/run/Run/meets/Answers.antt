@@ -3,7 +3,7 @@ use Rattle.std.proofs.Common.{◌<◌, ◌≤◌, ⊎_elim, List, subst, sym, ar
 use Rattle.std.proofs.lemmas.Bool.{cases_lt}
 use Rattle.std.proofs.lemmas.List.{get_or_default}
 use Rattle.tsdb_marks.specs.declared.run.Step.{Step}
-use Rattle.tsdb_marks.specs.Steps.{IsMet, IsRising, IsUnmet, version_at}
+use Rattle.tsdb_marks.specs.Steps.{IsMet, AreStepsRising, IsUnmet, version_at}
 use Rattle.tsdb_marks.proofs.StepLemmas.{met_first, met_step, unmet_steps, beyond}
 use Rattle.tsdb_marks.proofs.run.Run.meets.Goals as goal
 
@@ -17,7 +17,7 @@ pub returns-then-steps-at-2-clause-met : goal.returns-then-steps-at-2-clause-met
 returns-then-steps-at-2-clause-met c = λ yes.
     let steps = c.as_slice-steps.result.now in
     let P : List Step → Type 0 = λ xs. IsMet (version_at xs) c.args.from c.args.to c.args.born in
-    let rising : IsRising steps = subst IsRising (sym c.as_slice-steps.ensures.value) c.requires.run.rising in
+    let rising : AreStepsRising steps = subst AreStepsRising (sym c.as_slice-steps.ensures.value) c.requires.run.rising in
     let d : Step = record { start = 0; version = 0 } in
     let s : Step = get_or steps c.loop-at.at d in
     subst P c.as_slice-steps.ensures.value
@@ -28,7 +28,7 @@ pub returns-else-steps-at-clause-unmet : goal.returns-else-steps-at-clause-unmet
 returns-else-steps-at-clause-unmet c = λ none.
     let steps = c.as_slice-steps.result.now in
     let P : List Step → Type 0 = λ xs. IsUnmet (version_at xs) c.args.from c.args.to c.args.born in
-    let rising : IsRising steps = subst IsRising (sym c.as_slice-steps.ensures.value) c.requires.run.rising in
+    let rising : AreStepsRising steps = subst AreStepsRising (sym c.as_slice-steps.ensures.value) c.requires.run.rising in
     subst P c.as_slice-steps.ensures.value
     (unmet_steps steps c.args.from c.args.to c.args.born c.count_until-first.result c.count_until-first.ensures
     (λ k d e. let v = c.version_before.ensures.last k d e in omega (arith, v, c.if-version_before-born.false))

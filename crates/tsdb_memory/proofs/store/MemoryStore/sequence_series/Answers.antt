@@ -6,13 +6,13 @@ use Rattle.tsdb_base.specs.declared.ids.Space.TheVariants.{Sequence}
 use Rattle.tsdb_base.specs.declared.point.Point.{Point}
 use Rattle.tsdb_base.specs.Lists.{Among}
 use Rattle.tsdb_memory.proofs.Raises.{if_ok, lists_ids}
-use Rattle.tsdb_memory.specs.Store.{Store}
+use Rattle.tsdb_memory.specs.Store.{MemoryState}
 use Rattle.tsdb_memtable.specs.Pairs.{points_of, table}
 use Rattle.tsdb_memory.proofs.store.MemoryStore.sequence_series.Goals as goal
 
 pub returns : goal.returns
 returns c =
-    subst (λ (s : Store). IfOk c.series.result
+    subst (λ (s : MemoryState). IfOk c.series.result
     (λ (all : Items SeriesId). (number : ℕ) (point : Point) → Among point (points_of Sequence number s.working)
     → Among (record { 0 = number }) all.items)) c.self.view_is
     (if_ok c.series.result (λ (all : Items SeriesId). map (λ (id : SeriesId). id.0) all.items

@@ -10,14 +10,14 @@ returns-in_default-clause-number c =
     let path = c.args.path.now in
     none_first _ _ _ c.get_full.ensures.index c.in_default.is
     ∙ sym (number_found c.self.inside.series.entries path)
-    ∙ ap (λ (s : value.Store). number_of s.series path) c.self.view_is
+    ∙ ap (λ (s : value.MemoryState). number_of s.series path) c.self.view_is
 
 pub returns-clause-number : goal.returns-clause-number
 returns-clause-number c =
     let path = c.args.path.now in
     some_first _ _ _ _ c.get_full.ensures.index c.in-Some.is
     ∙ sym (number_found c.self.inside.series.entries path)
-    ∙ ap (λ (s : value.Store). number_of s.series path) c.self.view_is
+    ∙ ap (λ (s : value.MemoryState). number_of s.series path) c.self.view_is
 
 pub returns-clause-schema : goal.returns-clause-schema
 returns-clause-schema c =
@@ -25,7 +25,7 @@ returns-clause-schema c =
     let entries = c.self.inside.series.entries in
     let numbered : number_of (map schema_of entries) path ≡ Some c.in-Some.number =
     number_found entries path ∙ sym (some_first _ _ _ _ c.get_full.ensures.index c.in-Some.is) in
-    subst (λ (s : value.Store). slice_get s.series c.in-Some.number ≡ Some (record {
+    subst (λ (s : value.MemoryState). slice_get s.series c.in-Some.number ≡ Some (record {
       path = path;
       data_type = c.in-Some.kind.now.0;
       encoding = c.in-Some.kind.now.1;

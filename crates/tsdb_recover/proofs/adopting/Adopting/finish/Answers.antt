@@ -1,7 +1,7 @@
 use Rattle.std.proofs.Common.{◌≡◌, [], map, None, sym, subst}
 use Rattle.tsdb_recover.proofs.AdoptedCore.{above_kept, opened_files, same_wanted, stored_opened}
 use Rattle.tsdb_fileset.specs.Files.{KeptFiles}
-use Rattle.tsdb_recover.specs.Adopting.{AreFree, files_of, opening_of}
+use Rattle.tsdb_recover.specs.Adopting.{HaveNoClaims, adopting_files, opening_of}
 use Rattle.tsdb_recover.specs.Known.{known_of}
 use Rattle.tsdb_core.specs.Core.{IsSeen}
 use Rattle.tsdb_frames.specs.Frames.{IsLog}
@@ -14,13 +14,13 @@ use Rattle.tsdb_recover.proofs.adopting.Adopting.finish.Goals as goal
 pub returns-clause-quiet : goal.returns-clause-quiet
 returns-clause-quiet g c =
     let all = c.requires.all in
-    c.new.ensures.quiet (above_kept (files_of c.args.self) all.is.items all.recorded c.args.stored
+    c.new.ensures.quiet (above_kept (adopting_files c.args.self) all.is.items all.recorded c.args.stored
     c.next_file-next_file.result.0 c.tell_kept.ensures all.is.replayed all.is.first
     (c.next_file-next_file.ensures.number all.recorded all.is.opening) c.next_file-next_file.ensures.end)
 
 pub returns-clause-seen : goal.returns-clause-seen
 returns-clause-seen g c = λ items recorded kept told log good replayed is order whole says tell.
-    let files = files_of c.args.self in
+    let files = adopting_files c.args.self in
     let next = c.next_file-next_file.result.0 in
     let number = c.next_file-next_file.ensures.number recorded is.opening in
     let end = c.next_file-next_file.ensures.end in
@@ -45,7 +45,7 @@ returns-clause-seen g c = λ items recorded kept told log good replayed is order
 pub returns-clause-unclaimed : goal.returns-clause-unclaimed
 returns-clause-unclaimed g c = record {
   list = c.new.ensures.claims;
-  files = subst AreFree (sym c.new.ensures.files) c.requires.all.is.first.free;
+  files = subst HaveNoClaims (sym c.new.ensures.files) c.requires.all.is.first.free;
 }
 
 pub returns-clause-none_leaving : goal.returns-clause-none_leaving

@@ -1,7 +1,7 @@
 use Rattle.std.proofs.Common.{◌∙◌, refl, subst, sym}
 use Rattle.std.proofs.lemmas.Bool.{false≢true}
 use Rattle.tsdb_log.specs.declared.record.LogRecord.TheVariants.{Freeze}
-use Rattle.tsdb_memory.specs.Fits.{HasNoPoint}
+use Rattle.tsdb_memory.specs.Fits.{HasNoPairPoint}
 use Rattle.tsdb_memtable.specs.Pairs.{Pair}
 use Rattle.tsdb_redo.proofs.Following.{names_nothing, shows_after, without_replay}
 use Rattle.tsdb_redo.specs.declared.opening.Opening.{Opening}
@@ -25,5 +25,5 @@ returns c =
     (names_nothing old.named)
 
 pub finish_freeze-requires-clause-some : goal.finish_freeze-requires-clause-some
-finish_freeze-requires-clause-some c = subst (λ (p : Pair). ¬ HasNoPoint p) (sym c.in_ok-freezing.ensures.working)
+finish_freeze-requires-clause-some c = subst (λ (p : Pair). ¬ HasNoPairPoint p) (sym c.in_ok-freezing.ensures.working)
     (c.can_freeze.ensures.some c.if-not-can_freeze.false)

@@ -7,7 +7,7 @@ use Rattle.tsdb_log.specs.declared.record.LogRecord.TheVariants.{Insert}
 use Rattle.tsdb_memory.specs.Shown.{IsMemoryOf}
 use Rattle.tsdb_redo.proofs.Following.{names_nothing, passed_on, shows_after, without_replay}
 use Rattle.tsdb_redo.proofs.RowFacts.{can_insert, row_differs}
-use Rattle.tsdb_redo.specs.Rows.{HasNoInsert, HasRoomFor, IsRowOf}
+use Rattle.tsdb_redo.specs.Rows.{HasNoInsert, TellsRoomFor, IsRowOf}
 use Rattle.tsdb_redo.specs.declared.opening.Opening.{Opening}
 use Rattle.tsdb_state.specs.Records.{inserted}
 use Rattle.tsdb_redo.proofs.opening.Opening.redo_insert.Goals as goal
@@ -34,8 +34,8 @@ returns c =
     shows_after old new (Insert c.args.time c.args.cells)
     (λ recorded is. can_insert old.memory c.in_ok-device.device c.args.time c.args.cells recorded.store is.memory
     (subst (λ l. IsRowOf old.memory c.in_ok-device.device l) c.items.ensures c.in_ok-device.ensures.row)
-    (subst (λ t. HasRoomFor old.memory t c.args.cells true) time
-    (subst (λ l. HasRoomFor old.memory (to_z w64 (of_z w64 c.args.time)) l true) c.items.ensures c.in_ok-device.ensures.room)))
+    (subst (λ t. TellsRoomFor old.memory t c.args.cells true) time
+    (subst (λ l. TellsRoomFor old.memory (to_z w64 (of_z w64 c.args.time)) l true) c.items.ensures c.in_ok-device.ensures.room)))
     (λ recorded is. subst (λ t. IsMemoryOf c.finish_insert.new.self (inserted t c.args.cells recorded.store)) time
     (c.finish_insert.ensures.effect recorded.store (c.in_ok-prepare_insert.ensures.same recorded.store is.memory)))
     (λ recorded is. record { sequence = is.files.sequence; unsequence = is.files.unsequence; least = is.files.least })

@@ -3,7 +3,7 @@ use Rattle.std.proofs.lemmas.List.Elements.{All-pop}
 use Rattle.tsdb_turn.specs.Passes.{PassState, TurnState, seats_of, new_pass, new_passes}
 use Rattle.tsdb_turn.specs.Rule.{bells_at, known, view}
 use Rattle.tsdb_turn.specs.Values.{Follows, IsTurnKept}
-use Rattle.tsdb_turn.specs.declared.view.Marks.{Marks}
+use Rattle.tsdb_turn.specs.declared.view.PassMarks.{PassMarks}
 use Rattle.tsdb_turn.specs.declared.view.Stage.TheVariants.{Outside}
 use Rattle.tsdb_turn.proofs.Seats.{splits, dealt_parts, passes_more}
 use Rattle.tsdb_turn.proofs.turn.Turn.deal.Goals as goal
@@ -22,7 +22,7 @@ pub outside-requires : goal.outside-requires
 outside-requires g c =
     let start = c.args.self.now.start in
     let n = c.loop-own_marks.number in
-    let own = (All-pop (λ (m : Marks g.row.V.Denot). (m.start.value ≡ start) × (m.last.value ≡ start)) c.loop-own_marks.marks.items c.pop.new.self.items (Some c.in-Some.own_marks) c.in-Some.ensures.items c.loop-own_marks.invariant.marks).1 in
+    let own = (All-pop (λ (m : PassMarks g.row.V.Denot). (m.start.value ≡ start) × (m.last.value ≡ start)) c.loop-own_marks.marks.items c.pop.new.self.items (Some c.in-Some.own_marks) c.in-Some.ensures.items c.loop-own_marks.invariant.marks).1 in
     let parts = dealt_parts c.loop-own_marks.seat.me start n (vec_len c.pop.new.self) (vec_len c.loop-own_marks.marks) (omega (arith, c.in-Some.ensures.cases)) c.loop-own_marks.invariant.seat in
     let words = subst (λ (t : TurnState g.row.V.Denot). t.id.words ≡ bells_at + t.seats) c.self.view_is c.self.invariant.bells in
     let count = c.loop-own_marks.invariant.count in
@@ -39,7 +39,7 @@ loop-own_marks-preserved g c =
     let n = loop.number in
     let more = vec_len c.pop.new.self in
     let less : vec_len loop.marks ≡ suc more = omega (arith, c.in-Some.ensures.cases) in
-    let own = All-pop (λ (m : Marks g.row.V.Denot). (m.start.value ≡ start) × (m.last.value ≡ start)) loop.marks.items c.pop.new.self.items (Some c.in-Some.own_marks) c.in-Some.ensures.items loop.invariant.marks in
+    let own = All-pop (λ (m : PassMarks g.row.V.Denot). (m.start.value ≡ start) × (m.last.value ≡ start)) loop.marks.items c.pop.new.self.items (Some c.in-Some.own_marks) c.in-Some.ensures.items loop.invariant.marks in
     let parts = dealt_parts loop.seat.me start n more (vec_len loop.marks) less loop.invariant.seat in
     let split = c.split_seat-own.ensures in
     let pushed = c.push_reserved.ensures in

@@ -2,7 +2,7 @@ use Rattle.std.proofs.Common.{rules}
 use Rattle.std.proofs.Common.{[], ◌++◌, Some, map, append-nil, ap, sym, ◌∙◌, arith}
 use Rattle.std.proofs.lemmas.List.Elements.{All-pop}
 use Rattle.tsdb_turn.specs.Passes.{TurnState, IsOutside}
-use Rattle.tsdb_turn.specs.Steps.{known_of}
+use Rattle.tsdb_turn.specs.Steps.{pass_known}
 use Rattle.tsdb_turn.specs.Values.{Follows, IsTurnKept}
 use Rattle.tsdb_turn.proofs.Seats.{joins, known_more}
 use Rattle.tsdb_turn.proofs.turn.Turn.gather.Goals as goal
@@ -20,7 +20,7 @@ loop-pass-init g c =
       stage = ap (λ m. m.0.stage) seat.seat;
       nothing = ap (λ m. m.1) seat.seat;
       outside = outs.0;
-      known = ap (λ m. map known_of ys ++ m.0.known) seat.seat ∙ known_more c.args.passes.items ys first [] items ∙ append-nil (map known_of c.args.passes.items);
+      known = ap (λ m. map pass_known ys ++ m.0.known) seat.seat ∙ known_more c.args.passes.items ys first [] items ∙ append-nil (map pass_known c.args.passes.items);
     }
 
 pub into_seat-requires : goal.into_seat-requires
@@ -56,8 +56,8 @@ loop-pass-preserved g c =
       nothing = ap (λ m. m.1) join.2 ∙ loop.invariant.nothing;
       outside = outs.0;
       known =
-          ap (λ m. map known_of ys ++ m.0.known) join.2
-          ∙ ap (λ m. map known_of ys ++ (m.0.known ++ loop.seat.me.0.known)) c.into_seat.ensures.seat
+          ap (λ m. map pass_known ys ++ m.0.known) join.2
+          ∙ ap (λ m. map pass_known ys ++ (m.0.known ++ loop.seat.me.0.known)) c.into_seat.ensures.seat
           ∙ known_more loop.passes.items ys pass loop.seat.me.0.known items
           ∙ loop.invariant.known;
     }

@@ -1,6 +1,6 @@
 use Rattle.std.proofs.Common.{◌≡◌, ◌++◌, [], All, map, vec_len}
 use Rattle.tsdb_turn.specs.Passes.{IsOutside}
-use Rattle.tsdb_turn.specs.Steps.{known_of}
+use Rattle.tsdb_turn.specs.Steps.{pass_known}
 use Rattle.tsdb_turn.specs.declared.view.Stage.TheVariants.{Outside}
 use Rattle.tsdb_turn.proofs.turn.Turn.gather.Given as goal
 
@@ -11,7 +11,7 @@ invariant-loop-pass g l = record {
   stage : l.seat.me.0.stage ≡ Outside;
   nothing : l.seat.me.1 ≡ [];
   outside : All (IsOutside l.self.id) l.passes.items;
-  known : map known_of l.passes.items ++ l.seat.me.0.known ≡ map known_of l.fn.passes.items;
+  known : map pass_known l.passes.items ++ l.seat.me.0.known ≡ map pass_known l.fn.passes.items;
 }
 
 abbrev pub decreases-loop-pass : goal.decreases-loop-pass

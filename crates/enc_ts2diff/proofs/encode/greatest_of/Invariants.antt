@@ -1,5 +1,0 @@
-use Rattle.std.proofs.Common.{◌≡◌, max, fold, take}
-use Rattle.enc_ts2diff.proofs.encode.greatest_of.Given as goal
-
-abbrev pub invariant-loop-number : goal.invariant-loop-number
-invariant-loop-number l = l.greatest ≡ fold max 0 (take l.number-index l.numbers)

@@ -1,5 +1,0 @@
-use Rattle.tsdb_map.proofs.LawLemmas.{others}
-use Rattle.tsdb_map.proofs.laws.other_values_stay.Goals as goal
-
-pub returns : goal.returns
-returns c = others
