@@ -58,6 +58,7 @@ check:
 	@checks/wrong_bodies
 	@checks/headline > /dev/null
 	@checks/layout
+	@checks/names
 
 proofs:
 	@rt ci

@@ -13,10 +13,7 @@ use Rattle.tsdb_model.specs.Commands.{IsSchema}
 use Rattle.tsdb_state.specs.Jobs.{job_inputs}
 use Rattle.tsdb_state.specs.Records.{numbers_of}
 use Rattle.tsdb_state.specs.State.{Compaction, File}
-
--- the numbers of files, as plain numbers
-abbrev pub plain_numbers : List FileNumber → List ℕ
-plain_numbers numbers = map (λ (number : FileNumber). number.0) numbers
+use Rattle.tsdb_outside.specs.Files.{plain_numbers}
 
 -- an output of this space and these late inputs make a cross job
 abbrev pub crosses : Space → List FileNumber → Bool

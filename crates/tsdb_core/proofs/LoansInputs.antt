@@ -12,7 +12,6 @@ use Rattle.tsdb_base.specs.declared.ids.Space.{Space}
 use Rattle.tsdb_base.specs.declared.ids.Space.TheVariants.{Sequence, Unsequence}
 use Rattle.tsdb_tasks.proofs.InState.{counted_among}
 use Rattle.tsdb_tasks.specs.Finishing.{IsRunOf, StandInSequence}
-use Rattle.tsdb_tasks.specs.Jobs.{plain_numbers}
 use Rattle.tsdb_core.specs.Loans.{AreJobNumbersApart, KeepsInputs, StandClaimed, StandFrom, StandsIn}
 use Rattle.tsdb_core.specs.Replacements.{without_claim}
 use Rattle.tsdb_fileset.proofs.Replaced.{run_parts}
@@ -27,6 +26,7 @@ use Rattle.tsdb_plan.specs.declared.entry.Run.{Run}
 use Rattle.tsdb_state.specs.Plans.{IsSequenceFree}
 use Rattle.tsdb_state.specs.Records.{numbers_of}
 use Rattle.tsdb_state.specs.State.{Compaction}
+use Rattle.tsdb_outside.specs.Files.{plain_numbers}
 
 -- ---- lists that grow, or stay
 

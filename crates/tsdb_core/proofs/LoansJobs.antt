@@ -17,7 +17,7 @@ use Rattle.tsdb_tasks.specs.Finishing.{AreRunsOf, Finishes, StandInSequence}
 use Rattle.tsdb_tasks.specs.Inputs.{AreHeld, input_numbers}
 use Rattle.tsdb_tasks.specs.declared.finishing.InputRuns.{InputRuns}
 use Rattle.tsdb_tasks.specs.Files.{NewFile}
-use Rattle.tsdb_tasks.specs.Jobs.{IsCompactionOf, IsJobFormed, input_file, plain_numbers}
+use Rattle.tsdb_tasks.specs.Jobs.{IsCompactionOf, IsJobFormed, input_file}
 use Rattle.tsdb_tasks.specs.Input.{Input}
 use Rattle.tsdb_tasks.specs.Job.{Job}
 use Rattle.tsdb_core.proofs.Loans.{named_right}
@@ -38,7 +38,7 @@ use Rattle.tsdb_fileset.specs.Places.{KeptFile, file_at, place_of_number}
 use Rattle.tsdb_fileset.specs.Replacing.{IsWithin, claim_run, output_in, with_claim}
 use Rattle.tsdb_base.proofs.Lists.{each_among, each_from_among, each_weaker}
 use Rattle.tsdb_base.specs.Lists.{Among, IsWithOne, count, if_some}
-use Rattle.tsdb_outside.specs.Files.{NamedFile}
+use Rattle.tsdb_outside.specs.Files.{NamedFile, plain_numbers}
 use Rattle.tsdb_outside.specs.declared.disk.Disk as disk
 use Rattle.tsdb_outside.specs.declared.faults.Counted as counted_by
 use Rattle.tsdb_outside.specs.declared.faults.Failed.{Failed}

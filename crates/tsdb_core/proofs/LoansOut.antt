@@ -10,7 +10,7 @@ use Rattle.tsdb_base.specs.declared.ids.Space.TheVariants.{Sequence, Unsequence}
 use Rattle.tsdb_tasks.specs.Ending.{IsOutIn}
 use Rattle.tsdb_tasks.specs.Finishing.{StandInSequence}
 use Rattle.tsdb_tasks.specs.Inputs.{AreHeld}
-use Rattle.tsdb_tasks.specs.Jobs.{IsCompactionOf, input_file, input_files, plain_numbers}
+use Rattle.tsdb_tasks.specs.Jobs.{IsCompactionOf, input_file, input_files}
 use Rattle.tsdb_tasks.specs.Input.{Input}
 use Rattle.tsdb_tasks.specs.Job.{Job}
 use Rattle.tsdb_core.proofs.Jobs.{one_of}
@@ -30,7 +30,7 @@ use Rattle.tsdb_fileset.specs.Places.{AreUnread}
 use Rattle.tsdb_fileset.specs.Replacing.{HasListRoom}
 use Rattle.tsdb_base.proofs.Lists.{each_left, each_of_map, each_right, with_one_is}
 use Rattle.tsdb_base.specs.Lists.{Among, IsRun, IsWithOne}
-use Rattle.tsdb_outside.specs.Files.{NamedFile}
+use Rattle.tsdb_outside.specs.Files.{NamedFile, plain_numbers}
 use Rattle.tsdb_outside.specs.declared.disk.Disk as disk
 use Rattle.tsdb_outside.specs.declared.faults.Counted as counted_by
 use Rattle.tsdb_tasks.specs.Pins.{AreColumnsHeld}

@@ -14,7 +14,7 @@ use Rattle.tsdb_tasks.specs.Finishing.{AreRunsOf, Finishes}
 use Rattle.tsdb_tasks.specs.States.{sent_files}
 use Rattle.tsdb_tasks.specs.declared.finishing.InputRuns.{InputRuns}
 use Rattle.tsdb_tasks.proofs.Outputs.{no_output}
-use Rattle.tsdb_tasks.specs.Jobs.{IsCompactionOf, IsJobFormed, input_file, input_files, plain_numbers}
+use Rattle.tsdb_tasks.specs.Jobs.{IsCompactionOf, IsJobFormed, input_file, input_files}
 use Rattle.tsdb_tasks.specs.CompactionsOutputs.{IsOutputOf, TellsInputs}
 use Rattle.tsdb_tasks.specs.Job.{Job}
 use Rattle.tsdb_core.proofs.LoansJobs.{LeavesInputs, given_up_inputs, job_rights_given, left_as}
@@ -43,7 +43,7 @@ use Rattle.tsdb_memory.specs.Replacing.{CanCommitReplacement, IsReplaced, IsRepl
 use Rattle.tsdb_memory.specs.declared.logged.LoggedMemory.{LoggedMemory}
 use Rattle.tsdb_model.specs.World.{World}
 use Rattle.tsdb_memory.specs.Least.{IsLeastOf}
-use Rattle.tsdb_outside.specs.Files.{NamedFile}
+use Rattle.tsdb_outside.specs.Files.{NamedFile, plain_numbers}
 use Rattle.tsdb_outside.specs.declared.disk.Disk as disk
 use Rattle.tsdb_outside.specs.declared.faults.Counted as counted
 use Rattle.tsdb_outside.specs.declared.faults.Failed.{Failed}

@@ -22,7 +22,7 @@ use Rattle.tsdb_tasks.specs.Finishing.{AreRunsOf, Finishes}
 use Rattle.tsdb_tasks.specs.Inputs.{input_numbers}
 use Rattle.tsdb_tasks.specs.States.{AreInputsIn, IsFresh, IsNewOf, IsPlaceOf, TellsOutput, sent_files}
 use Rattle.tsdb_tasks.specs.declared.finishing.InputRuns.{InputRuns}
-use Rattle.tsdb_tasks.specs.Jobs.{IsCompactionOf, plain_numbers}
+use Rattle.tsdb_tasks.specs.Jobs.{IsCompactionOf}
 use Rattle.tsdb_tasks.specs.Job.{Job}
 use Rattle.tsdb_core.proofs.Jobs.{is_counted}
 use Rattle.tsdb_core.proofs.ReplacementsClaims.{kind, stands}
@@ -57,6 +57,7 @@ use Rattle.tsdb_state.specs.State.{Compaction, EngineState, KnownFile, File}
 use Rattle.tsdb_state.specs.Steps.{IsOutput, IsOutputPlace, committed, compaction_record, ended, file_numbers}
 use Rattle.tsdb_state.specs.Steps.{output_number}
 use Rattle.tsdb_state.specs.Worlds.{StandsFor}
+use Rattle.tsdb_outside.specs.Files.{plain_numbers}
 
 is_none : (n : ℕ) → (1 ≤ n → ⊥) → n ≡ 0
 is_none zero never = refl

@@ -15,6 +15,7 @@ use Rattle.tsdb_plan.specs.declared.entry.FileEntry.{FileEntry}
 use Rattle.tsdb_flush.specs.Records.{names}
 use Rattle.tsdb_flush.specs.State.{EngineState, KnownFiles, KnownFile, File}
 use Rattle.tsdb_flush.specs.Steps.{Sweeps, swept}
+pub use Rattle.tsdb_flush.specs.BuiltParts.{entry_of}
 
 -- a listed file, and one on its way out, as the state has them
 abbrev pub listed : FileEntry → File
@@ -22,11 +23,6 @@ listed entry = record { number = entry.number.0; born = entry.born.0 }
 
 abbrev pub outgoing_file : Outgoing → File
 outgoing_file file = record { number = file.number.0; born = file.born.0 }
-
--- what is kept of a file with these series
-abbrev pub entry_of : FileEntry → List (List ℕ) → KnownFile
-entry_of entry series =
-    record { size = entry.size; points = entry.points; hulls = entry.hulls; series = series }
 
 -- The lists and the outgoing files are those of the state, rights are counted as there, and what is known of a listed file
 -- is what is kept of it.

@@ -118,7 +118,8 @@ row_of_list {A} fields Is row zero = record {
   nothing (x ∷ xs) first more is e = absurd is
 
   none_far : (j : ℕ) (xs : List A) (behind : List ℕ) → AreList Is zero xs → ReachesField (flat_map fields)
-      (AreList Is zero) (joined_fields (flat_map fields xs) ++ behind) j → j ≤ length (joined_fields (flat_map fields xs))
+      (AreList Is zero) (joined_fields (flat_map fields xs) ++ behind) j
+      → j ≤ length (joined_fields (flat_map fields xs))
   none_far j xs behind is r =
       let none = nothing r.whole r.first r.more r.is r.begins in
       let size = ap (λ (l : List (List ℕ)). length (joined_fields l)) none in

@@ -10,7 +10,6 @@ use Rattle.tsdb_serving.proofs.Given.{once_late}
 use Rattle.tsdb_serving.proofs.InRuns.{begins_at, listed_numbers}
 use Rattle.tsdb_serving.specs.Finishing.{AreRunsOf, IsRunOf}
 use Rattle.tsdb_serving.specs.InputRuns.{InputRuns}
-use Rattle.tsdb_compactions.specs.Jobs.{plain_numbers}
 use Rattle.tsdb_compactions.specs.declared.job.Job.{Job}
 use Rattle.tsdb_serving.proofs.Beginnings.{Fit}
 use Rattle.tsdb_serving.specs.Beginnings.{IsBegun}
@@ -20,7 +19,7 @@ use Rattle.tsdb_fileset.specs.Held.{listed}
 use Rattle.tsdb_fileset.specs.Files.{AreKept, entry_numbers}
 use Rattle.tsdb_fileset.specs.Replacing.{IsWithin, claim_run, output_in, replace_run, run_length, with_claim}
 use Rattle.tsdb_base.specs.Lists.{count, if_some}
-use Rattle.tsdb_outside.specs.Files.{NamedFile}
+use Rattle.tsdb_outside.specs.Files.{NamedFile, plain_numbers}
 use Rattle.tsdb_outside.specs.declared.disk.Disk as disk
 use Rattle.tsdb_outside.specs.declared.faults.Counted as counted
 use Rattle.tsdb_plan.specs.declared.entry.FileEntry.{FileEntry}

@@ -11,7 +11,7 @@ use Rattle.tsdb_serving.specs.TasksFiles.{NewFile}
 use Rattle.tsdb_serving.proofs.InState.{file_changed}
 use Rattle.tsdb_serving.specs.Inputs.{input_numbers}
 use Rattle.tsdb_serving.specs.InputRuns.{InputRuns}
-use Rattle.tsdb_compactions.specs.Jobs.{IsCompactionOf, IsJobFormed, input_files, plain_numbers}
+use Rattle.tsdb_compactions.specs.Jobs.{IsCompactionOf, IsJobFormed, input_files}
 use Rattle.tsdb_compactions.specs.declared.job.Job.{Job}
 use Rattle.tsdb_serving.specs.Beginnings.{IsBegun}
 use Rattle.tsdb_serving.specs.Compactions.{IsJobOut}
@@ -21,7 +21,7 @@ use Rattle.tsdb_serving.specs.CoreType.{Core}
 use Rattle.tsdb_fileset.specs.Files.{KeptFiles, kept_file}
 use Rattle.tsdb_fileset.specs.Places.{AreUnread, KeptFile, file_at, place_of_number}
 use Rattle.tsdb_base.specs.Lists.{IsWithOne, count}
-use Rattle.tsdb_outside.specs.Files.{NamedFile, Store}
+use Rattle.tsdb_outside.specs.Files.{NamedFile, Store, plain_numbers}
 use Rattle.tsdb_outside.specs.declared.disk.Disk as disk
 use Rattle.tsdb_outside.specs.declared.faults.Counted as counted
 use Rattle.tsdb_serving.specs.Changes.{fewer_rights, more_rights}

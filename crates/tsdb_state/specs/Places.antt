@@ -7,6 +7,7 @@ use Rattle.std.specs.declared.cmp.Ordering.{Ordering}
 use Rattle.tsdb_base.specs.declared.point.Range.{Range}
 use Rattle.tsdb_base.specs.declared.value.Value.{Value}
 use Rattle.tsdb_model.specs.World.{is_in}
+pub use Rattle.tsdb_marks.specs.Index.{is_path}
 
 -- a series, by the bytes of its path, and a time
 pub record PointPlace : Type 0 where
@@ -20,10 +21,6 @@ place_cmp a b = ordering_then (slice_cmp nat_cmp a.path b.path) (int_cmp a.time 
 -- a value at each of some places, of whatever series
 abbrev pub Content : Type 0
 Content = FinMap place_cmp Value
-
--- whether two paths are one
-abbrev pub is_path : List ℕ → List ℕ → Bool
-is_path path other = is_eq (slice_cmp nat_cmp path other)
 
 -- the content with this value at the place, instead of one that was there
 abbrev pub put_content : PointPlace → Value → Content → Content

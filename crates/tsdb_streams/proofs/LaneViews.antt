@@ -20,7 +20,7 @@ use Rattle.tsdb_streams.proofs.Views.{AreApart, IsFit, Seen}
 use Rattle.tsdb_streams.proofs.ViewMerges.{left_part, points_of, right_part, rising_back}
 use Rattle.tsdb_streams.specs.Clean.{any_meets, hull_of, is_clean, is_marked}
 use Rattle.tsdb_streams.specs.Cleaning.{page_times, picked}
-use Rattle.tsdb_streams.specs.Kept.{at, is_kept, stats_range}
+use Rattle.tsdb_streams.specs.Kept.{is_kept, stats_range}
 use Rattle.tsdb_streams.specs.Lanes.{left_pages}
 use Rattle.tsdb_index.specs.declared.index.PageEntry.{PageEntry}
 use Rattle.tsdb_base.specs.Lists.{EachPair, if_some}
@@ -34,6 +34,7 @@ use Rattle.tsdb_merge.proofs.MergeLemmas.{Contains-head, Contains-tail}
 use Rattle.tsdb_streams.specs.Pieces.{joined}
 use Rattle.tsdb_stats.specs.Statistics.{AreStatsOf}
 use Rattle.tsfile_reader.specs.Page.{LieIn}
+use Rattle.tsdb_streams.specs.Survivors.{place_at as at}
 
 -- ---- the pages of a file
 

@@ -6,13 +6,14 @@ use Rattle.std.proofs.lemmas.Bool.{lt-ltb, ltb-true}
 use Rattle.std.proofs.lemmas.List.Elements.{All-cons, All-head, All-nil, All-tail}
 use Rattle.tsdb_base.specs.declared.point.Point.{Point}
 use Rattle.tsdb_base.specs.declared.point.Range.{Range}
-use Rattle.tsdb_streams.specs.Kept.{at, is_kept}
+use Rattle.tsdb_streams.specs.Kept.{is_kept}
 use Rattle.tsdb_state.proofs.LayerLemmas.Places.{is_path_same, path_itself}
 use Rattle.tsdb_state.specs.Marks.{is_over, survives}
 use Rattle.tsdb_state.specs.Places.{is_path}
 use Rattle.tsdb_model.specs.World.{is_in}
 use Rattle.tsdb_marks.specs.Survival.{Covers, Survives}
 use Rattle.tsdb_marks.specs.declared.marks.Mark.{Mark}
+use Rattle.tsdb_streams.specs.Survivors.{place_at as at}
 
 le_of : (a b : ℤ) → int_le a b ≡ true → a ≤ℤ b
 le_of a b e = grind (arith, ints)

@@ -7,10 +7,7 @@ use Rattle.tsdb_state.specs.Marks.{survives}
 use Rattle.tsdb_state.specs.Places.{PointPlace}
 use Rattle.tsdb_model.specs.World.{is_in}
 use Rattle.tsdb_marks.specs.declared.marks.Mark.{Mark}
-
--- the place of a series at a time
-abbrev pub at : List ℕ → ℤ → PointPlace
-at path time = record { path = path; time = time }
+use Rattle.tsdb_streams.specs.Survivors.{place_at as at}
 
 -- whether a point of a source that was born so is kept: it is in the range, and no mark deletes it
 abbrev pub is_kept : List ℕ → Range → List Mark → ℕ → Point → Bool

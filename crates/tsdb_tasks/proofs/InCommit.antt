@@ -15,7 +15,7 @@ use Rattle.tsdb_tasks.proofs.InState.{IsKnown, rights_are, still_known}
 use Rattle.tsdb_tasks.specs.Finishing.{AreRunsOf, Finishes, IsRunOf}
 use Rattle.tsdb_tasks.specs.States.{AreInputsIn, IsFresh, IsNewOf, IsPlaceOf, sent_files}
 use Rattle.tsdb_tasks.specs.declared.finishing.InputRuns.{InputRuns}
-use Rattle.tsdb_compactions.specs.Jobs.{IsCompactionOf, plain_numbers}
+use Rattle.tsdb_compactions.specs.Jobs.{IsCompactionOf}
 use Rattle.tsdb_compactions.specs.declared.job.Job.{Job}
 use Rattle.tsdb_fileset.specs.Held.{AreFilesOf, entry_of, outgoing_file, listed}
 use Rattle.tsdb_fileset.proofs.Replaced.{run_parts}
@@ -30,6 +30,7 @@ use Rattle.tsdb_state.specs.Jobs.{job_inputs}
 use Rattle.tsdb_state.specs.Records.{Replacement, new_file, number_list, numbers_of, replace, replace_in}
 use Rattle.tsdb_state.specs.State.{Compaction, EngineState, KnownFiles, File}
 use Rattle.tsdb_state.specs.Steps.{committed, file_numbers, output_number}
+use Rattle.tsdb_outside.specs.Files.{plain_numbers}
 
 numbers_as : (files : List File) → number_list (file_numbers files) ≡ numbers_of files
 numbers_as [] = refl

@@ -13,7 +13,7 @@ use Rattle.tsdb_tasks.proofs.Standing.{only_place}
 use Rattle.tsdb_tasks.specs.Finishing.{AreRunsOf, IsRunOf}
 use Rattle.tsdb_tasks.specs.States.{AreInputsIn, IsPlaceOf}
 use Rattle.tsdb_tasks.specs.declared.finishing.InputRuns.{InputRuns}
-use Rattle.tsdb_compactions.specs.Jobs.{IsCompactionOf, plain_numbers}
+use Rattle.tsdb_compactions.specs.Jobs.{IsCompactionOf}
 use Rattle.tsdb_compactions.specs.declared.job.Job.{Job}
 use Rattle.tsdb_fileset.specs.Held.{AreFilesOf, listed}
 use Rattle.tsdb_fileset.specs.Files.{AreKept, KeptFiles, entry_numbers}
@@ -25,6 +25,7 @@ use Rattle.tsdb_state.specs.Jobs.{HasKind, Stands}
 use Rattle.tsdb_state.specs.Records.{numbers_of}
 use Rattle.tsdb_state.specs.State.{Compaction, EngineState, KnownFiles, File, ToldContents}
 use Rattle.tsdb_state.specs.Steps.{IsOutputPlace}
+use Rattle.tsdb_outside.specs.Files.{plain_numbers}
 
 -- the first of some numbers from a place on stands at the place
 pub record HasAt (xs : List ℕ) (place y : ℕ) : Type 0 where

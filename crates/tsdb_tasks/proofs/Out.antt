@@ -17,7 +17,7 @@ use Rattle.tsdb_tasks.specs.Series.{AreSeriesOfJob}
 use Rattle.tsdb_tasks.specs.declared.beginning.TakenInputs.{TakenInputs}
 use Rattle.tsdb_tasks.specs.declared.finishing.InputRuns.{InputRuns}
 use Rattle.tsdb_tasks.specs.declared.series.JobSeries.{JobSeries}
-use Rattle.tsdb_compactions.specs.Jobs.{IsCompactionOf, IsJobFormed, plain_numbers}
+use Rattle.tsdb_compactions.specs.Jobs.{IsCompactionOf, IsJobFormed}
 use Rattle.tsdb_compactions.specs.declared.job.Job.{Job}
 use Rattle.tsdb_fileset.specs.Held.{listed}
 use Rattle.tsdb_fileset.proofs.Replaced.{run_parts}
@@ -30,7 +30,7 @@ use Rattle.tsdb_fileset.specs.declared.room.Spare.{Spare}
 use Rattle.tsdb_base.proofs.Lists.{count_append, each_weaker}
 use Rattle.tsdb_base.specs.Lists.{IsRun, count}
 use Rattle.tsdb_memory.specs.Store.{MemoryState}
-use Rattle.tsdb_outside.specs.Files.{NamedFile}
+use Rattle.tsdb_outside.specs.Files.{NamedFile, plain_numbers}
 use Rattle.tsdb_pin.specs.Changes.{more_rights}
 use Rattle.tsdb_plan.specs.declared.entry.FileEntry.{FileEntry}
 use Rattle.tsdb_plan.specs.declared.entry.Run.{Run}

@@ -7,12 +7,12 @@ use Rattle.std.specs.Prelude.{slice_get, slice_range}
 use Rattle.std.proofs.lemmas.List.{drop-map, drop_at, get_or-map, get_or_at, length-append, length-map, take-map}
 use Rattle.std.proofs.lemmas.List.{take_at}
 use Rattle.tsdb_base.specs.declared.ids.FileNumber.{FileNumber}
-use Rattle.tsdb_compactions.specs.Jobs.{plain_numbers}
 use Rattle.tsdb_fileset.specs.Files.{entry_numbers}
 use Rattle.tsdb_fileset.specs.Replacing.{IsWithin}
 use Rattle.tsdb_base.proofs.Lists.{count_append}
 use Rattle.tsdb_base.specs.Lists.{IsRun, count}
 use Rattle.tsdb_plan.specs.declared.entry.FileEntry.{FileEntry}
+use Rattle.tsdb_outside.specs.Files.{plain_numbers}
 
 itself : (n : ℕ) → ◌≡◌ {A = ℕ} (cond (n == n) 1 0) 1
 itself n = ap {B = ℕ} (λ b. cond b 1 0) ((unsigned_Decides n n).1 refl)

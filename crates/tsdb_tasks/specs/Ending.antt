@@ -5,7 +5,6 @@ use Rattle.tsdb_base.specs.declared.ids.FileNumber.{FileNumber}
 use Rattle.tsdb_tasks.specs.Coming.{outgoing_of}
 use Rattle.tsdb_tasks.specs.Files.{NewFile}
 use Rattle.tsdb_tasks.specs.Inputs.{AreHeld, input_numbers}
-use Rattle.tsdb_compactions.specs.Jobs.{plain_numbers}
 use Rattle.tsdb_compactions.specs.declared.job.Job.{Job}
 use Rattle.tsdb_compactions.specs.Built.{Built}
 use Rattle.tsdb_fileset.specs.Files.{IsOpen, KeptFiles, entry_numbers, kept_file}
@@ -14,7 +13,7 @@ use Rattle.tsdb_fileset.specs.Replacing.{HasListRoom, IsWithin, claim_run, less_
 use Rattle.tsdb_fileset.specs.Room.{less_room}
 use Rattle.tsdb_base.specs.Lists.{IsRun, count, if_some}
 use Rattle.tsdb_base.specs.declared.ids.Space.{Space}
-use Rattle.tsdb_outside.specs.Files.{NamedFile}
+use Rattle.tsdb_outside.specs.Files.{NamedFile, plain_numbers}
 use Rattle.tsdb_pin.specs.Changes.{fewer_rights}
 use Rattle.tsdb_plan.specs.declared.entry.FileEntry.{FileEntry}
 use Rattle.tsdb_plan.specs.declared.entry.Run.{Run}

@@ -7,7 +7,6 @@ use Rattle.tsdb_base.specs.declared.ids.Space.TheVariants.{Sequence, Unsequence}
 use Rattle.tsdb_tasks.specs.Files.{NewFile}
 use Rattle.tsdb_tasks.specs.Inputs.{input_numbers}
 use Rattle.tsdb_tasks.specs.declared.finishing.InputRuns.{InputRuns}
-use Rattle.tsdb_compactions.specs.Jobs.{plain_numbers}
 use Rattle.tsdb_compactions.specs.declared.job.Job.{Job}
 use Rattle.tsdb_fileset.specs.Files.{KeptFiles, entry_numbers, kept_file}
 use Rattle.tsdb_fileset.specs.Places.{place_of_number}
@@ -16,6 +15,7 @@ use Rattle.tsdb_base.specs.Lists.{count}
 use Rattle.tsdb_pin.specs.Changes.{fewer_rights}
 use Rattle.tsdb_plan.specs.declared.entry.FileEntry.{FileEntry}
 use Rattle.tsdb_plan.specs.declared.entry.Run.{Run}
+use Rattle.tsdb_outside.specs.Files.{plain_numbers}
 
 -- the files of the run have these numbers
 pub record IsRunOf (run : Run) (numbers : List FileNumber) (entries : List FileEntry) : Type 0 where

@@ -2,11 +2,11 @@
 ghost use Rattle.std.specs.Option.{option_map};
 ghost use Rattle.std.specs.Prelude.{◌≡◌, IfSome};
 ghost use Rattle.tsdb_tasks.specs.Files.{file_built};
-ghost use Rattle.tsdb_compactions.specs.Jobs.{plain_numbers};
 ghost use Rattle.tsdb_tasks.specs.Ending.{FreesLate, GivesUp, IsOutIn, IsOutputNumbered, OutputEnds};
 ghost use Rattle.tsdb_fileset.specs.Files.{IsOpen, entry_numbers};
 ghost use Rattle.tsdb_fileset.specs.Room.{HasRoom};
 ghost use Rattle.tsdb_base.specs.Lists.{IsRun};
+ghost use Rattle.tsdb_outside.specs.Files.{plain_numbers};
 
 use crate::inputs::give_back_inputs;
 use crate::runs::run_of;

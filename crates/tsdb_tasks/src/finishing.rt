@@ -4,10 +4,10 @@ ghost use Rattle.std.specs.Prelude.{◌≡◌, ◌+◌, [], IfSome, length};
 ghost use Rattle.tsdb_tasks.specs.Files.{file_built};
 ghost use Rattle.tsdb_tasks.specs.Ending.{IsOutIn, IsOutputNumbered};
 ghost use Rattle.tsdb_tasks.specs.Finishing.{AreRunsOf, Finishes, IsRunOf, StandInSequence};
-ghost use Rattle.tsdb_compactions.specs.Jobs.{plain_numbers};
 ghost use Rattle.tsdb_fileset.specs.Files.{entry_numbers};
 ghost use Rattle.tsdb_base.specs.declared.ids.Space.TheVariants.{Sequence, Unsequence};
 ghost use Rattle.tsdb_base.specs.Lists.{IsRun};
+ghost use Rattle.tsdb_outside.specs.Files.{plain_numbers};
 
 use crate::inputs::give_back_inputs;
 use crate::runs::run_of;

@@ -1,10 +1,10 @@
 //! Where files stand in a list. Depends on tsdb_plan.
 ghost use Rattle.std.specs.Prelude.{◌≡◌, ◌≢◌, ◌<◌, ◌≤◌, [], ℕ, IfNone, IfSome, get_or, length, slice_range};
-ghost use Rattle.tsdb_compactions.specs.Jobs.{plain_numbers};
 ghost use Rattle.tsdb_fileset.specs.Files.{entry_numbers};
 ghost use Rattle.tsdb_fileset.specs.Replacing.{IsWithin};
 ghost use Rattle.tsdb_base.specs.Lists.{IsRun, count};
 ghost use Rattle.tsdb_plan.specs.declared.entry.FileEntry.{FileEntry as EntryOf};
+ghost use Rattle.tsdb_outside.specs.Files.{plain_numbers};
 
 use tsdb_base::FileNumber;
 use tsdb_plan::{FileEntry, Run};
