@@ -17,7 +17,7 @@ use Rattle.tsdb_core.specs.Sweeps.{IsSwept}
 use Rattle.tsdb_core.specs.declared.commit.Commit.{Commit}
 use Rattle.tsdb_core.specs.declared.commit.CoreFault.{CoreFault}
 use Rattle.tsdb_core.specs.declared.engine.Core.{Core}
-use Rattle.tsdb_flush.specs.Built.{IsPartDone}
+use Rattle.tsdb_flush.specs.BuiltFile.{IsPartDone}
 use Rattle.tsdb_flush.specs.Jobs.{IsJob}
 use Rattle.tsdb_flush.specs.Parts.{Filled}
 use Rattle.tsdb_flush.specs.declared.job.Built.{Built}

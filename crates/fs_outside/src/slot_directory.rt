@@ -194,7 +194,7 @@ fn is_same_file(one: &File, other: &File) -> io::Result<bool> {
 }
 
 // The file that is being made, if there is one.
-fn created(unfinished: &mut Option<File>) -> io::Result<&mut File> {
+fn unfinished_file(unfinished: &mut Option<File>) -> io::Result<&mut File> {
     match unfinished {
         Some(file) => Ok(file),
         None => Err(io::Error::from(ErrorKind::NotFound)),
@@ -268,11 +268,11 @@ impl<R: Files<File = File> + AllocGlobal + Clone + Drop> SlotDirectory for Slots
     }
 
     fn write_unfinished(&mut self, bytes: &[u8]) -> io::Result<()> {
-        created(&mut self.unfinished)?.write_all(bytes)
+        unfinished_file(&mut self.unfinished)?.write_all(bytes)
     }
 
     fn sync_unfinished(&mut self) -> io::Result<()> {
-        created(&mut self.unfinished)?.sync_all()
+        unfinished_file(&mut self.unfinished)?.sync_all()
     }
 
     fn rename(&mut self, slot: Slot) -> io::Result<()> {

@@ -85,7 +85,7 @@ fn if_number<'a>(value: Value) -> Kept<'a>
 }
 
 /// What statistics lend, if there is a value.
-fn lent(value: &Option<Value>) -> Kept<'_>
+fn lend(value: &Option<Value>) -> Kept<'_>
     ensures { kept_value result ≡ value.now }
 {
     match value {
@@ -126,8 +126,8 @@ impl<'a> Tally<'a> {
             Aggregate::Count => Kept::Nothing,
             Aggregate::FirstValue => Kept::Lent(&stats.first),
             Aggregate::LastValue => Kept::Lent(&stats.last),
-            Aggregate::MinValue => lent(&stats.least),
-            Aggregate::MaxValue => lent(&stats.greatest),
+            Aggregate::MinValue => lend(&stats.least),
+            Aggregate::MaxValue => lend(&stats.greatest),
             Aggregate::MinTime => Kept::Own(Value::I64(stats.start)),
             Aggregate::MaxTime => Kept::Own(Value::I64(stats.end)),
         };

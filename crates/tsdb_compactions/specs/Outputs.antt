@@ -8,7 +8,7 @@ use Rattle.tsdb_flush.specs.BuiltParts.{HasPartPoint, IsPart, entry_of}
 use Rattle.tsdb_compactions.specs.Jobs.{input_file, input_files}
 use Rattle.tsdb_compactions.specs.declared.job.Input.{Input}
 use Rattle.tsdb_compactions.specs.declared.job.Job.{Job}
-use Rattle.tsdb_flush.specs.Built.{IsBuiltOf}
+use Rattle.tsdb_flush.specs.BuiltFile.{IsBuiltOf}
 use Rattle.tsdb_flush.specs.Parts.{Filled}
 use Rattle.tsdb_flush.specs.declared.job.Built.{Built}
 use Rattle.tsdb_state.specs.Layers.{value_in}

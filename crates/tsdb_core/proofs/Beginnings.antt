@@ -37,7 +37,7 @@ use Rattle.tsdb_core.specs.Core.{AreClaimed, IsSeen, KeepsJobs, is_claimed, next
 use Rattle.tsdb_core.specs.Worlds.{CoreKeepsWorld}
 use Rattle.tsdb_core.specs.declared.commit.CoreFault.{CoreFault}
 use Rattle.tsdb_core.specs.declared.engine.Core.{Core}
-use Rattle.tsdb_fileset.specs.Held.{AreFilesOf, listed}
+use Rattle.tsdb_fileset.specs.StateOfFiles.{AreFilesOf, listed}
 use Rattle.tsdb_state.proofs.ImageLemmas.Storing.{begin_stored}
 use Rattle.tsdb_fileset.specs.Files.{AreKept, KeptFiles, kept_file}
 use Rattle.tsdb_fileset.specs.Places.{KeptFile}
@@ -45,8 +45,8 @@ use Rattle.tsdb_fileset.specs.Replacing.{IsWithin, claim_run, run_length}
 use Rattle.tsdb_base.proofs.Lists.{each_weaker}
 use Rattle.tsdb_base.specs.Lists.{Among, count}
 use Rattle.tsdb_memory.specs.Commands.{IsPrepared}
-use Rattle.tsdb_memory.specs.Logged.{IsSoundLogged, Outside, memory_of, framed_room}
-use Rattle.tsdb_memory.specs.declared.logged.LoggedMemory.{LoggedMemory}
+use Rattle.tsdb_memory.specs.LogState.{IsSoundLogged, Outside, memory_of, framed_room}
+use Rattle.tsdb_memory.specs.declared.logged_memory.LoggedMemory.{LoggedMemory}
 use Rattle.tsdb_marks.specs.Lists.{is_of}
 use Rattle.tsdb_model.specs.declared.command.Schema.{Schema}
 use Rattle.tsdb_outside.specs.Files.{NamedFile, Store}

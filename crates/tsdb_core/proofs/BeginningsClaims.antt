@@ -12,7 +12,7 @@ use Rattle.tsdb_base.specs.declared.ids.Space.TheVariants.{Sequence, Unsequence}
 use Rattle.tsdb_tasks.proofs.InState.{IsKnown, counted_among, kept_among}
 use Rattle.tsdb_tasks.proofs.Taken.{all_counted}
 use Rattle.tsdb_core.specs.Core.{is_claimed}
-use Rattle.tsdb_fileset.specs.Held.{AreFilesOf, entry_of, listed}
+use Rattle.tsdb_fileset.specs.StateOfFiles.{AreFilesOf, entry_of, listed}
 use Rattle.tsdb_fileset.proofs.Replaced.{run_parts}
 use Rattle.tsdb_fileset.specs.Files.{AreKept, KeptFiles, entries_in, entry_numbers, kept_file, all_numbers}
 use Rattle.tsdb_fileset.specs.Places.{KeptFile}

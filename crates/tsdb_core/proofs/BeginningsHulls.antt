@@ -9,12 +9,12 @@ use Rattle.tsdb_tasks.proofs.InState.{IsKnown, kept_among}
 use Rattle.tsdb_core.specs.Beginnings.{HaveHulls}
 use Rattle.tsdb_core.specs.Core.{IsSeen}
 use Rattle.tsdb_core.specs.declared.engine.Core.{Core}
-use Rattle.tsdb_fileset.specs.Held.{AreFilesOf, entry_of, listed}
+use Rattle.tsdb_fileset.specs.StateOfFiles.{AreFilesOf, entry_of, listed}
 use Rattle.tsdb_fileset.specs.Files.{AreKept, KeptFiles, entries_in, kept_file}
 use Rattle.tsdb_fileset.specs.Places.{KeptFile}
 use Rattle.tsdb_base.proofs.Lists.{among_left, among_map, among_right, each_among, each_from_among}
 use Rattle.tsdb_base.specs.Lists.{Among}
-use Rattle.tsdb_memory.specs.Logged.{Outside}
+use Rattle.tsdb_memory.specs.LogState.{Outside}
 use Rattle.tsdb_outside.specs.declared.disk.Disk as disk
 use Rattle.tsdb_outside.specs.declared.faults.Counted as counted
 use Rattle.tsdb_plan.specs.Files.{AreHullsRising, HaveRisingHulls}

@@ -20,7 +20,7 @@ use Rattle.tsdb_fileset.specs.Room.{more_room}
 use Rattle.tsdb_fileset.specs.declared.room.Spare.{Spare}
 use Rattle.tsdb_base.proofs.Lists.{each_among, each_append, each_left, each_right, each_weaker}
 use Rattle.tsdb_base.specs.Lists.{count}
-use Rattle.tsdb_memory.specs.Logged.{framed_room}
+use Rattle.tsdb_memory.specs.LogState.{framed_room}
 use Rattle.tsdb_outside.specs.declared.disk.Disk as disk
 use Rattle.tsdb_outside.specs.declared.faults.Counted as counted_by
 use Rattle.tsdb_tasks.specs.Changes.{more_rights}

@@ -34,8 +34,8 @@ use Rattle.tsdb_core.specs.declared.engine.Core.{Core}
 use Rattle.tsdb_frames.specs.Frames.{faults_of, slot_of}
 use Rattle.tsdb_fileset.proofs.Joining.{only_places}
 use Rattle.tsdb_fileset.proofs.StateSweeps.{borns_are}
-use Rattle.tsdb_fileset.specs.Held.{AreFilesOf, TellTheirBytes}
-use Rattle.tsdb_state.specs.Stored.{built_files, kept_bytes}
+use Rattle.tsdb_fileset.specs.StateOfFiles.{AreFilesOf, TellTheirBytes}
+use Rattle.tsdb_state.specs.StoredEngine.{built_files, kept_bytes}
 use Rattle.tsdb_fileset.specs.FlushJob.{FlushJob}
 use Rattle.tsdb_fileset.specs.Files.{IsOpen, KeepsLists, KeptFiles, listed_borns}
 use Rattle.tsdb_fileset.specs.Places.{KeptFile, OnlyMakesPlaces}
@@ -52,10 +52,10 @@ use Rattle.tsdb_memory.proofs.LogLemmas.Steps.{no_memory, refuses}
 use Rattle.tsdb_memory.specs.Changes.{KeepsSeries}
 use Rattle.tsdb_memory.specs.Commands.{NeedsNothing, IsPrepared}
 use Rattle.tsdb_memory.specs.Flushes.{CanCommit, IsFlushed}
-use Rattle.tsdb_memory.specs.Logged.{IsSoundLogged, LeavesStates, Outside, log_of, memory_of, framed_room, with_record}
-use Rattle.tsdb_memory.specs.declared.logged.LoggedMemory.{LoggedMemory}
+use Rattle.tsdb_memory.specs.LogState.{IsSoundLogged, LeavesStates, Outside, log_of, memory_of, framed_room, with_record}
+use Rattle.tsdb_memory.specs.declared.logged_memory.LoggedMemory.{LoggedMemory}
 use Rattle.tsdb_memory.specs.Least.{IsLeastOf}
-use Rattle.tsdb_memory.specs.Shown.{IsFrozenOf}
+use Rattle.tsdb_memory.specs.StateOfMemory.{IsFrozenOf}
 use Rattle.tsdb_memory.specs.Store.{FrozenPair as FrozenInMemory}
 use Rattle.tsdb_outside.specs.Files.{Store, StoredFile}
 use Rattle.tsdb_outside.specs.declared.disk.Disk as disk

@@ -27,8 +27,8 @@ use Rattle.tsdb_base.proofs.Lists.{any_among, count_append, each_among, each_app
 use Rattle.tsdb_base.proofs.Lists.{each_right, each_weaker}
 use Rattle.tsdb_base.proofs.Lists.{each_map, with_one_each}
 use Rattle.tsdb_base.specs.Lists.{Among, IsWithOne, count, if_some}
-use Rattle.tsdb_memory.specs.Logged.{framed_room}
-use Rattle.tsdb_memory.specs.declared.logged.LoggedMemory.{LoggedMemory}
+use Rattle.tsdb_memory.specs.LogState.{framed_room}
+use Rattle.tsdb_memory.specs.declared.logged_memory.LoggedMemory.{LoggedMemory}
 use Rattle.tsdb_outside.specs.declared.disk.Disk as disk
 use Rattle.tsdb_outside.specs.declared.faults.Counted as counted_by
 use Rattle.tsdb_state.proofs.Counting.{numbers_drawn}

@@ -11,11 +11,11 @@ use Rattle.tsdb_fileset.specs.Files.{AreKept}
 use Rattle.tsdb_fileset.proofs.Telling.{lines_tell_files}
 use Rattle.tsdb_fileset.specs.Lines.{file_lines_of}
 use Rattle.tsdb_fileset.specs.Listings.{TellFiles}
-use Rattle.tsdb_memory.specs.Logged.{Outside, memory_of}
+use Rattle.tsdb_memory.specs.LogState.{Outside, memory_of}
 use Rattle.tsdb_model.specs.declared.reply.FileLine.{FileLine}
 use Rattle.tsdb_marks.specs.declared.marks.Mark.{Mark}
 use Rattle.tsdb_memory.specs.Model.{frozen_in}
-use Rattle.tsdb_memory.specs.Shown.{IsFrozenOf, IsMemoryOf, part_of}
+use Rattle.tsdb_memory.specs.StateOfMemory.{IsFrozenOf, IsMemoryOf, part_of}
 use Rattle.tsdb_memory.specs.Store.{MemoryState}
 use Rattle.tsdb_memory.specs.declared.store.FrozenPair.{FrozenPair}
 use Rattle.tsdb_outside.specs.declared.disk.Disk as disk

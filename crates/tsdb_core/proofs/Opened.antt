@@ -2,8 +2,8 @@
 use Rattle.std.proofs.Common.{◌≡◌, ℕ, [], arith}
 use Rattle.tsdb_core.specs.Core.{IsAboveNumbers, IsSeen, KeepsJobs, files_of, logged_of, next_of}
 use Rattle.tsdb_core.specs.declared.engine.Core.{Core}
-use Rattle.tsdb_fileset.specs.Held.{AreFilesOf, TellTheirBytes}
-use Rattle.tsdb_memory.specs.Logged.{IsSoundLogged, Outside}
+use Rattle.tsdb_fileset.specs.StateOfFiles.{AreFilesOf, TellTheirBytes}
+use Rattle.tsdb_memory.specs.LogState.{IsSoundLogged, Outside}
 use Rattle.tsdb_outside.specs.declared.disk.Disk as disk
 use Rattle.tsdb_outside.specs.declared.faults.Counted as counted
 use Rattle.tsdb_state.specs.NewStore.{opened}

@@ -8,15 +8,15 @@ use Rattle.tsdb_core.specs.Core.{AreClaimed, IsSeen, KeepsJobs, next_of}
 use Rattle.tsdb_core.specs.Pins.{ChangesRights, IsNotPinned, IsPinStep, IsPinned, IsUnpinned}
 use Rattle.tsdb_core.specs.Worlds.{CoreKeepsWorld}
 use Rattle.tsdb_core.specs.declared.engine.Core.{Core}
-use Rattle.tsdb_fileset.specs.Held.{TellTheirBytes}
+use Rattle.tsdb_fileset.specs.StateOfFiles.{TellTheirBytes}
 use Rattle.tsdb_state.proofs.ImageLemmas.Storing.{pin_stored, unpin_stored}
-use Rattle.tsdb_state.specs.Stored.{kept_bytes}
+use Rattle.tsdb_state.specs.StoredEngine.{kept_bytes}
 use Rattle.tsdb_fileset.specs.Files.{IsOpen, KeptFiles, kept_file}
 use Rattle.tsdb_fileset.specs.Places.{KeptFile}
 use Rattle.tsdb_fileset.specs.declared.room.Spare.{Spare}
 use Rattle.tsdb_base.proofs.Lists.{each_weaker}
 use Rattle.tsdb_base.specs.Lists.{IsWithOne, count}
-use Rattle.tsdb_memory.specs.Logged.{Outside, memory_of, framed_room}
+use Rattle.tsdb_memory.specs.LogState.{Outside, memory_of, framed_room}
 use Rattle.tsdb_memory.specs.Store.{MemoryState}
 use Rattle.tsdb_outside.specs.Files.{NamedFile, StoredFile}
 use Rattle.tsdb_outside.specs.declared.disk.Disk as disk
@@ -26,7 +26,7 @@ use Rattle.tsdb_tasks.proofs.Gathered.{columns_stay}
 use Rattle.tsdb_tasks.proofs.Pinned.{files_with}
 use Rattle.tsdb_tasks.specs.Changes.{ChangesFiles, GivesRights, ChangesNoFile, TakesRights, column_numbers, fewer_rights, more_rights}
 use Rattle.tsdb_tasks.specs.Pins.{AreColumnsHeld, IsPinTakenOrNot}
-use Rattle.tsdb_tasks.specs.Shown.{IsPinOf, IsPinOfState, LeavesState}
+use Rattle.tsdb_tasks.specs.StateOfPin.{IsPinOf, IsPinOfState, LeavesState}
 use Rattle.tsdb_tasks.specs.Pin.{Pin}
 use Rattle.tsdb_tasks.specs.PinFault.{PinFault}
 use Rattle.tsdb_state.proofs.Pinning.{pin_stands}

@@ -29,7 +29,7 @@ use Rattle.tsdb_core.specs.Replacements.{AppendsEnd, CommitsIn, EndsFiles, HasEn
 use Rattle.tsdb_core.specs.Replacements.{IsOutputIn, IsSeenAfterEnd, TellsNew, output_place, with_new, without_claim}
 use Rattle.tsdb_core.specs.Worlds.{IsWorldOf}
 use Rattle.tsdb_core.specs.declared.engine.Core.{Core}
-use Rattle.tsdb_fileset.specs.Held.{AreFilesOf, TellTheirBytes}
+use Rattle.tsdb_fileset.specs.StateOfFiles.{AreFilesOf, TellTheirBytes}
 use Rattle.tsdb_fileset.specs.Built.{Built}
 use Rattle.tsdb_fileset.specs.Files.{AreKept, KeptFiles, listed_borns}
 use Rattle.tsdb_fileset.specs.Replacing.{HasReplaced}
@@ -38,9 +38,9 @@ use Rattle.tsdb_base.specs.Lists.{IsWithOne}
 use Rattle.tsdb_state.specs.Places.{Content}
 use Rattle.tsdb_log.specs.declared.record.LogRecord.{LogRecord}
 use Rattle.tsdb_log.specs.declared.record.LogRecord.TheVariants.{Replaced}
-use Rattle.tsdb_memory.specs.Logged.{HasLog, IsSoundLogged, Outside, framed_room, with_record}
+use Rattle.tsdb_memory.specs.LogState.{HasLog, IsSoundLogged, Outside, framed_room, with_record}
 use Rattle.tsdb_memory.specs.Replacing.{CanCommitReplacement, IsReplaced, IsReplacement}
-use Rattle.tsdb_memory.specs.declared.logged.LoggedMemory.{LoggedMemory}
+use Rattle.tsdb_memory.specs.declared.logged_memory.LoggedMemory.{LoggedMemory}
 use Rattle.tsdb_model.specs.World.{World}
 use Rattle.tsdb_memory.specs.Least.{IsLeastOf}
 use Rattle.tsdb_outside.specs.Files.{NamedFile, plain_numbers}

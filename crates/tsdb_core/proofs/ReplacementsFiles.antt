@@ -29,8 +29,8 @@ use Rattle.tsdb_core.proofs.ReplacementsClaims.{kind, stands}
 use Rattle.tsdb_core.proofs.ReplacementsJobs.{IsGone}
 use Rattle.tsdb_core.specs.Replacements.{IsOutputIn, end_record, output_place, with_new}
 use Rattle.tsdb_fileset.proofs.StateSweeps.{borns_are}
-use Rattle.tsdb_fileset.specs.Held.{AreFilesOf, TellTheirBytes, entry_of, listed}
-use Rattle.tsdb_state.specs.Stored.{kept_bytes}
+use Rattle.tsdb_fileset.specs.StateOfFiles.{AreFilesOf, TellTheirBytes, entry_of, listed}
+use Rattle.tsdb_state.specs.StoredEngine.{kept_bytes}
 use Rattle.tsdb_fileset.proofs.PlaceFacts.{other_number, same_number}
 use Rattle.tsdb_fileset.specs.Files.{AreKept, IsOpen, KeptFiles, kept_file, listed_borns}
 use Rattle.tsdb_fileset.specs.Places.{KeptFile, Places, file_at, is_same_number, place_of_number}
@@ -39,11 +39,11 @@ use Rattle.tsdb_base.proofs.Lists.{among_left, among_map, among_right, each_amon
 use Rattle.tsdb_base.specs.Lists.{Among, IsWithOne, count, if_some}
 use Rattle.tsdb_state.specs.Places.{Content}
 use Rattle.tsdb_log.specs.declared.record.LogRecord.TheVariants.{Replaced}
-use Rattle.tsdb_memory.specs.Logged.{IsStoredIn, Outside}
+use Rattle.tsdb_memory.specs.LogState.{IsStoredIn, Outside}
 use Rattle.tsdb_memory.specs.Replacing.{CanCommitReplacement}
 use Rattle.tsdb_model.specs.World.{World}
 use Rattle.tsdb_memory.specs.Least.{IsLeastOf}
-use Rattle.tsdb_memory.specs.Shown.{file_borns}
+use Rattle.tsdb_memory.specs.StateOfMemory.{file_borns}
 use Rattle.tsdb_tasks.specs.Changes.{fewer_rights}
 use Rattle.tsdb_plan.specs.declared.entry.FileEntry.{FileEntry}
 use Rattle.tsdb_tasks.proofs.OutputEnds.{ended_with, ended_without, none_can, output_can}

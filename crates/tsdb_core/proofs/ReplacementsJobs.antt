@@ -25,8 +25,8 @@ use Rattle.tsdb_fileset.specs.Replacing.{less_compaction}
 use Rattle.tsdb_fileset.specs.declared.room.Spare.{Spare}
 use Rattle.tsdb_base.proofs.Lists.{each_among, each_from_among, each_weaker, with_one_each}
 use Rattle.tsdb_base.specs.Lists.{Among, IsWithOne, count}
-use Rattle.tsdb_memory.specs.Logged.{framed_room}
-use Rattle.tsdb_memory.specs.declared.logged.LoggedMemory.{LoggedMemory}
+use Rattle.tsdb_memory.specs.LogState.{framed_room}
+use Rattle.tsdb_memory.specs.declared.logged_memory.LoggedMemory.{LoggedMemory}
 use Rattle.tsdb_outside.specs.Files.{Store}
 use Rattle.tsdb_outside.specs.declared.disk.Disk as disk
 use Rattle.tsdb_outside.specs.declared.faults.Counted as counted_by

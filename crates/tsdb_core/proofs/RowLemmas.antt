@@ -24,8 +24,8 @@ use Rattle.tsdb_log.specs.declared.record.LogRecord.TheVariants.{Freeze, Insert}
 use Rattle.tsdb_memory.specs.Answers.{IsAccepted, IsFreezeAnswer}
 use Rattle.tsdb_memory.specs.Changes.{HasFrozen, HasInserted, MemoryAfter}
 use Rattle.tsdb_memory.specs.Commands.{CanPut, CanStop, NeedsNothing, HasCommandEffect}
-use Rattle.tsdb_memory.specs.Logged.{Outside, log_of, memory_of}
-use Rattle.tsdb_memory.specs.declared.logged.LoggedMemory.{LoggedMemory}
+use Rattle.tsdb_memory.specs.LogState.{Outside, log_of, memory_of}
+use Rattle.tsdb_memory.specs.declared.logged_memory.LoggedMemory.{LoggedMemory}
 use Rattle.tsdb_model.specs.Apply.{after_reply}
 use Rattle.tsdb_model.specs.World.{World}
 use Rattle.tsdb_model.specs.declared.command.Command.TheVariants as command
@@ -33,7 +33,7 @@ use Rattle.tsdb_model.specs.declared.command.Row.{Row}
 use Rattle.tsdb_model.specs.declared.command.Schema.{Schema}
 use Rattle.tsdb_model.specs.declared.reply.Reply.TheVariants.{Plain}
 use Rattle.tsdb_memory.specs.Rows.{ChangesRoom}
-use Rattle.tsdb_memory.specs.Shown.{IsFrozenOf, IsMemoryOf}
+use Rattle.tsdb_memory.specs.StateOfMemory.{IsFrozenOf, IsMemoryOf}
 use Rattle.tsdb_memory.specs.Store.{MemoryState}
 use Rattle.tsdb_base.specs.Causes.{Rose}
 use Rattle.tsdb_outside.specs.declared.disk.Disk as disk

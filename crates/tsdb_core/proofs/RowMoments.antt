@@ -11,9 +11,9 @@ use Rattle.tsdb_core.specs.declared.engine.Core.{Core}
 use Rattle.tsdb_frames.proofs.MomentLemmas.{leaves_on, weaker}
 use Rattle.tsdb_frames.specs.Frames.{disk_of, slot_of}
 use Rattle.tsdb_state.proofs.ImageLemmas.Leaving.{image_stands}
-use Rattle.tsdb_state.specs.Stored.{LeadsTo, LeavesOneOf}
+use Rattle.tsdb_state.specs.StoredEngine.{LeadsTo, LeavesOneOf}
 use Rattle.tsdb_log.specs.declared.record.LogRecord.TheVariants.{Freeze}
-use Rattle.tsdb_memory.specs.Logged.{Outside, log_of, with_record}
+use Rattle.tsdb_memory.specs.LogState.{Outside, log_of, with_record}
 use Rattle.tsdb_model.specs.History.{state_after}
 use Rattle.tsdb_model.specs.State as plain
 use Rattle.tsdb_model.specs.declared.command.Command.TheVariants as command

@@ -17,7 +17,7 @@ use Rattle.tsdb_core.specs.Sweeps.{IsSwept, IsSweptOf, without_files}
 use Rattle.tsdb_core.specs.declared.engine.Core.{Core}
 use Rattle.tsdb_frames.specs.Frames.{is_in_doubt}
 use Rattle.tsdb_fileset.proofs.StateSweeps.{borns_are, of_those_that_stay, places_stay, sweep_is, tell_on}
-use Rattle.tsdb_fileset.specs.Held.{AreFilesOf, AreSomeOf, IsDoubtOf, TellTheirBytes, may_go, told_numbers}
+use Rattle.tsdb_fileset.specs.StateOfFiles.{AreFilesOf, AreSomeOf, IsDoubtOf, TellTheirBytes, may_go, told_numbers}
 use Rattle.tsdb_state.proofs.ImageLemmas.Storing.{sweep_stored}
 use Rattle.tsdb_fileset.specs.Files.{IsOpen, KeptFiles, kept_file, listed_borns}
 use Rattle.tsdb_fileset.specs.Sweeps.{LeavesWithout, StopsSweepAt, tried_numbers}
@@ -28,8 +28,8 @@ use Rattle.tsdb_base.specs.Lists.{Among, if_some}
 use Rattle.tsdb_log.specs.declared.record.LogRecord.{LogRecord}
 use Rattle.tsdb_log.specs.declared.record.LogRecord.TheVariants.{Delete}
 use Rattle.tsdb_memory.specs.Commands.{HasLeast, IsAfter, NeedsNothing, HasCommandEffect}
-use Rattle.tsdb_memory.specs.Logged.{HasLog, IsSoundLogged, Outside, log_of, framed_room, two_numbers, with_record}
-use Rattle.tsdb_memory.specs.declared.logged.LoggedMemory.{LoggedMemory}
+use Rattle.tsdb_memory.specs.LogState.{HasLog, IsSoundLogged, Outside, log_of, framed_room, two_numbers, with_record}
+use Rattle.tsdb_memory.specs.declared.logged_memory.LoggedMemory.{LoggedMemory}
 use Rattle.tsdb_memory.specs.Least.{IsLeastOf}
 use Rattle.tsdb_outside.specs.declared.disk.Disk as disk
 use Rattle.tsdb_outside.specs.declared.faults.Counted as counted

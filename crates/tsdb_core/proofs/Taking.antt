@@ -21,7 +21,7 @@ use Rattle.tsdb_fileset.proofs.States.{taken_flush}
 use Rattle.tsdb_fileset.specs.Flushes.{IsFlushOf}
 use Rattle.tsdb_fileset.specs.Taking as flushing
 use Rattle.tsdb_fileset.proofs.Joining.{only_places}
-use Rattle.tsdb_fileset.specs.Held.{AreFilesOf}
+use Rattle.tsdb_fileset.specs.StateOfFiles.{AreFilesOf}
 use Rattle.tsdb_state.proofs.ImageLemmas.Storing.{take_flush_stored}
 use Rattle.tsdb_fileset.specs.Jobs.{IsJob}
 use Rattle.tsdb_fileset.specs.FlushJob.{FlushJob}
@@ -30,9 +30,9 @@ use Rattle.tsdb_fileset.specs.Places.{ArePlacesMade, OnlyMakesPlaces}
 use Rattle.tsdb_fileset.specs.Room.{flush_room, more_room}
 use Rattle.tsdb_base.specs.Lists.{if_some}
 use Rattle.tsdb_memory.specs.Commands.{IsPrepared}
-use Rattle.tsdb_memory.specs.Logged.{IsSoundLogged, Outside, memory_of, framed_room}
-use Rattle.tsdb_memory.specs.declared.logged.LoggedMemory.{LoggedMemory}
-use Rattle.tsdb_memory.specs.Shown.{number_of}
+use Rattle.tsdb_memory.specs.LogState.{IsSoundLogged, Outside, memory_of, framed_room}
+use Rattle.tsdb_memory.specs.declared.logged_memory.LoggedMemory.{LoggedMemory}
+use Rattle.tsdb_memory.specs.StateOfMemory.{number_of}
 use Rattle.tsdb_memory.specs.Store.{FrozenPair}
 use Rattle.tsdb_model.specs.declared.command.Schema.{Schema}
 use Rattle.tsdb_outside.specs.declared.disk.Disk as disk

@@ -9,20 +9,20 @@ use Rattle.tsdb_core.specs.Core.{IsSeen, files_of, logged_of}
 use Rattle.tsdb_core.specs.Sweeps.{IsSwept, without_files}
 use Rattle.tsdb_core.specs.Worlds.{CoreFollowsMap, IsWorldOf, CoreKeepsWorld}
 use Rattle.tsdb_core.specs.declared.engine.Core.{Core}
-use Rattle.tsdb_fileset.specs.Held.{may_go}
+use Rattle.tsdb_fileset.specs.StateOfFiles.{may_go}
 use Rattle.tsdb_fileset.specs.Sweeps.{tried_numbers}
 use Rattle.tsdb_log.specs.declared.record.CellRecord.{CellRecord}
 use Rattle.tsdb_log.specs.declared.record.LogRecord.{LogRecord}
 use Rattle.tsdb_log.specs.declared.record.LogRecord.TheVariants.{Freeze, Insert}
 use Rattle.tsdb_memory.specs.Commands.{CanPut, NeedsNothing}
-use Rattle.tsdb_memory.specs.Logged.{Outside, memory_of, with_record}
+use Rattle.tsdb_memory.specs.LogState.{Outside, memory_of, with_record}
 use Rattle.tsdb_model.specs.Apply.{accepted, after_reply}
 use Rattle.tsdb_model.specs.World.{World}
 use Rattle.tsdb_model.specs.declared.command.Command.{Command}
 use Rattle.tsdb_model.specs.declared.command.Command.TheVariants as command
 use Rattle.tsdb_model.specs.declared.command.Row.{Row}
 use Rattle.tsdb_model.specs.declared.reply.Reply.TheVariants.{Plain}
-use Rattle.tsdb_memory.specs.Shown.{IsMemoryOf, series_entry}
+use Rattle.tsdb_memory.specs.StateOfMemory.{IsMemoryOf, series_entry}
 use Rattle.tsdb_outside.specs.declared.disk.Disk as disk
 use Rattle.tsdb_outside.specs.declared.faults.Counted as counted
 use Rattle.tsdb_outside.specs.declared.faults.Failed.{Failed}

@@ -24,7 +24,7 @@ use Rattle.tsdb_fileset.specs.Files.{KeepsLists, kept_file}
 use Rattle.tsdb_fileset.specs.Places.{AreOfStore, OnlyMakesPlaces}
 use Rattle.tsdb_fileset.specs.Replacing.{claim_run}
 use Rattle.tsdb_memory.specs.Commands.{IsPrepared}
-use Rattle.tsdb_memory.specs.Logged.{Outside, memory_of}
+use Rattle.tsdb_memory.specs.LogState.{Outside, memory_of}
 use Rattle.tsdb_marks.specs.Lists.{is_of}
 use Rattle.tsdb_base.specs.Lists.{count}
 use Rattle.tsdb_outside.specs.Files as outside

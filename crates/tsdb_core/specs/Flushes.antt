@@ -21,7 +21,7 @@ use Rattle.tsdb_core.specs.declared.commit.CoreFault.{CoreFault}
 use Rattle.tsdb_core.specs.declared.commit.CoreFault.TheVariants.{Memory, Full}
 use Rattle.tsdb_fileset.specs.Flushes.{IsFlushOf}
 use Rattle.tsdb_frames.specs.Frames.{faults_of, slot_of}
-use Rattle.tsdb_state.specs.Stored.{built_files}
+use Rattle.tsdb_state.specs.StoredEngine.{built_files}
 use Rattle.tsdb_fileset.specs.Jobs.{IsJob}
 use Rattle.tsdb_fileset.specs.Taking as taking
 use Rattle.tsdb_fileset.specs.FlushJob.{FlushJob}
@@ -31,7 +31,7 @@ use Rattle.tsdb_base.specs.Lists.{IsWithOne}
 use Rattle.tsdb_memory.specs.Changes.{KeepsSeries}
 use Rattle.tsdb_memory.specs.Commands.{IsPrepared}
 use Rattle.tsdb_memory.specs.Flushes.{IsFlushed}
-use Rattle.tsdb_memory.specs.Logged.{LeavesStates, Outside, log_of, memory_of, with_record}
+use Rattle.tsdb_memory.specs.LogState.{LeavesStates, Outside, log_of, memory_of, with_record}
 use Rattle.tsdb_model.specs.World.{World}
 use Rattle.tsdb_memory.specs.Store.{FrozenPair, MemoryState}
 use Rattle.tsdb_base.specs.Causes.{Rose}

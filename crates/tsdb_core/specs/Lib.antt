@@ -17,7 +17,7 @@ pub mod Out
 pub use Rattle.tsdb_tasks.specs.Files
 pub use Rattle.tsdb_fileset.specs.Places
 pub use Rattle.tsdb_fileset.specs.Files as FilesetFiles
-pub use Rattle.tsdb_fileset.specs.Held
+pub use Rattle.tsdb_fileset.specs.StateOfFiles
 pub use Rattle.tsdb_fileset.specs.Sweeps as FilesetSweeps
 pub use Rattle.tsdb_fileset.specs.Listings as FilesetListings
 pub use Rattle.tsdb_tasks.specs.Inputs

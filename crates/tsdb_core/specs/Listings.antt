@@ -6,7 +6,7 @@ use Rattle.tsdb_core.specs.Core.{IsSeen, files_of, logged_of}
 use Rattle.tsdb_core.specs.declared.engine.Core.{Core}
 use Rattle.tsdb_fileset.specs.Lines.{file_lines_of}
 use Rattle.tsdb_fileset.specs.Listings.{TellFiles}
-use Rattle.tsdb_memory.specs.Logged.{Outside, memory_of}
+use Rattle.tsdb_memory.specs.LogState.{Outside, memory_of}
 use Rattle.tsdb_model.specs.declared.reply.Listing.{Listing}
 use Rattle.tsdb_outside.specs.declared.disk.Disk as disk
 use Rattle.tsdb_outside.specs.declared.faults.Counted as counted

@@ -6,7 +6,7 @@ use Rattle.tsdb_core.specs.Loans.{KeepsAllLoans, KeepsLoans, LentRight, lent_num
 use Rattle.tsdb_core.specs.declared.engine.Core.{Core}
 use Rattle.tsdb_fileset.specs.Places.{AreOfStore}
 use Rattle.tsdb_base.specs.Lists.{IsWithOne}
-use Rattle.tsdb_memory.specs.Logged.{Outside}
+use Rattle.tsdb_memory.specs.LogState.{Outside}
 use Rattle.tsdb_model.specs.World.{World}
 use Rattle.tsdb_outside.specs.Files as outside
 use Rattle.tsdb_outside.specs.Files.{NamedFile}
@@ -14,7 +14,7 @@ use Rattle.tsdb_outside.specs.declared.disk.Disk as disk
 use Rattle.tsdb_outside.specs.declared.faults.Counted as counted
 use Rattle.tsdb_tasks.specs.Changes.{GivesRights, ChangesNoFile, TakesRights, column_numbers}
 use Rattle.tsdb_tasks.specs.Pins.{AreColumnsHeld}
-use Rattle.tsdb_tasks.specs.Shown.{IsPinOf}
+use Rattle.tsdb_tasks.specs.StateOfPin.{IsPinOf}
 use Rattle.tsdb_tasks.specs.Pin.{Pin}
 use Rattle.tsdb_tasks.specs.PinnedSource.{PinnedSource}
 use Rattle.tsdb_tasks.specs.TheVariants.{File, Part}

@@ -30,7 +30,7 @@ use Rattle.tsdb_log.specs.declared.record.LogRecord.{LogRecord}
 use Rattle.tsdb_log.specs.declared.record.LogRecord.TheVariants.{Create, Delete, Flushed, Freeze, Insert, Replaced}
 use Rattle.tsdb_log.specs.declared.record.LogRecord.TheVariants.{Snapshot}
 use Rattle.tsdb_memory.specs.Changes.{KeepsSeries}
-use Rattle.tsdb_memory.specs.Logged.{LeavesStates, Outside, log_of, memory_of, with_record}
+use Rattle.tsdb_memory.specs.LogState.{LeavesStates, Outside, log_of, memory_of, with_record}
 use Rattle.tsdb_memory.specs.Replacing.{IsReplaced}
 use Rattle.tsdb_model.specs.World.{World}
 use Rattle.tsdb_memory.specs.Least.{IsLeastOf}

@@ -6,12 +6,12 @@ use Rattle.tsdb_core.specs.Core.{IsSeen, logged_of, working_of}
 use Rattle.tsdb_core.specs.Rows.{FitsCore}
 use Rattle.tsdb_core.specs.declared.engine.Core.{Core}
 use Rattle.tsdb_log.specs.declared.record.CellRecord.{CellRecord}
-use Rattle.tsdb_memory.specs.Logged.{Outside, memory_of}
+use Rattle.tsdb_memory.specs.LogState.{Outside, memory_of}
 use Rattle.tsdb_base.specs.Limits.{max_names}
 use Rattle.tsdb_model.specs.declared.command.Cell.{Cell}
 use Rattle.tsdb_model.specs.declared.command.Row.{Row}
 use Rattle.tsdb_model.specs.declared.command.Schema.{Schema}
-use Rattle.tsdb_memory.specs.Shown.{IsMemoryOf, series_entry}
+use Rattle.tsdb_memory.specs.StateOfMemory.{IsMemoryOf, series_entry}
 use Rattle.tsdb_outside.specs.declared.disk.Disk as disk
 use Rattle.tsdb_outside.specs.declared.faults.Counted as counted
 use Rattle.tsdb_memory.specs.Fits.{HasCounts}

@@ -6,18 +6,18 @@ use Rattle.tsdb_core.specs.Commands.{IsCoreCommand}
 use Rattle.tsdb_core.specs.Core.{IsSeen, limit_of, logged_of, working_of}
 use Rattle.tsdb_core.specs.declared.engine.Core.{Core}
 use Rattle.tsdb_frames.specs.Frames.{disk_of, slot_of}
-use Rattle.tsdb_state.specs.Stored.{LeadsTo, LeavesOneOf}
+use Rattle.tsdb_state.specs.StoredEngine.{LeadsTo, LeavesOneOf}
 use Rattle.tsdb_log.specs.declared.record.CellRecord.{CellRecord}
 use Rattle.tsdb_log.specs.declared.record.LogRecord.TheVariants.{Freeze, Insert}
 use Rattle.tsdb_memory.specs.Changes.{HasFrozen, HasInserted, MemoryAfter}
 use Rattle.tsdb_memory.specs.Commands.{CanPut, NeedsNothing}
-use Rattle.tsdb_memory.specs.Logged.{Outside, log_of, memory_of}
+use Rattle.tsdb_memory.specs.LogState.{Outside, log_of, memory_of}
 use Rattle.tsdb_model.specs.History.{state_after}
 use Rattle.tsdb_model.specs.State as plain
 use Rattle.tsdb_model.specs.declared.command.Command.TheVariants as command
 use Rattle.tsdb_model.specs.declared.command.Row.{Row}
 use Rattle.tsdb_model.specs.declared.reply.Reply.TheVariants.{Plain}
-use Rattle.tsdb_memory.specs.Shown.{series_entry}
+use Rattle.tsdb_memory.specs.StateOfMemory.{series_entry}
 use Rattle.tsdb_outside.specs.Moments.{LeavesOnly}
 use Rattle.tsdb_outside.specs.declared.disk.Disk as disk
 use Rattle.tsdb_outside.specs.declared.faults.Counted as counted

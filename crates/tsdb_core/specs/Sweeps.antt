@@ -5,10 +5,10 @@ use Rattle.tsdb_core.specs.Core.{IsSeen, KeepsJobs, files_of, is_sequence_claime
 use Rattle.tsdb_core.specs.Loans.{KeepsAllLoans}
 use Rattle.tsdb_core.specs.declared.engine.Core.{Core}
 use Rattle.tsdb_frames.specs.Frames.{is_in_doubt}
-use Rattle.tsdb_fileset.specs.Held.{IsDoubtOf, may_go, told_numbers}
-use Rattle.tsdb_state.specs.Stored.{without_numbers}
+use Rattle.tsdb_fileset.specs.StateOfFiles.{IsDoubtOf, may_go, told_numbers}
+use Rattle.tsdb_state.specs.StoredEngine.{without_numbers}
 use Rattle.tsdb_fileset.specs.Sweeps.{LeavesWithout, StopsSweepAt, tried_numbers}
-use Rattle.tsdb_memory.specs.Logged.{Outside, log_of}
+use Rattle.tsdb_memory.specs.LogState.{Outside, log_of}
 use Rattle.tsdb_outside.specs.declared.disk.Disk as disk
 use Rattle.tsdb_outside.specs.declared.faults.Counted as counted
 use Rattle.tsdb_outside.specs.declared.faults.Failed.{Failed}

@@ -3,7 +3,7 @@ use Rattle.tsdb_memory.specs.MapAnswers.{IsMapAnswer}
 use Rattle.tsdb_base.specs.declared.answers.Answer.{Answer}
 use Rattle.tsdb_core.specs.Core.{IsSeen}
 use Rattle.tsdb_core.specs.declared.engine.Core.{Core}
-use Rattle.tsdb_memory.specs.Logged.{Outside}
+use Rattle.tsdb_memory.specs.LogState.{Outside}
 use Rattle.tsdb_model.specs.Apply.{after_reply}
 use Rattle.tsdb_model.specs.World.{World}
 use Rattle.tsdb_model.specs.declared.command.Command.{Command}

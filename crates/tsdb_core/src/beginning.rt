@@ -30,7 +30,7 @@ impl<J: Journal, F: Files> Core<J, F> {
     ghost use Rattle.tsdb_core.specs.Core.{IsSeen, files_of, next_of};
     ghost use Rattle.tsdb_core.specs.Worlds.{CoreKeepsWorld};
     ghost use Rattle.tsdb_fileset.specs.Files.{AreKept};
-    ghost use Rattle.tsdb_memory.specs.Logged.{Outside};
+    ghost use Rattle.tsdb_memory.specs.LogState.{Outside};
     ghost use Rattle.tsdb_state.specs.State.{EngineState};
 
     /// The job of the first files of the list of the space that one job may rewrite: the inner plan of the list. There

@@ -28,7 +28,7 @@ impl<J: Journal, F: Files> Core<J, F> {
     ghost use Rattle.tsdb_fileset.specs.Files.{AreKept};
     ghost use Rattle.tsdb_memory.specs.Closing.{IsClosed};
     ghost use Rattle.tsdb_memory.specs.Commands.{NeedsNothing, create_record};
-    ghost use Rattle.tsdb_memory.specs.Logged.{memory_of};
+    ghost use Rattle.tsdb_memory.specs.LogState.{memory_of};
 
     /// Creates a series, which is numbered behind the others.
     pub fn create(&mut self, schema: &Schema) -> Answer
@@ -105,7 +105,7 @@ impl<J: Journal, F: Files> Core<J, F> {
         ensures no_fault { OnOk result (F.Port.faults port.new ≡ F.Port.faults port.old) }
         ensures cause { HasCause (F.Port.faults port.old) (F.Port.faults port.new) result }
     {
-        let (first, second) = self.logged.doubted();
+        let (first, second) = self.logged.files_in_doubt();
         self.files.sweep(port, [first, second])
     }
 

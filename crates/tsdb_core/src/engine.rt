@@ -2,9 +2,9 @@
 ghost use Rattle.std.specs.Prelude.{◌≡◌, [], false, length};
 ghost use Rattle.std.specs.Option.{option_map};
 ghost use Rattle.tsdb_core.specs.Limits.{IsPairLimit};
-ghost use Rattle.tsdb_fileset.specs.Held.{AreFilesOf, TellTheirBytes};
+ghost use Rattle.tsdb_fileset.specs.StateOfFiles.{AreFilesOf, TellTheirBytes};
 ghost use Rattle.tsdb_fileset.specs.Files.{AreKept, entries_in};
-ghost use Rattle.tsdb_memory.specs.Logged.{Outside};
+ghost use Rattle.tsdb_memory.specs.LogState.{Outside};
 ghost use Rattle.tsdb_memtable.specs.Pairs.{space_count};
 ghost use Rattle.tsdb_state.specs.NewStore.{opened};
 ghost use Rattle.tsdb_state.specs.State.{StoreState};
@@ -31,7 +31,7 @@ pub struct Core<J: Journal, F: Files> {
 impl<J: Journal, F: Files> Core<J, F> {
     ghost use Rattle.tsdb_core.specs.Core.{IsAboveNumbers, IsSeen, KeepsJobs, files_of, limit_of, logged_of};
     ghost use Rattle.tsdb_core.specs.Core.{is_sequence_claimed, newest_born, next_of, working_of};
-    ghost use Rattle.tsdb_memory.specs.Logged.{IsSoundLogged, memory_of};
+    ghost use Rattle.tsdb_memory.specs.LogState.{IsSoundLogged, memory_of};
 
     /// The core of these, where the next file gets this number.
     pub fn new(

@@ -27,7 +27,7 @@ impl<J: Journal, F: Files> Core<J, F> {
     ghost use Rattle.tsdb_core.specs.Flushes.{IsFlushTakenOrNot};
     ghost use Rattle.tsdb_core.specs.Flushes.{TakesMemory};
     ghost use Rattle.tsdb_core.specs.Worlds.{CoreKeepsWorld};
-    ghost use Rattle.tsdb_memory.specs.Logged.{memory_of};
+    ghost use Rattle.tsdb_memory.specs.LogState.{memory_of};
 
     /// The job of the oldest frozen pair, where it was frozen at this stamp or before it. The pair stays frozen. All
     /// memory that the job's end needs is taken.
@@ -66,7 +66,7 @@ impl<J: Journal, F: Files> Core<J, F> {
         self.logged.reserve_flushed()?;
         let job = take(self.logged.memory(), self.next_file)?;
         self.files.prepare_flush(job.sequence, job.unsequence)?;
-        self.next_file += drawn(&job);
+        self.next_file += count_drawn(&job);
         Ok(job)
     }
 
@@ -107,7 +107,7 @@ impl<J: Journal, F: Files> Core<J, F> {
         let sequence = number(job.sequence);
         match self
             .logged
-            .flushed(sequence, number(job.unsequence), listed)
+            .append_flushed(sequence, number(job.unsequence), listed)
         {
             Ok(()) => Commit::Done,
             Err(Failed) => Commit::Device,
@@ -170,7 +170,7 @@ fn is_reached(born: Stamp, upto: Stamp) -> bool
 }
 
 /// How many numbers were drawn for the job.
-fn drawn(job: &FlushJob) -> u64
+fn count_drawn(job: &FlushJob) -> u64
     ensures { result ≡ length (if_some job.now.sequence) + length (if_some job.now.unsequence) }
 {
     u64::from(job.sequence.is_some()) + u64::from(job.unsequence.is_some())
@@ -187,7 +187,7 @@ fn number(number: Option<FileNumber>) -> FileNumber
 fn least_with(least: Option<Stamp>, job: &FlushJob) -> Option<Stamp>
     ensures { (borns : List ℕ) → IsLeastOf least borns → IsLeastWith result job.now borns }
 {
-    if drawn(job) == 0 {
+    if count_drawn(job) == 0 {
         return least;
     }
     Some(lesser(least, job.born))

@@ -12,7 +12,7 @@ impl<J: Journal, F: Files> Core<J, F> {
     ghost use Rattle.tsdb_core.specs.Core.{files_of, logged_of};
     ghost use Rattle.tsdb_core.specs.Pins.{IsNotPinned, IsPinned, IsUnpinned};
     ghost use Rattle.tsdb_core.specs.Worlds.{CoreKeepsWorld};
-    ghost use Rattle.tsdb_memory.specs.Logged.{memory_of};
+    ghost use Rattle.tsdb_memory.specs.LogState.{memory_of};
     ghost use Rattle.tsdb_tasks.specs.Pins.{AreColumnsHeld, IsPinAnswer, IsPinFor};
 
     /// Takes a pin of the items of the device in the range, which reads this state whatever comes later. It has rights on

@@ -88,7 +88,7 @@ impl<J: Journal, F: Files> Core<J, F> {
         let born = born_of(output);
         let listed = self
             .files
-            .least_replaced(job.space, runs.sequence, runs.unsequence, born);
+            .least_after_replacing(job.space, runs.sequence, runs.unsequence, born);
         let item = LogRecord::Replaced {
             born: job.born,
             space: job.space,
@@ -97,7 +97,7 @@ impl<J: Journal, F: Files> Core<J, F> {
             sequence: job.sequence,
             unsequence: job.unsequence,
         };
-        let outcome = self.logged.replaced(&item, listed);
+        let outcome = self.logged.append_replaced(&item, listed);
         let Some((sequence, unsequence)) = inputs_in(item) else {
             unreachable!()
         };

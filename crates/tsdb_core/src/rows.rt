@@ -32,7 +32,7 @@ impl<J: Journal, F: Files> Core<J, F> {
     ghost use Rattle.tsdb_core.specs.Rows.{NeedsFlush};
     ghost use Rattle.tsdb_core.specs.RowSteps.{CanFreezeFor, HasStateCounts};
     ghost use Rattle.tsdb_core.specs.Worlds.{CoreFollowsMap, IsWorldOf};
-    ghost use Rattle.tsdb_memory.specs.Logged.{log_of, memory_of};
+    ghost use Rattle.tsdb_memory.specs.LogState.{log_of, memory_of};
 
     /// Whether the row does not fit the working pair, and two pairs are frozen: then a flush has to come first.
     pub fn needs_flush(&self, row: &Row) -> bool

@@ -10,7 +10,7 @@ use Rattle.tsdb_fileset.specs.declared.files.Outgoing.{Outgoing}
 use Rattle.tsdb_fileset.specs.declared.room.Spare.{Spare}
 use Rattle.tsdb_fileset.specs.Files.{Appends, IsOpen, listed_borns}
 use Rattle.tsdb_fileset.specs.Growth.{AppendsTo, HasOneMore, HasRoomLeft}
-use Rattle.tsdb_fileset.specs.Kept.{AreSound, view_of}
+use Rattle.tsdb_fileset.specs.SoundFiles.{AreSound, view_of}
 use Rattle.tsdb_fileset.specs.Places.{KeptFile, OthersStay, place_of_number}
 use Rattle.tsdb_fileset.specs.Room.{HasRoom, less_room}
 use Rattle.tsdb_fileset.proofs.Leasts.{least_appended}

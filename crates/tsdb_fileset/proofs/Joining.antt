@@ -7,7 +7,7 @@ use Rattle.std.specs.Prelude.{IfSome}
 use Rattle.std.specs.List.{AllByRecursion as Each}
 use Rattle.tsdb_base.specs.declared.ids.Space.{Space}
 use Rattle.tsdb_base.specs.declared.ids.Space.TheVariants.{Sequence, Unsequence}
-use Rattle.tsdb_fileset.specs.Held.{AreFilesOf, IsEnlisted, IsSentOut, IsUnread, entry_of, outgoing_file, listed, with_listed, with_outgoing}
+use Rattle.tsdb_fileset.specs.StateOfFiles.{AreFilesOf, IsEnlisted, IsSentOut, IsUnread, entry_of, outgoing_file, listed, with_listed, with_outgoing}
 use Rattle.tsdb_fileset.proofs.Counts.{counted}
 use Rattle.tsdb_fileset.specs.Files.{AreKept, KeepsLists, KeptFiles, entry_numbers, kept_file, all_numbers, outgoing_numbers}
 use Rattle.tsdb_fileset.specs.Places.{KeptFile, OnlyMakesPlaces, OthersStay, file_at}

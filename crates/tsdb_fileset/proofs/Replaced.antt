@@ -19,7 +19,7 @@ use Rattle.tsdb_fileset.specs.declared.files.Outgoing.{Outgoing}
 use Rattle.tsdb_fileset.specs.Files.{AreKept, IsOpen, KeptFiles, entry_numbers, kept_file, listed_borns, all_numbers}
 use Rattle.tsdb_fileset.specs.Files.{outgoing_numbers}
 use Rattle.tsdb_fileset.specs.Growth.{HasRoomLeft}
-use Rattle.tsdb_fileset.specs.Kept.{AreSound, view_of}
+use Rattle.tsdb_fileset.specs.SoundFiles.{AreSound, view_of}
 use Rattle.tsdb_fileset.specs.Places.{KeptFile, OthersStay, file_at, place_of_number}
 use Rattle.tsdb_fileset.specs.Replacing.{HasClaims, HasListRoom, IsReplacedIn, IsWithin, claim_run, leaving}
 use Rattle.tsdb_fileset.specs.Replacing.{HasReplaced, entry_borns, leaving_run, less_compaction, output_in, replace_run}

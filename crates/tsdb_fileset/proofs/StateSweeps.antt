@@ -7,9 +7,9 @@ use Rattle.std.specs.Option.{option_map}
 use Rattle.std.proofs.lemmas.Bool.{eq-eqb, eqb-true}
 use Rattle.std.proofs.lemmas.List.{map-append}
 use Rattle.tsdb_base.specs.declared.ids.FileNumber.{FileNumber}
-use Rattle.tsdb_fileset.specs.Held.{AreFilesOf, AreSomeOf, IsDoubtOf, IsSweep, TellTheirBytes, entry_of, outgoing_file, listed, may_go}
+use Rattle.tsdb_fileset.specs.StateOfFiles.{AreFilesOf, AreSomeOf, IsDoubtOf, IsSweep, TellTheirBytes, entry_of, outgoing_file, listed, may_go}
 use Rattle.tsdb_flush.proofs.ImageLemmas.Kept.{found_without}
-use Rattle.tsdb_flush.specs.Stored.{kept_bytes, without_numbers}
+use Rattle.tsdb_flush.specs.StoredEngine.{kept_bytes, without_numbers}
 use Rattle.tsdb_fileset.specs.Files.{IsOpen, KeptFiles, kept_file}
 use Rattle.tsdb_fileset.specs.Places.{KeptFile, Places, file_at, is_one_of, place_of_number}
 use Rattle.tsdb_fileset.specs.Sweeps.{LeavesWithout, free_numbers, has_no_right, is_free, is_that}

@@ -8,7 +8,7 @@ use Rattle.std.specs.Ordering.{is_eq}
 use Rattle.std.specs.List.{AllByRecursion as Each, AllZip, find, flat_map}
 use Rattle.std.specs.Option.{option_map}
 use Rattle.std.specs.Prelude.{IfSome}
-use Rattle.tsdb_flush.specs.Stored.{kept_bytes}
+use Rattle.tsdb_flush.specs.StoredEngine.{kept_bytes}
 use Rattle.tsdb_fileset.proofs.PlaceFacts.{other_number, same_number}
 use Rattle.tsdb_fileset.specs.Closing.{AreNumbersRising, NamesStoredFile, names_at}
 use Rattle.tsdb_fileset.specs.Places.{KeptFile, Places, file_at, is_same_number, place_of_number}

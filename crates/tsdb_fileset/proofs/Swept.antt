@@ -11,8 +11,8 @@ use Rattle.tsdb_fileset.specs.declared.files.KeptFiles.TheInside.{Inside}
 use Rattle.tsdb_fileset.specs.declared.files.Outgoing.{Outgoing}
 use Rattle.tsdb_fileset.specs.Files.{AreKept, KeptFiles, entry_numbers, kept_file}
 use Rattle.tsdb_fileset.specs.Files.{listed_borns, all_numbers, outgoing_numbers}
-use Rattle.tsdb_fileset.specs.Kept.{AreSound, view_of}
-use Rattle.tsdb_fileset.specs.Held.{may_go, told_numbers}
+use Rattle.tsdb_fileset.specs.SoundFiles.{AreSound, view_of}
+use Rattle.tsdb_fileset.specs.StateOfFiles.{may_go, told_numbers}
 use Rattle.tsdb_fileset.specs.Places.{AreUnread, KeptFile, Places, TakesAway, file_at, is_one_of, place_of_number}
 use Rattle.tsdb_fileset.specs.Sweeps.{AreOnce, LeavesWithout, StopsSweepAt, free_numbers, has_no_right, has_place, is_free}
 use Rattle.tsdb_fileset.specs.Sweeps.{is_that, tried_numbers}

@@ -9,7 +9,7 @@ use Rattle.std.proofs.lemmas.Int.{ints}
 use Rattle.tsdb_base.specs.declared.ids.Space.{Space}
 use Rattle.tsdb_base.specs.declared.ids.Space.TheVariants.{Sequence, Unsequence}
 use Rattle.tsdb_base.specs.declared.value.Value.{Value}
-use Rattle.tsdb_fileset.specs.Held.{AreFilesOf, entry_of, listed}
+use Rattle.tsdb_fileset.specs.StateOfFiles.{AreFilesOf, entry_of, listed}
 use Rattle.tsdb_fileset.proofs.Counts.{counted}
 use Rattle.tsdb_fileset.specs.Files.{AreKept, KeptFiles, entry_numbers, kept_file, all_numbers, outgoing_numbers}
 use Rattle.tsdb_fileset.specs.Places.{KeptFile}

@@ -1,17 +1,17 @@
 pub mod Closing
 pub mod Files
 pub mod Growth
-pub mod Kept
+pub mod SoundFiles
 pub mod Places
 pub mod Replacing
 pub mod Rights
 pub mod Room
 pub mod Sweeps
-pub mod Held
+pub mod StateOfFiles
 pub mod Lines
 pub mod Listings
 pub use Rattle.tsdb_flush.specs.Model
-pub use Rattle.tsdb_flush.specs.Shown
+pub use Rattle.tsdb_flush.specs.StateOfMemory
 pub use Rattle.tsdb_flush.specs.Store
 pub use Rattle.tsdb_flush.specs.FrozenPair
 pub use Rattle.tsdb_flush.specs.NumberedSeries
@@ -28,6 +28,6 @@ pub use Rattle.tsdb_flush.specs.declared.job.FlushJob
 pub use Rattle.tsdb_flush.specs.Flushes
 pub use Rattle.tsdb_flush.specs.Jobs
 pub use Rattle.tsdb_flush.specs.declared.job.Flushed
-pub use Rattle.tsdb_flush.specs.Built as FlushBuilt
+pub use Rattle.tsdb_flush.specs.BuiltFile as FlushBuilt
 pub use Rattle.tsdb_flush.specs.Parts
 pub use Rattle.tsdb_flush.specs.Taking

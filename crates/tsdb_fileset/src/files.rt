@@ -48,7 +48,7 @@ pub struct KeptFiles<F: Files> {
 
 impl<F: Files> Model for KeptFiles<F> {
     ghost use Rattle.tsdb_fileset.specs.Files.{KeptFiles};
-    ghost use Rattle.tsdb_fileset.specs.Kept.{AreSound, view_of};
+    ghost use Rattle.tsdb_fileset.specs.SoundFiles.{AreSound, view_of};
 
     ghost Value = { KeptFiles };
 
@@ -142,7 +142,7 @@ impl<F: Files> KeptFiles<F> {
 
     /// The least born of the files that are listed once those of the runs are on their way out, and a file of this
     /// born, if there is one, stands in the place of those of its space.
-    pub fn least_replaced(
+    pub fn least_after_replacing(
         &self,
         space: Space,
         sequence: Run,

@@ -1,7 +1,7 @@
 //! The laws. The functions do nothing; their contracts say them.
 ghost use Rattle.std.specs.Prelude.{◌++◌};
 ghost use Rattle.tsdb_base.specs.declared.ids.Space.TheVariants.{Sequence, Unsequence};
-ghost use Rattle.tsdb_fileset.specs.Held.{AreFilesOf};
+ghost use Rattle.tsdb_fileset.specs.StateOfFiles.{AreFilesOf};
 ghost use Rattle.tsdb_fileset.specs.Files.{AreKept, KeptFiles};
 ghost use Rattle.tsdb_fileset.specs.Lines.{file_lines_of};
 ghost use Rattle.tsdb_fileset.specs.Listings.{TellFiles};

@@ -3,7 +3,7 @@ use Rattle.std.proofs.Common.{◌≡◌, ℕ, List, [], ◌∷◌, map, inl, inr
 use Rattle.std.specs.List.{AllByRecursion as Each}
 use Rattle.tsdb_base.specs.declared.value.Value.{Value}
 use Rattle.tsdb_flush.specs.BuiltParts.{HasPartPoint, IsContentOfPart, IsPart, IsFilledSeries}
-use Rattle.tsdb_flush.specs.Built.{IsFileOf}
+use Rattle.tsdb_flush.specs.BuiltFile.{IsFileOf}
 use Rattle.tsdb_flush.specs.Parts.{Filled, builder_series}
 use Rattle.tsdb_base.proofs.Lists.{among_left, among_map, among_right, each_among}
 use Rattle.tsdb_base.specs.Lists.{Among}
@@ -18,7 +18,7 @@ use Rattle.tsfile_writer.specs.Tree.{Tree}
 use Rattle.tsdb_path.proofs.Parts.{child_of-device_of}
 use Rattle.tsdb_path.specs.Nodes.{child_of, device_of, measurement_of}
 use Rattle.tsdb_memory.specs.Stores.{HasTreePoint, IsTreeContent}
-use Rattle.tsfile_writer.specs.Given.{AreChunksOf, IsChunkOf, IsTreeOf, GivenSeries, placed}
+use Rattle.tsfile_writer.specs.BuilderInput.{AreChunksOf, IsChunkOf, IsTreeOf, GivenSeries, placed}
 
 -- ---- chunks and series side by side
 

@@ -9,7 +9,7 @@ use Rattle.std.proofs.lemmas.Bool.{false≢true}
 use Rattle.tsdb_base.specs.declared.point.Point.{Point}
 use Rattle.tsdb_base.specs.declared.value.Value.{Value}
 use Rattle.tsdb_flush.specs.BuiltParts.{IsContentOfPart, IsPart, IsFilledSeries, entry_of}
-use Rattle.tsdb_flush.specs.Built.{AreHullsOf, HasHullOver, HasFilledTime, IsFileEntryOf, paths_of}
+use Rattle.tsdb_flush.specs.BuiltFile.{AreHullsOf, HasHullOver, HasFilledTime, IsFileEntryOf, paths_of}
 use Rattle.tsdb_flush.specs.Parts.{Filled}
 use Rattle.tsdb_base.proofs.Lists.{among_left, among_map, among_right, each_among, each_weaker}
 use Rattle.tsdb_base.specs.Lists.{Among, EachPair}

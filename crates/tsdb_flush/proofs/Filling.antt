@@ -14,7 +14,7 @@ use Rattle.tsdb_model.specs.declared.command.Schema.{Schema}
 use Rattle.tsdb_base.specs.Points.{IsRising}
 use Rattle.tsfile_writer.specs.Pages.{IsInRange}
 use Rattle.tsfile_writer.specs.Building.{WasGiven}
-use Rattle.tsfile_writer.specs.Given.{MayTake, GivenSeries, with_last_point}
+use Rattle.tsfile_writer.specs.BuilderInput.{MayTake, GivenSeries, with_last_point}
 use Rattle.tsfile_writer.specs.declared.builder.Builder.{Builder}
 
 -- the builder was given the first points of the last series

@@ -25,7 +25,7 @@ use Rattle.tsdb_model.specs.declared.command.Schema.{Schema}
 use Rattle.tsdb_memory.proofs.Frozen.{image_of}
 use Rattle.tsdb_memory.proofs.Raises.{all_at}
 use Rattle.tsdb_memory.specs.Model.{HasTypedPoints, IsFormed, IsSoundMemory}
-use Rattle.tsdb_memory.specs.Shown.{number_of}
+use Rattle.tsdb_memory.specs.StateOfMemory.{number_of}
 use Rattle.tsdb_memory.specs.Store as memory
 use Rattle.tsdb_memtable.specs.Pairs.{Pair, points_of}
 use Rattle.tsdb_base.specs.Points.{IsRising}

@@ -19,7 +19,7 @@ use Rattle.tsdb_model.specs.declared.command.Schema.{Schema}
 use Rattle.tsdb_memory.proofs.Counts.{among_either}
 use Rattle.tsdb_memory.proofs.Frozen.{point_at}
 use Rattle.tsdb_memory.proofs.Numbers.{schema_at, some_same}
-use Rattle.tsdb_memory.specs.Shown.{IsPairContent, number_of, point_value_at}
+use Rattle.tsdb_memory.specs.StateOfMemory.{IsPairContent, number_of, point_value_at}
 use Rattle.tsdb_memtable.specs.Pairs.{Pair, points_of}
 use Rattle.tsdb_base.specs.Points.{IsRising}
 

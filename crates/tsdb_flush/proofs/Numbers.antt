@@ -19,7 +19,7 @@ use Rattle.tsdb_memory.proofs.Counts.{among_either}
 use Rattle.tsdb_memory.proofs.Emptiness.{filled_by, not_less}
 use Rattle.tsdb_memory.proofs.Frozen.{image_of}
 use Rattle.tsdb_memory.proofs.Series.{itself, one_number}
-use Rattle.tsdb_memory.specs.Shown.{TellsSpaceFilled}
+use Rattle.tsdb_memory.specs.StateOfMemory.{TellsSpaceFilled}
 use Rattle.tsdb_memtable.specs.Pairs.{HasRisingSeries, Pair, SeriesPoints, blank, space_count, is_series, points_in, points_of, table}
 
 abbrev Row : Type 0

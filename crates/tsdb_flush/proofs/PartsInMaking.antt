@@ -6,7 +6,7 @@ use Rattle.std.proofs.lemmas.List.Elements.{All-from_recursion}
 use Rattle.std.proofs.lemmas.List.Sums.{sum_by-append}
 use Rattle.tsdb_base.specs.Values.{type_of}
 use Rattle.tsdb_flush.specs.MakingSteps.{IsSoundSeries}
-use Rattle.tsdb_flush.specs.Built.{AreHullsOf, paths_of}
+use Rattle.tsdb_flush.specs.BuiltFile.{AreHullsOf, paths_of}
 use Rattle.tsdb_model.specs.Commands.{IsSchema}
 use Rattle.tsfile_writer.specs.Building.{WasGiven}
 use Rattle.tsdb_base.specs.declared.ids.SeriesId.{SeriesId}

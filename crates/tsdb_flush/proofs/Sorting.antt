@@ -17,7 +17,7 @@ use Rattle.tsdb_memory.proofs.Frozen.{image_of}
 use Rattle.tsdb_memory.proofs.Numbers.{some_same}
 use Rattle.tsdb_memory.proofs.Raises.{all_at}
 use Rattle.tsdb_memory.specs.Model.{IsFormed}
-use Rattle.tsdb_memory.specs.Shown.{number_of}
+use Rattle.tsdb_memory.specs.StateOfMemory.{number_of}
 use Rattle.tsdb_memtable.specs.Pairs.{Pair}
 use Rattle.tsdb_path.proofs.Parts.{child_of-device_of}
 use Rattle.tsdb_path.proofs.Order.{names_same, same_equiv, same_names}

@@ -21,7 +21,7 @@ use Rattle.tsdb_memory.proofs.LayerLemmas.Places.{same_content}
 use Rattle.tsdb_base.specs.Lists.{Among, if_some}
 use Rattle.tsdb_memory.specs.Places.{Content, PointPlace, place_cmp}
 use Rattle.tsdb_model.specs.declared.command.Schema.{Schema}
-use Rattle.tsdb_memory.specs.Shown.{IsPairContent, IsFrozenOf, IsMemoryOf, IsPairOf}
+use Rattle.tsdb_memory.specs.StateOfMemory.{IsPairContent, IsFrozenOf, IsMemoryOf, IsPairOf}
 use Rattle.tsdb_memory.specs.Store as memory
 use Rattle.tsdb_memtable.specs.Pairs.{Pair}
 use Rattle.tsdb_memory.specs.Jobs.{IsDrawnFor, drawn_by}

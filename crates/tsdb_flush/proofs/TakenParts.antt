@@ -17,7 +17,7 @@ use Rattle.tsdb_flush.specs.Parts.{Filled, IsNumberDrawnFor, if_any, filled_part
 use Rattle.tsdb_base.specs.Lists.{Among, if_some}
 use Rattle.tsdb_memory.proofs.Emptiness.{filled_by}
 use Rattle.tsdb_memory.specs.Fits.{HasNoPairPoint}
-use Rattle.tsdb_memory.specs.Shown.{TellsSpaceFilled, number_of}
+use Rattle.tsdb_memory.specs.StateOfMemory.{TellsSpaceFilled, number_of}
 use Rattle.tsdb_model.specs.declared.command.Schema.{Schema}
 use Rattle.tsdb_memtable.specs.Pairs.{HasRisingSeries, Pair, space_count, points_of}
 

@@ -5,7 +5,7 @@ use Rattle.std.specs.List.{AllByRecursion as Each}
 use Rattle.std.proofs.lemmas.List.Elements.{All-from_recursion, recursion_from_All}
 use Rattle.tsdb_flush.specs.MakingSteps.{ComeBefore, IsSoundSeries}
 use Rattle.tsdb_path.specs.Order.{AreNamesBefore}
-use Rattle.tsdb_flush.specs.Built.{IsFileOf}
+use Rattle.tsdb_flush.specs.BuiltFile.{IsFileOf}
 use Rattle.tsdb_flush.specs.Parts.{Filled, schema_names, builder_series}
 use Rattle.tsdb_base.proofs.Lists.{each_append, each_left, each_middle, each_of_map, each_right, each_weaker}
 use Rattle.tsdb_model.specs.declared.command.Schema.{Schema}
@@ -17,7 +17,7 @@ use Rattle.tsfile_writer.specs.Group.{Group}
 use Rattle.tsfile_writer.specs.Tree.{Tree}
 use Rattle.tsdb_path.specs.Nodes.{IsName, IsPath, device_of, measurement_of}
 use Rattle.tsfile_writer.specs.Building.{WasGiven}
-use Rattle.tsfile_writer.specs.Given.{AreChunksOf, IsChunkOf, IsTreeOf, MayBeFollowedBy, GivenSeries, placed}
+use Rattle.tsfile_writer.specs.BuilderInput.{AreChunksOf, IsChunkOf, IsTreeOf, MayBeFollowedBy, GivenSeries, placed}
 use Rattle.tsfile_writer.specs.declared.builder.Builder.{Builder}
 
 map_push : (part : List Filled) (filled : Filled) → map builder_series (part ++ filled ∷ []) ≡ map builder_series part ++ builder_series filled ∷ []

@@ -17,7 +17,7 @@ use Rattle.tsdb_base.specs.declared.point.Point.{Point}
 use Rattle.tsdb_flush.specs.Hulls.{EndsIn, IsWidened}
 use Rattle.tsdb_flush.specs.MakingSteps.{AddsTimes, AreFrom, ComeBefore, filled_with}
 use Rattle.tsdb_path.specs.Order.{AreNamesBefore}
-use Rattle.tsdb_flush.specs.Built.{AreHullsOf, HasHullOver, HasFilledTime}
+use Rattle.tsdb_flush.specs.BuiltFile.{AreHullsOf, HasHullOver, HasFilledTime}
 use Rattle.tsdb_flush.specs.Parts.{Filled, schema_names}
 use Rattle.tsdb_base.proofs.Lists.{among_left, among_right, each_among, each_append, each_from_among, each_left, each_right, each_weaker}
 use Rattle.tsdb_base.specs.Lists.{Among}

@@ -10,7 +10,7 @@ use Rattle.tsdb_flush.specs.Parts.{Filled}
 use Rattle.tsdb_base.specs.Lists.{Among, EachPair}
 use Rattle.tsdb_memory.specs.Places.{Content, PointPlace}
 use Rattle.tsdb_model.specs.declared.command.Schema.{Schema}
-use Rattle.tsdb_memory.specs.Shown.{number_of}
+use Rattle.tsdb_memory.specs.StateOfMemory.{number_of}
 use Rattle.tsdb_memtable.specs.Pairs.{Pair, points_of}
 use Rattle.tsdb_base.specs.Points.{IsRising}
 use Rattle.tsdb_path.specs.Nodes.{node_count}

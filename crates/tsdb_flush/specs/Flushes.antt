@@ -6,7 +6,7 @@ use Rattle.tsdb_base.specs.declared.ids.FileNumber.{FileNumber}
 use Rattle.tsdb_flush.specs.BuiltParts.{IsJobOf}
 use Rattle.tsdb_flush.specs.declared.job.FlushJob.{FlushJob}
 use Rattle.tsdb_model.specs.declared.command.Schema.{Schema}
-use Rattle.tsdb_memory.specs.Shown.{IsPairOf}
+use Rattle.tsdb_memory.specs.StateOfMemory.{IsPairOf}
 use Rattle.tsdb_memory.specs.State as state
 
 -- The job has the born, the points and the numbers of the flush. `series` are those that were there when it was taken,

@@ -1,4 +1,4 @@
-pub mod Built
+pub mod BuiltFile
 pub mod Jobs
 pub mod Parts
 pub mod MakingSteps
@@ -9,9 +9,9 @@ pub mod Taking
 pub mod TakingSteps
 pub mod Hulls
 pub use Rattle.tsdb_memory.specs.Least
-pub use Rattle.tsdb_memory.specs.Shown
+pub use Rattle.tsdb_memory.specs.StateOfMemory
 pub use Rattle.tsdb_memory.specs.Places
-pub use Rattle.tsdb_memory.specs.Stored
+pub use Rattle.tsdb_memory.specs.StoredEngine
 pub use Rattle.tsdb_memory.specs.State
 pub use Rattle.tsdb_memory.specs.Jobs as StateJobs
 pub use Rattle.tsdb_memory.specs.Records

@@ -4,12 +4,12 @@ use Rattle.std.specs.List.{AllByRecursion as Each}
 use Rattle.tsdb_base.specs.declared.point.Point.{Point}
 use Rattle.tsdb_flush.specs.MakingSteps.{ComeBefore, IsSoundSeries, filled_with}
 use Rattle.tsdb_flush.specs.declared.part.PartBuilder.{PartBuilder}
-use Rattle.tsdb_flush.specs.Built.{AreHullsOf, paths_of}
+use Rattle.tsdb_flush.specs.BuiltFile.{AreHullsOf, paths_of}
 use Rattle.tsdb_flush.specs.Parts.{Filled, builder_series}
 use Rattle.tsdb_model.specs.declared.command.Schema.{Schema}
 use Rattle.tsfile_writer.specs.Pages.{IsInRange}
 use Rattle.tsfile_writer.specs.Building.{WasGiven}
-use Rattle.tsfile_writer.specs.Given.{MayTake}
+use Rattle.tsfile_writer.specs.BuilderInput.{MayTake}
 
 -- these series were added, each with its points
 pub record IsPartInMaking (part : List Filled) (making : PartBuilder) : Type 0 where

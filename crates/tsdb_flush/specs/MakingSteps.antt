@@ -4,7 +4,7 @@ use Rattle.std.specs.List.{AllByRecursion as Each}
 use Rattle.tsdb_base.specs.declared.point.Point.{Point}
 use Rattle.tsdb_base.specs.Values.{type_of}
 use Rattle.tsdb_path.specs.Order.{AreNamesBefore}
-use Rattle.tsdb_flush.specs.Built.{AreHullsOf}
+use Rattle.tsdb_flush.specs.BuiltFile.{AreHullsOf}
 use Rattle.tsdb_flush.specs.Parts.{Filled, schema_names, builder_series}
 use Rattle.tsdb_base.specs.Lists.{Among}
 use Rattle.tsdb_model.specs.declared.command.Schema.{Schema}

@@ -13,7 +13,7 @@ use Rattle.tsdb_model.specs.Commands.{IsSchema}
 use Rattle.tsdb_model.specs.declared.command.Schema.{Schema}
 use Rattle.tsdb_memtable.specs.Pairs.{Pair, points_of}
 use Rattle.tsdb_path.specs.Nodes.{device_of, measurement_of}
-use Rattle.tsfile_writer.specs.Given.{GivenSeries}
+use Rattle.tsfile_writer.specs.BuilderInput.{GivenSeries}
 
 -- a series that has points in a part, with them
 pub record Filled : Type 0 where

@@ -13,7 +13,7 @@ use Rattle.tsdb_flush.specs.Parts.{schema_names}
 use Rattle.tsdb_base.specs.Lists.{Among}
 use Rattle.tsdb_model.specs.declared.command.Schema.{Schema}
 use Rattle.tsdb_memory.specs.Model.{frozen_in}
-use Rattle.tsdb_memory.specs.Shown.{number_of}
+use Rattle.tsdb_memory.specs.StateOfMemory.{number_of}
 use Rattle.tsdb_memory.specs.Store as store
 use Rattle.tsdb_memory.specs.declared.store.FrozenPair.{FrozenPair}
 use Rattle.tsdb_memtable.specs.Pairs.{Pair, points_of}

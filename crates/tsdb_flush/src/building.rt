@@ -3,14 +3,14 @@ ghost use Rattle.std.specs.Prelude.{◌≡◌, ◌≤◌, ◌<◌, List, [], ◌
 ghost use Rattle.std.specs.List.{AllByRecursion as Each};
 ghost use Rattle.tsdb_base.specs.Values.{is_suitable};
 ghost use Rattle.tsdb_flush.specs.MakingSteps.{ComeBefore, HaveBegun, IsSoundSeries, filled_with};
-ghost use Rattle.tsdb_flush.specs.Built.{IsFileOf};
+ghost use Rattle.tsdb_flush.specs.BuiltFile.{IsFileOf};
 ghost use Rattle.tsdb_flush.specs.Parts.{Filled, builder_series};
 ghost use Rattle.tsdb_model.specs.declared.command.Schema.{Schema as SchemaOf};
 ghost use Rattle.tsdb_base.specs.Points.{IsRising};
 ghost use Rattle.tsfile_writer.specs.Pages.{IsInRange};
 ghost use Rattle.tsdb_path.specs.Nodes.{node_count};
 ghost use Rattle.tsfile_writer.specs.Building.{WasGiven};
-ghost use Rattle.tsfile_writer.specs.Given.{MayTake, GivenSeries, with_last_point};
+ghost use Rattle.tsfile_writer.specs.BuilderInput.{MayTake, GivenSeries, with_last_point};
 
 use tsdb_base::{Memory, Point};
 use tsdb_model::Schema;

@@ -2,7 +2,7 @@
 ghost use Rattle.std.specs.Prelude.{◌≡◌, ◌≢◌, ◌≤◌, ◌⊎◌, [], None, IfOk, IfErr};
 ghost use Rattle.tsdb_base.specs.declared.ids.Space.TheVariants.{Sequence, Unsequence};
 ghost use Rattle.tsdb_flush.specs.Making.{IsPartInMaking};
-ghost use Rattle.tsdb_flush.specs.Built.{IsBuiltOf, IsPartDone, IsFileEntryOf, IsFileOf, paths_of};
+ghost use Rattle.tsdb_flush.specs.BuiltFile.{IsBuiltOf, IsPartDone, IsFileEntryOf, IsFileOf, paths_of};
 ghost use Rattle.tsdb_flush.specs.Jobs.{IsJob, job_part};
 ghost use Rattle.tsdb_flush.specs.Parts.{IsNumberDrawnFor};
 ghost use Rattle.tsdb_base.specs.Causes.{Rose};
@@ -107,7 +107,7 @@ fn put_drawn<F: Files>(
 }
 
 /// A flush that stopped, with the file of the sequence part, if it was put.
-fn stopped<F: Files>(sequence: Option<Built<F>>, fault: StoreFault) -> FlushRefused<F>
+fn refusal<F: Files>(sequence: Option<Built<F>>, fault: StoreFault) -> FlushRefused<F>
     ensures sequence { result.files.sequence ≡ sequence }
     ensures unsequence { result.files.unsequence ≡ None }
     ensures fault { result.fault ≡ fault }
@@ -145,11 +145,11 @@ pub fn run_flush<F: Files>(
 {
     let sequence = match put_drawn::<F>(alloc, job, Space::Sequence, job.sequence, port) {
         Ok(built) => built,
-        Err(fault) => return Err(stopped(None, fault)),
+        Err(fault) => return Err(refusal(None, fault)),
     };
     let unsequence = match put_drawn::<F>(alloc, job, Space::Unsequence, job.unsequence, port) {
         Ok(built) => built,
-        Err(fault) => return Err(stopped(sequence, fault)),
+        Err(fault) => return Err(refusal(sequence, fault)),
     };
     Ok(Flushed {
         sequence,

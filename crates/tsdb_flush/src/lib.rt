@@ -1,7 +1,7 @@
 //! Flushes: the files that are built from a frozen pair, and what these are to the engine state. Depends on tsdb_base,
 //! tsdb_path, tsdb_model, tsdb_outside, tsdb_index, tsfile_writer, tsdb_memtable, tsdb_plan and tsdb_memory.
 //!
-//! `specs/Parts.antt` says which series a part of a pair has, and `specs/Built.antt` when a file is that of a part.
+//! `specs/Parts.antt` says which series a part of a pair has, and `specs/BuiltFile.antt` when a file is that of a part.
 //!
 //! `Part` is a file in the making, for whoever writes one series by series, or point by point.
 //!

@@ -7,7 +7,7 @@ ghost use Rattle.tsdb_base.specs.declared.point.Point.{Point as PointOf};
 ghost use Rattle.tsdb_flush.specs.Making.{IsSeriesOpen, IsPartInMaking, MayAdd, MayPut};
 ghost use Rattle.tsdb_flush.specs.MakingSteps.{AreFrom, ComeBefore, filled_with};
 ghost use Rattle.tsdb_model.specs.declared.command.Schema.{Schema as SchemaOf};
-ghost use Rattle.tsdb_flush.specs.Built.{IsFileEntryOf, IsFileOf, paths_of};
+ghost use Rattle.tsdb_flush.specs.BuiltFile.{IsFileEntryOf, IsFileOf, paths_of};
 ghost use Rattle.tsdb_flush.specs.Parts.{Filled};
 ghost use Rattle.tsdb_base.specs.Points.{IsRising};
 ghost use Rattle.tsdb_path.specs.Nodes.{node_count};

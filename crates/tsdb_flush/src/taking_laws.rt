@@ -4,7 +4,7 @@ ghost use Rattle.tsdb_flush.specs.Flushes.{IsFlushOf};
 ghost use Rattle.tsdb_flush.specs.Taking.{IsJobTaken, job_numbers};
 ghost use Rattle.tsdb_flush.specs.Jobs.{IsJob};
 ghost use Rattle.tsdb_flush.specs.declared.job.FlushJob.{FlushJob as JobOf};
-ghost use Rattle.tsdb_memory.specs.Shown.{IsMemoryOf};
+ghost use Rattle.tsdb_memory.specs.StateOfMemory.{IsMemoryOf};
 ghost use Rattle.tsdb_memory.specs.Store.{MemoryState};
 ghost use Rattle.tsdb_memory.specs.Jobs.{drawn_by};
 ghost use Rattle.tsdb_base.specs.Limits.{end_of_numbers};

@@ -9,13 +9,13 @@ use Rattle.tsdb_querying.proofs.CoreJobs.{is_there}
 use Rattle.tsdb_querying.specs.Core.{files_of, logged_of}
 use Rattle.tsdb_querying.specs.Listings.{TellsStore}
 use Rattle.tsdb_querying.specs.CoreType.{Core}
-use Rattle.tsdb_fileset.specs.Held.{AreFilesOf, listed, outgoing_file}
+use Rattle.tsdb_fileset.specs.StateOfFiles.{AreFilesOf, listed, outgoing_file}
 use Rattle.tsdb_fileset.proofs.StoredPlaces.{IsToldAt, at_place, differing, each_stored, few, found, named, stored_at}
 use Rattle.tsdb_history.specs.Closing.{IsCoreClosed}
 use Rattle.tsdb_history.specs.Listings.{IsListingOf}
 use Rattle.tsdb_state.proofs.ImageLemmas.Kept.{holds_found, kept_by_number}
 use Rattle.tsdb_state.proofs.ImageLemmas.Storing.{others_kept}
-use Rattle.tsdb_state.specs.Stored.{LeadsTo, LeavesOneOf, kept_bytes}
+use Rattle.tsdb_state.specs.StoredEngine.{LeadsTo, LeavesOneOf, kept_bytes}
 use Rattle.tsdb_fileset.specs.Closing.{ArePutBack, AreNumbersRising, names_at}
 use Rattle.tsdb_fileset.specs.Files.{AreKept, KeptFiles, entry_numbers, kept_file, all_numbers, outgoing_numbers}
 use Rattle.tsdb_fileset.specs.Places.{KeptFile, file_at, place_of_number}
@@ -24,7 +24,7 @@ use Rattle.tsdb_base.proofs.Lists.{each_from_among, each_left, among_map}
 use Rattle.tsdb_base.specs.Lists.{Among, count, if_some}
 use Rattle.tsdb_log.specs.declared.record.LogRecord.{LogRecord}
 use Rattle.tsdb_memory.specs.Closing as logged
-use Rattle.tsdb_memory.specs.Logged.{IsSoundLogged, Outside}
+use Rattle.tsdb_memory.specs.LogState.{IsSoundLogged, Outside}
 use Rattle.tsdb_model.specs.State as plain
 use Rattle.tsdb_model.specs.declared.reply.Listing.{Listing}
 use Rattle.tsdb_base.specs.Causes.{Rose}

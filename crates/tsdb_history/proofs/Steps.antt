@@ -14,7 +14,7 @@ use Rattle.tsdb_history.proofs.Reach.{all_further, within_more}
 use Rattle.tsdb_history.specs.Reach.{AreFullWithin, IsFullWithin}
 use Rattle.tsdb_history.specs.Serves.{HasServed, LeavesPrefix, MayDoubtAfter}
 use Rattle.tsdb_base.proofs.Lists.{each_append, each_left, each_weaker}
-use Rattle.tsdb_memory.specs.Logged.{memory_of}
+use Rattle.tsdb_memory.specs.LogState.{memory_of}
 use Rattle.tsdb_model.specs.Apply.{reply_of}
 use Rattle.tsdb_model.specs.History.{Entry, IsChange, IsLegal, state_after}
 use Rattle.tsdb_model.specs.State as plain

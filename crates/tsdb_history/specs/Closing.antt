@@ -4,7 +4,7 @@ use Rattle.std.specs.List.{AllByRecursion as Each}
 use Rattle.tsdb_querying.specs.Listings.{TellsStore}
 use Rattle.tsdb_querying.specs.CoreType.{Core}
 use Rattle.tsdb_history.specs.Listings.{IsListingOf}
-use Rattle.tsdb_state.specs.Stored.{LeavesOneOf, kept_bytes}
+use Rattle.tsdb_state.specs.StoredEngine.{LeavesOneOf, kept_bytes}
 use Rattle.tsdb_base.specs.Lists.{EachPair}
 use Rattle.tsdb_model.specs.State as plain
 use Rattle.tsdb_model.specs.declared.reply.Listing.{Listing}

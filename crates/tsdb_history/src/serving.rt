@@ -58,10 +58,10 @@ pub fn serve<J: Journal, F: Files>(
             items,
             range,
         } => query(alloc, core, port, device, items.items(), range),
-        Command::Flush => Reply::Plain(flushed(alloc, core, port)),
-        Command::ShowFiles => shown(core),
-        Command::CompactInner(space) => { Reply::Plain(inner_compacted(alloc, core, port, *space)) }
-        Command::CompactCross => Reply::Plain(cross_compacted(alloc, core, port)),
+        Command::Flush => Reply::Plain(serve_flush(alloc, core, port)),
+        Command::ShowFiles => serve_show(core),
+        Command::CompactInner(space) => { Reply::Plain(serve_inner(alloc, core, port, *space)) }
+        Command::CompactCross => Reply::Plain(serve_cross(alloc, core, port)),
     }
 }
 
@@ -93,7 +93,11 @@ fn query<J: Journal, F: Files>(
 }
 
 /// What a flush is answered.
-fn flushed<J: Journal, F: Files>(alloc: Global, core: &mut Core<J, F>, port: &mut F::Port) -> Answer
+fn serve_flush<J: Journal, F: Files>(
+    alloc: Global,
+    core: &mut Core<J, F>,
+    port: &mut F::Port,
+) -> Answer
     requires ready { IsReady (F.Port.store port.old) core.old }
     ensures answers { (F.Port.store port.old).tells ≡ true
         → ServesCommand core.old core.new CommandOf.Flush (ReplyOf.Plain result) }
@@ -115,7 +119,7 @@ fn flushed<J: Journal, F: Files>(alloc: Global, core: &mut Core<J, F>, port: &mu
 }
 
 /// What a compaction of one list is answered.
-fn inner_compacted<J: Journal, F: Files>(
+fn serve_inner<J: Journal, F: Files>(
     alloc: Global,
     core: &mut Core<J, F>,
     port: &mut F::Port,
@@ -143,7 +147,7 @@ fn inner_compacted<J: Journal, F: Files>(
 }
 
 /// What a compaction of both lists is answered.
-fn cross_compacted<J: Journal, F: Files>(
+fn serve_cross<J: Journal, F: Files>(
     alloc: Global,
     core: &mut Core<J, F>,
     port: &mut F::Port,
@@ -170,7 +174,7 @@ fn cross_compacted<J: Journal, F: Files>(
 }
 
 /// What a listing is answered.
-fn shown<J: Journal, F: Files>(core: &Core<J, F>) -> Reply
+fn serve_show<J: Journal, F: Files>(core: &Core<J, F>) -> Reply
     ensures answers { ServesCommand core.now core.now CommandOf.ShowFiles result }
     ensures listed { (listing : Listing) → result ≡ ReplyOf.Files listing → TellsStore core.now listing }
     ensures no_fault { result ≢ ReplyOf.Plain AnswerOf.Device }

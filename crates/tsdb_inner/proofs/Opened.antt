@@ -3,7 +3,7 @@ use Rattle.std.proofs.Common.{◌≡◌, ◌∙◌, ℕ, ◌≤◌, List, [], �
 use Rattle.std.specs.Prelude.{All, IfOk, IfSome, IsSome, Option, None, Some}
 use Rattle.std.specs.List.{AllByRecursion as Each, AllZip}
 use Rattle.std.proofs.lemmas.List.Elements.{All-cons, All-nil}
-use Rattle.tsdb_streams.specs.Indexed.{IsIndexed, source_of}
+use Rattle.tsdb_streams.specs.IndexedFiles.{IsIndexed, source_of}
 use Rattle.tsdb_streams.specs.declared.source.IndexedFile.{IndexedFile}
 use Rattle.tsdb_streams.specs.Files.{HasReason}
 use Rattle.tsdb_compactions.specs.Outputs.{IsInputRead, TellsTruth}

@@ -12,7 +12,7 @@ use Rattle.tsdb_base.specs.declared.point.Point.{Point}
 use Rattle.tsdb_streams.proofs.OpenedFacts.{zip_all}
 use Rattle.tsdb_streams.proofs.Trees.{among_of, contains_of}
 use Rattle.tsdb_streams.specs.Files.{FilePages, HasPages, IsTold, IsTruth}
-use Rattle.tsdb_streams.specs.Kept.{is_kept}
+use Rattle.tsdb_streams.specs.KeptPoints.{is_kept}
 use Rattle.tsdb_streams.specs.Lanes.{IsToldSource, IsTrueSource, source_left}
 use Rattle.tsdb_streams.specs.declared.source.StreamSource.{StreamSource}
 use Rattle.tsdb_streams.specs.declared.source.StreamSource.TheVariants as lent

@@ -5,7 +5,7 @@ use Rattle.tsdb_base.specs.Values.{type_of}
 use Rattle.tsdb_base.specs.declared.point.Point.{Point}
 use Rattle.tsdb_base.specs.declared.point.Range.{Range}
 use Rattle.tsdb_streams.specs.Files.{FilePages}
-use Rattle.tsdb_streams.specs.Kept.{is_kept}
+use Rattle.tsdb_streams.specs.KeptPoints.{is_kept}
 use Rattle.tsdb_streams.specs.Lanes.{source_left}
 use Rattle.tsdb_streams.specs.Streams.{AreTrueSources}
 use Rattle.tsdb_streams.specs.declared.source.StreamSource.{StreamSource}

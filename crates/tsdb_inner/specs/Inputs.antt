@@ -1,6 +1,6 @@
 -- The inputs of a job as the sources of a stream.
 use Rattle.std.specs.Prelude.{◌≡◌, IsSome}
-use Rattle.tsdb_streams.specs.Indexed.{IsIndexed, IsWholeFile, source_of}
+use Rattle.tsdb_streams.specs.IndexedFiles.{IsIndexed, IsWholeFile, source_of}
 use Rattle.tsdb_streams.specs.declared.source.IndexedFile.{IndexedFile}
 use Rattle.tsdb_streams.specs.declared.source.StreamSource.{StreamSource}
 use Rattle.tsdb_streams.specs.declared.source.StreamSource.TheVariants.{File, Part}

@@ -2,7 +2,7 @@
 ghost use Rattle.std.specs.Prelude.{◌≡◌, ◌↔◌, ◌≤◌, All, IfOk, IsTrue, List, None, Some, false, map, true};
 ghost use Rattle.tsdb_base.specs.declared.point.Point.{Point as PointOf};
 ghost use Rattle.tsdb_streams.specs.Files.{FilePages, HasReason};
-ghost use Rattle.tsdb_streams.specs.Indexed.{IsIndexed, source_of};
+ghost use Rattle.tsdb_streams.specs.IndexedFiles.{IsIndexed, source_of};
 ghost use Rattle.tsdb_streams.specs.Lanes.{IsSourceOfStore};
 ghost use Rattle.tsdb_streams.specs.Streams.{AreToldSources, AreTrueSources, IsStreamOfStore, IsToldStream};
 ghost use Rattle.tsdb_streams.specs.Streams.{IsTrueStream, stream_left};

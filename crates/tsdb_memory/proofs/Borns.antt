@@ -12,7 +12,7 @@ use Rattle.tsdb_model.specs.declared.command.Schema.{Schema}
 use Rattle.tsdb_marks.specs.Lists.{is_newer_than, purge_list}
 use Rattle.tsdb_marks.specs.declared.marks.Mark.{Mark}
 use Rattle.tsdb_memory.specs.Least.{IsLeastOf, least_with, lesser_born}
-use Rattle.tsdb_memory.specs.Shown.{IsFrozenOf}
+use Rattle.tsdb_memory.specs.StateOfMemory.{IsFrozenOf}
 use Rattle.tsdb_memory.specs.Store as store
 use Rattle.tsdb_state.specs.State.{FrozenContent}
 

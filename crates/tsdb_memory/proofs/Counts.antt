@@ -27,7 +27,7 @@ use Rattle.tsdb_memory.proofs.Numbers.{schema_at, some_same}
 use Rattle.tsdb_memory.proofs.Raises.{beyond}
 use Rattle.tsdb_memory.proofs.Series.{itself, one_number}
 use Rattle.tsdb_memory.specs.Model.{HasKnownSeries}
-use Rattle.tsdb_memory.specs.Shown.{IsPairContent, number_of, point_value_at, value_found}
+use Rattle.tsdb_memory.specs.StateOfMemory.{IsPairContent, number_of, point_value_at, value_found}
 use Rattle.tsdb_memtable.specs.Pairs.{HasRisingSeries, Pair, SeriesPoints, blank, space_count, is_series, points_in, points_of}
 use Rattle.tsdb_base.specs.Points.{IsRising}
 

@@ -27,7 +27,7 @@ use Rattle.tsdb_memory.proofs.Typing.{all_both, typed_cut, typed_push}
 use Rattle.tsdb_memory.proofs.InTurn.{later_in_turn, left_in_turn, none_in_turn}
 use Rattle.tsdb_memory.specs.Model.{AreFrozenInTurn, HasKnownSeries, HasRisingPoints, HasTypedPoints, IsFormed, IsSoundMemory}
 use Rattle.tsdb_memory.specs.Rows.{ChangesRoom}
-use Rattle.tsdb_memory.specs.Shown.{IsFrozenOf, IsMemoryOf, IsPairOf, series_entry, file_borns, number_of, point_value_at}
+use Rattle.tsdb_memory.specs.StateOfMemory.{IsFrozenOf, IsMemoryOf, IsPairOf, series_entry, file_borns, number_of, point_value_at}
 use Rattle.tsdb_memory.specs.Store.{FrozenPair, SparePlaces, MemoryState}
 use Rattle.tsdb_memtable.specs.Pairs.{change_points, points_of, without_range}
 use Rattle.tsdb_base.specs.Points.{IsRising}

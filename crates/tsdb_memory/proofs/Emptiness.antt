@@ -26,8 +26,8 @@ use Rattle.tsdb_memory.proofs.Raises.{beyond}
 use Rattle.tsdb_memory.proofs.Series.{itself, one_number}
 use Rattle.tsdb_memory.specs.Fits.{HasNoPairPoint}
 use Rattle.tsdb_memory.specs.Model.{HasKnownSeries, IsSoundMemory}
-use Rattle.tsdb_memory.specs.Shown.{IsPairContent, TellsSpaceFilled, IsFrozenOf, IsMemoryOf, IsPairOf, SomePoint, number_of, part_of}
-use Rattle.tsdb_memory.specs.Shown.{point_value_at, value_found}
+use Rattle.tsdb_memory.specs.StateOfMemory.{IsPairContent, TellsSpaceFilled, IsFrozenOf, IsMemoryOf, IsPairOf, SomePoint, number_of, part_of}
+use Rattle.tsdb_memory.specs.StateOfMemory.{point_value_at, value_found}
 use Rattle.tsdb_memory.specs.Store.{FrozenPair, MemoryState}
 use Rattle.tsdb_memtable.specs.Pairs.{HasRisingSeries, Pair, SeriesPoints, blank, space_count, is_series, points_in, points_of}
 use Rattle.tsdb_state.specs.Limit.{IsEmptyPair}

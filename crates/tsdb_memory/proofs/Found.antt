@@ -21,7 +21,7 @@ use Rattle.tsdb_memory.proofs.Numbers.{number_push, one_path, some_same}
 use Rattle.std.specs.Ordering.{eq_by_cmp, int_eq, nat_cmp}
 use Rattle.tsdb_memory.proofs.Series.{erased_here, erased_there, itself, one_number}
 use Rattle.tsdb_memory.specs.Model.{HasKnownSeries, HasRisingPoints}
-use Rattle.tsdb_memory.specs.Shown.{IsFrozenOf, IsPairOf, number_of, point_value_at, value_found}
+use Rattle.tsdb_memory.specs.StateOfMemory.{IsFrozenOf, IsPairOf, number_of, point_value_at, value_found}
 use Rattle.tsdb_memory.specs.Store as store
 use Rattle.tsdb_memtable.specs.Pairs.{Pair, change_points, points_of, without_range}
 use Rattle.tsdb_base.specs.Points.{IsRising}

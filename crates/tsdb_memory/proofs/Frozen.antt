@@ -28,8 +28,8 @@ use Rattle.tsdb_memory.specs.Freezing.{AreRaises, HasPairTime, raised_by}
 use Rattle.tsdb_memory.proofs.InTurn.{pushed_in_turn}
 use Rattle.tsdb_memory.specs.Fits.{HasNoPairPoint}
 use Rattle.tsdb_memory.specs.Model.{AreFrozenInTurn, HasKnownSeries, HasRisingPoints, HasTypedPoints, IsSoundMemory, frozen_in}
-use Rattle.tsdb_memory.specs.Shared.{pair_in}
-use Rattle.tsdb_memory.specs.Shown.{IsPairContent, IsFrozenOf, IsMemoryOf, number_of, point_value_at, value_found}
+use Rattle.tsdb_memory.specs.SharedPairs.{pair_in}
+use Rattle.tsdb_memory.specs.StateOfMemory.{IsPairContent, IsFrozenOf, IsMemoryOf, number_of, point_value_at, value_found}
 use Rattle.tsdb_memory.specs.Store.{FrozenPair, SparePlaces, MemoryState}
 use Rattle.tsdb_memory.specs.declared.freezing.Raise.{Raise}
 use Rattle.tsdb_memory.specs.declared.shared.SharedPair.{SharedPair}

@@ -11,7 +11,7 @@ use Rattle.tsdb_memory.proofs.Effects.{cut_shown, cut_sound, cut_store, map_same
 use Rattle.tsdb_memory.proofs.Numbers.{some_same}
 use Rattle.tsdb_memory.specs.Least.{IsLeastOf, least_with, lesser_born}
 use Rattle.tsdb_memory.specs.Model.{IsSoundMemory, frozen_in}
-use Rattle.tsdb_memory.specs.Shown.{IsMemoryOf, file_borns, number_of}
+use Rattle.tsdb_memory.specs.StateOfMemory.{IsMemoryOf, file_borns, number_of}
 use Rattle.tsdb_memory.specs.Store as value
 use Rattle.tsdb_memory.specs.declared.store.FrozenPair.{FrozenPair}
 use Rattle.tsdb_memtable.specs.Pairs.{Pair, change_points, without_range}

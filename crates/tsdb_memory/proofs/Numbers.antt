@@ -20,7 +20,7 @@ use Rattle.tsdb_state.proofs.LayerLemmas.Places.{is_path_same, path_itself}
 use Rattle.tsdb_state.specs.Places.{is_path}
 use Rattle.tsdb_model.specs.declared.command.Schema.{Schema}
 use Rattle.tsdb_memory.specs.Model.{schema_of}
-use Rattle.tsdb_memory.specs.Shown.{number_of}
+use Rattle.tsdb_memory.specs.StateOfMemory.{number_of}
 
 abbrev pub Kind : Type 0
 Kind = DataType × Encoding

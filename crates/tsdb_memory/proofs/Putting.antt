@@ -19,7 +19,7 @@ use Rattle.tsdb_memory.proofs.Numbers.{one_path, some_same}
 use Rattle.tsdb_memory.proofs.Series.{changed_here, changed_there, itself, one_number}
 use Rattle.tsdb_memory.specs.Changes.{is_space}
 use Rattle.tsdb_memory.specs.Model.{HasRisingPoints}
-use Rattle.tsdb_memory.specs.Shown.{IsPairOf, number_of, point_value_at, value_found}
+use Rattle.tsdb_memory.specs.StateOfMemory.{IsPairOf, number_of, point_value_at, value_found}
 use Rattle.tsdb_memtable.specs.Pairs.{Pair, SeriesPoints, blank, change_points, is_series, points_in, points_of, put_in}
 use Rattle.tsdb_memtable.specs.Pairs.{spare_of}
 use Rattle.tsdb_memtable.proofs.PointLemmas.{with_point-rising}

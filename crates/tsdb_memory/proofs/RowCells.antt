@@ -18,7 +18,7 @@ use Rattle.tsdb_memory.proofs.Series.{changed_there, itself, one_number}
 use Rattle.tsdb_memory.specs.Changes.{is_space, points_with_row}
 use Rattle.tsdb_memory.specs.Model.{HasKnownSeries, HasRisingPoints, HasTypedPoints, IsFitting, IsSoundMemory}
 use Rattle.tsdb_memory.specs.Rows.{put_row_cells}
-use Rattle.tsdb_memory.specs.Shown.{IsMemoryOf, IsPairOf, series_entry, number_of}
+use Rattle.tsdb_memory.specs.StateOfMemory.{IsMemoryOf, IsPairOf, series_entry, number_of}
 use Rattle.tsdb_memory.specs.Store.{MemoryState}
 use Rattle.tsdb_memtable.specs.Pairs.{Pair, SeriesPoints, UsesSpareRoom, change_points, is_series, points_in, points_of}
 use Rattle.tsdb_memtable.specs.Pairs.{put_in, spare_of}

@@ -7,7 +7,7 @@ use Rattle.std.specs.Option.{option_and_then, option_map}
 use Rattle.tsdb_base.specs.declared.value.DataType.{DataType}
 use Rattle.tsdb_state.specs.Places.{is_path}
 use Rattle.tsdb_model.specs.declared.command.Schema.{Schema}
-use Rattle.tsdb_memory.specs.Shown.{IsMemoryOf, series_entry, number_of}
+use Rattle.tsdb_memory.specs.StateOfMemory.{IsMemoryOf, series_entry, number_of}
 use Rattle.tsdb_memory.specs.Store.{MemoryState}
 use Rattle.tsdb_state.specs.State.{SeriesEntry, StoreState}
 use Rattle.tsdb_state.specs.Worlds.{is_live_at, type_at}

@@ -3,7 +3,7 @@ use Rattle.std.specs.Prelude.{◌≡◌, ◌<◌, ℕ, List, None, IsSome, Resul
 use Rattle.std.specs.declared.result.Result.TheVariants.{Ok, Err}
 use Rattle.tsdb_base.specs.declared.answers.Answer.{Answer}
 use Rattle.tsdb_base.specs.declared.answers.Answer.TheVariants.{Done, NoPath, WrongType, Exists, Device, Memory, Full}
-use Rattle.tsdb_memory.specs.Shown.{number_of}
+use Rattle.tsdb_memory.specs.StateOfMemory.{number_of}
 use Rattle.tsdb_memory.specs.Store.{MemoryState}
 use Rattle.tsdb_outside.specs.declared.faults.StoreFault.{StoreFault}
 use Rattle.tsdb_outside.specs.declared.faults.StoreFault.TheVariants as store

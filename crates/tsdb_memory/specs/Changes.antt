@@ -11,7 +11,7 @@ use Rattle.tsdb_log.specs.declared.record.CellRecord.{CellRecord}
 use Rattle.tsdb_marks.specs.Lists.{purge_list}
 use Rattle.tsdb_memory.specs.Least.{least_with}
 use Rattle.tsdb_memory.specs.Rows.{ChangesRoom}
-use Rattle.tsdb_memory.specs.Shown.{number_of}
+use Rattle.tsdb_memory.specs.StateOfMemory.{number_of}
 use Rattle.tsdb_memory.specs.Store.{MemoryState, frozen_with_working}
 use Rattle.tsdb_memtable.specs.Pairs.{Pair, change_points, is_series, points_of, without_range}
 use Rattle.tsdb_memtable.specs.Points.{with_point}

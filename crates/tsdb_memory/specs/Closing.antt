@@ -2,11 +2,11 @@
 use Rattle.std.specs.Prelude.{◌≡◌, ◌⊎◌, ℕ, ◌≤◌, List, map, Option, None}
 use Rattle.tsdb_frames.specs.Frames.{disk_of, faults_of, slot_of}
 use Rattle.tsdb_frames.specs.Slots.{HasRecords}
-use Rattle.tsdb_state.specs.Stored.{LeadsTo, LeavesOneOf}
+use Rattle.tsdb_state.specs.StoredEngine.{LeadsTo, LeavesOneOf}
 use Rattle.tsdb_log.specs.Spelling.{spelling}
 use Rattle.tsdb_log.specs.declared.record.LogRecord.{LogRecord}
-use Rattle.tsdb_memory.specs.Logged.{IsSoundLogged, Outside, log_of}
-use Rattle.tsdb_memory.specs.declared.logged.LoggedMemory.{LoggedMemory}
+use Rattle.tsdb_memory.specs.LogState.{IsSoundLogged, Outside, log_of}
+use Rattle.tsdb_memory.specs.declared.logged_memory.LoggedMemory.{LoggedMemory}
 use Rattle.tsdb_model.specs.State as plain
 use Rattle.tsdb_base.specs.Causes.{Rose}
 use Rattle.tsdb_outside.specs.Disk.{Image, DiskState, in_slot}

@@ -13,12 +13,12 @@ use Rattle.tsdb_log.specs.declared.record.LogRecord.{LogRecord}
 use Rattle.tsdb_log.specs.declared.record.LogRecord.TheVariants.{Create, Delete, Insert}
 use Rattle.tsdb_memory.specs.Answers.{IsRefusal}
 use Rattle.tsdb_memory.specs.Appends.{IsLogKept}
-use Rattle.tsdb_memory.specs.Logged.{IsFaulted, IsSoundLogged, LeavesStates, Outside, log_of, memory_of, framed_room}
-use Rattle.tsdb_memory.specs.Logged.{with_record}
-use Rattle.tsdb_memory.specs.declared.logged.LoggedMemory.{LoggedMemory}
+use Rattle.tsdb_memory.specs.LogState.{IsFaulted, IsSoundLogged, LeavesStates, Outside, log_of, memory_of, framed_room}
+use Rattle.tsdb_memory.specs.LogState.{with_record}
+use Rattle.tsdb_memory.specs.declared.logged_memory.LoggedMemory.{LoggedMemory}
 use Rattle.tsdb_model.specs.declared.command.Schema.{Schema}
 use Rattle.tsdb_memory.specs.Rows.{ChangesRoom}
-use Rattle.tsdb_memory.specs.Shown.{IsMemoryOf, file_borns}
+use Rattle.tsdb_memory.specs.StateOfMemory.{IsMemoryOf, file_borns}
 use Rattle.tsdb_base.specs.Causes.{Rose}
 use Rattle.tsdb_outside.specs.declared.disk.Disk as disk
 use Rattle.tsdb_outside.specs.declared.faults.Counted as counted

@@ -4,14 +4,14 @@ use Rattle.std.specs.List.{AllByRecursion as Each}
 use Rattle.tsdb_base.specs.declared.ids.FileNumber.{FileNumber}
 use Rattle.tsdb_base.specs.declared.ids.Stamp.{Stamp}
 use Rattle.tsdb_frames.specs.Frames.{faults_of, slot_of}
-use Rattle.tsdb_state.specs.Stored.{IsKeptWhole, built_files}
+use Rattle.tsdb_state.specs.StoredEngine.{IsKeptWhole, built_files}
 use Rattle.tsdb_log.specs.declared.record.LogRecord.TheVariants.{Flushed}
 use Rattle.tsdb_memory.specs.Changes.{KeepsSeries}
-use Rattle.tsdb_memory.specs.Logged.{IsFaulted, IsSoundLogged, LeavesStates, Outside, log_of, memory_of, framed_room}
-use Rattle.tsdb_memory.specs.Logged.{with_record}
-use Rattle.tsdb_memory.specs.declared.logged.LoggedMemory.{LoggedMemory}
+use Rattle.tsdb_memory.specs.LogState.{IsFaulted, IsSoundLogged, LeavesStates, Outside, log_of, memory_of, framed_room}
+use Rattle.tsdb_memory.specs.LogState.{with_record}
+use Rattle.tsdb_memory.specs.declared.logged_memory.LoggedMemory.{LoggedMemory}
 use Rattle.tsdb_memory.specs.Least.{IsLeastOf}
-use Rattle.tsdb_memory.specs.Shown.{file_borns}
+use Rattle.tsdb_memory.specs.StateOfMemory.{file_borns}
 use Rattle.tsdb_outside.specs.Causes.{HasCause}
 use Rattle.tsdb_outside.specs.declared.disk.Disk as disk
 use Rattle.tsdb_outside.specs.declared.faults.Counted as counted

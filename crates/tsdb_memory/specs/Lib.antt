@@ -1,15 +1,15 @@
 pub mod Store
-pub mod Shown
+pub mod StateOfMemory
 pub mod Least
 pub mod Rows
 pub mod Changes
-pub mod Shared
+pub mod SharedPairs
 pub mod Freezing
 pub mod Model
 pub mod RowReading
 pub mod Fits
 pub mod RowSteps
-pub mod Logged
+pub mod LogState
 pub mod Appends
 pub mod Answers
 pub mod Commands
@@ -22,7 +22,7 @@ pub use Rattle.tsdb_state.specs.Stores
 pub use Rattle.tsdb_state.specs.Jobs
 pub use Rattle.tsdb_state.specs.State
 pub use Rattle.tsdb_state.specs.Steps
-pub use Rattle.tsdb_state.specs.Stored
+pub use Rattle.tsdb_state.specs.StoredEngine
 pub use Rattle.tsdb_state.specs.Records
 pub use Rattle.tsdb_log.specs.declared.record.LogRecord
 pub use Rattle.tsdb_state.specs.Worlds

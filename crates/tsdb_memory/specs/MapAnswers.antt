@@ -10,7 +10,7 @@ use Rattle.tsdb_model.specs.World.{World}
 use Rattle.tsdb_model.specs.declared.command.Cell.{Cell}
 use Rattle.tsdb_model.specs.declared.command.Command.{Command}
 use Rattle.tsdb_model.specs.declared.reply.Reply.TheVariants.{Plain}
-use Rattle.tsdb_memory.specs.Shown.{series_entry}
+use Rattle.tsdb_memory.specs.StateOfMemory.{series_entry}
 use Rattle.tsdb_memory.specs.Store.{MemoryState}
 use Rattle.tsdb_memory.specs.RowReading.{IsRowRefused}
 use Rattle.tsdb_state.specs.Commands.{AreCells}

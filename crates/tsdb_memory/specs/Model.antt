@@ -11,8 +11,8 @@ use Rattle.tsdb_log.specs.declared.record.CellRecord.{CellRecord}
 use Rattle.tsdb_model.specs.Commands.{IsSchema}
 use Rattle.tsdb_model.specs.declared.command.Schema.{Schema}
 use Rattle.tsdb_memory.specs.Fits.{HasNoPairPoint}
-use Rattle.tsdb_memory.specs.Shared.{pair_in}
-use Rattle.tsdb_memory.specs.Shown.{number_of}
+use Rattle.tsdb_memory.specs.SharedPairs.{pair_in}
+use Rattle.tsdb_memory.specs.StateOfMemory.{number_of}
 use Rattle.tsdb_memory.specs.Store as value
 use Rattle.tsdb_memory.specs.declared.store.FrozenPair.{FrozenPair}
 use Rattle.tsdb_memory.specs.declared.store.MemoryStore.TheInside.{Inside}

@@ -4,7 +4,7 @@ use Rattle.tsdb_log.specs.declared.record.CellRecord.{CellRecord}
 use Rattle.tsdb_model.specs.Apply.{value_of}
 use Rattle.tsdb_model.specs.declared.command.Cell.{Cell}
 use Rattle.tsdb_model.specs.declared.command.Schema.{Schema}
-use Rattle.tsdb_memory.specs.Shown.{series_entry}
+use Rattle.tsdb_memory.specs.StateOfMemory.{series_entry}
 use Rattle.tsdb_path.specs.Nodes.{IsName, child_of}
 use Rattle.tsdb_memory.specs.RowReading.{IsMissingSeries, IsUnfitCell}
 use Rattle.tsdb_memory.specs.declared.cells.CellFound.{CellFound}

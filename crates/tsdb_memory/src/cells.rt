@@ -2,7 +2,7 @@
 ghost use Rattle.std.specs.Prelude.{◌≤◌, IfOk, length, map};
 ghost use Rattle.tsdb_model.specs.Commands.{IsRow};
 ghost use Rattle.tsdb_base.specs.Limits.{max_names};
-ghost use Rattle.tsdb_memory.specs.Shown.{series_entry};
+ghost use Rattle.tsdb_memory.specs.StateOfMemory.{series_entry};
 ghost use Rattle.tsdb_memory.specs.Model.{IsSoundMemory};
 ghost use Rattle.tsdb_memory.specs.RowReading.{AreOfDifferentSeries, AreOfDevice, IfRead, IsRowRead};
 ghost use Rattle.tsdb_memory.specs.RowSteps.{IsCellFound};

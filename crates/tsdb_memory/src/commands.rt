@@ -1,4 +1,4 @@
-//! The changes of a user: a series is created, a row inserted, points deleted. Depends on `logged`.
+//! The changes of a user: a series is created, a row inserted, points deleted. Depends on `logged_memory`.
 ghost use Rattle.std.specs.Prelude.{List as ListOf, ℕ, ℤ, ◌≡◌, ◌≢◌, ◌<◌, ◌≤◌, ◌≤ℤ◌, All, AllPairs, IfOk, IsSome, None, OnOk, length, slice_get};
 ghost use Rattle.std.specs.Option.{IsSomeAnd};
 ghost use Rattle.tsdb_log.specs.declared.record.LogRecord.{LogRecord};
@@ -9,11 +9,11 @@ ghost use Rattle.tsdb_memory.specs.Changes.{HasCreated, HasDeleted, HasInserted,
 ghost use Rattle.tsdb_memory.specs.Commands.{IsCreateRecord, IsDeleteRecord, IsInsertion, create_record as record_of};
 ghost use Rattle.tsdb_model.specs.Commands.{IsSchema};
 ghost use Rattle.tsdb_memory.specs.Model.{IsFitting};
-ghost use Rattle.tsdb_memory.specs.Shown.{number_of};
+ghost use Rattle.tsdb_memory.specs.StateOfMemory.{number_of};
 ghost use Rattle.tsdb_memtable.specs.Pairs.{spare_of};
 ghost use Rattle.tsdb_base.specs.Limits.{end_of_numbers};
 
-use crate::logged::{LoggedMemory, answer_of};
+use crate::logged_memory::{LoggedMemory, answer_of};
 use tsdb_base::limits::END_OF_NUMBERS;
 use tsdb_base::{Answer, List, Memory, Range, Stamp, Time};
 use tsdb_log::{CellRecord, LogRecord};
@@ -26,7 +26,7 @@ const LAST_STAMP: u64 = END_OF_NUMBERS;
 
 impl<J: Journal> LoggedMemory<J> {
     ghost use Rattle.tsdb_memory.specs.Commands.{NeedsNothing, HasCommandEffect, IsPrepared, create_record};
-    ghost use Rattle.tsdb_memory.specs.Logged.{memory_of};
+    ghost use Rattle.tsdb_memory.specs.LogState.{memory_of};
 
     /// Creates a series, which is numbered behind the others.
     pub fn create(&mut self, schema: &Schema) -> Answer
@@ -76,7 +76,7 @@ impl<J: Journal> LoggedMemory<J> {
 
 impl<J: Journal> LoggedMemory<J> {
     ghost use Rattle.tsdb_memory.specs.Commands.{HasLeast, HasCommandEffect, IsPrepared};
-    ghost use Rattle.tsdb_memory.specs.Logged.{memory_of};
+    ghost use Rattle.tsdb_memory.specs.LogState.{memory_of};
 
     /// Deletes the points of a series in a range. `listed` is the least stamp at which a listed file was frozen.
     pub fn delete(&mut self, series: &Path, range: &Range, listed: Option<Stamp>) -> Answer
@@ -131,7 +131,7 @@ impl<J: Journal> LoggedMemory<J> {
 
 impl<J: Journal> LoggedMemory<J> {
     ghost use Rattle.tsdb_memory.specs.Commands.{CanPut, HasCommandEffect, IsPrepared};
-    ghost use Rattle.tsdb_memory.specs.Logged.{memory_of};
+    ghost use Rattle.tsdb_memory.specs.LogState.{memory_of};
 
     /// Inserts the cells of a row, which are of different series of the device.
     pub fn insert(&mut self, device: &Path, time: Time, cells: List<CellRecord>) -> Answer

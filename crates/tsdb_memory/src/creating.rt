@@ -3,7 +3,7 @@ ghost use Rattle.std.specs.Prelude.{◌≡◌, ◌<◌, None, OnOk};
 ghost use Rattle.tsdb_model.specs.Commands.{IsSchema};
 ghost use Rattle.tsdb_memory.specs.Changes.{HasCreated};
 ghost use Rattle.tsdb_memory.specs.Rows.{ChangesRoom};
-ghost use Rattle.tsdb_memory.specs.Shown.{IsMemoryOf, number_of};
+ghost use Rattle.tsdb_memory.specs.StateOfMemory.{IsMemoryOf, number_of};
 ghost use Rattle.tsdb_base.specs.Limits.{end_of_numbers};
 ghost use Rattle.tsdb_state.specs.Records.{created};
 ghost use Rattle.tsdb_state.specs.State.{StoreState};

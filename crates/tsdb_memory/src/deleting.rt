@@ -3,7 +3,7 @@ ghost use Rattle.std.specs.Prelude.{◌≡◌, ◌<◌, ◌≤◌, ◌≤ℤ◌,
 ghost use Rattle.tsdb_memory.specs.Changes.{HasDeleted};
 ghost use Rattle.tsdb_memory.specs.Least.{IsLeastOf};
 ghost use Rattle.tsdb_memory.specs.Rows.{ChangesRoom};
-ghost use Rattle.tsdb_memory.specs.Shown.{IsMemoryOf, file_borns, number_of};
+ghost use Rattle.tsdb_memory.specs.StateOfMemory.{IsMemoryOf, file_borns, number_of};
 ghost use Rattle.tsdb_base.specs.Limits.{end_of_numbers};
 ghost use Rattle.tsdb_state.specs.Records.{add_mark as mark_added, deleted};
 ghost use Rattle.tsdb_state.specs.State.{StoreState};

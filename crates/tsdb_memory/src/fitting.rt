@@ -1,7 +1,7 @@
 //! When a row fits the working pair. Depends on nothing here.
 ghost use Rattle.std.specs.Prelude.{◌≡◌, ◌⊎◌, ◌+◌, ◌≤◌, ◌↔◌, IsTrue, length};
 ghost use Rattle.tsdb_model.specs.Commands.{IsRow};
-ghost use Rattle.tsdb_memory.specs.Shown.{IsMemoryOf};
+ghost use Rattle.tsdb_memory.specs.StateOfMemory.{IsMemoryOf};
 ghost use Rattle.tsdb_memtable.specs.Pairs.{HasRisingSeries, byte_count};
 ghost use Rattle.tsdb_memory.specs.Fits.{FitsPair, HasCounts, HasNoPairPoint, pair_point_count};
 ghost use Rattle.tsdb_memory.specs.Fits as bytes;

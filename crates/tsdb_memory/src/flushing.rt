@@ -3,7 +3,7 @@
 ghost use Rattle.std.specs.Prelude.{◌≡◌, ◌<◌, ℕ, drop, length};
 ghost use Rattle.tsdb_memory.specs.Changes.{KeepsSeries};
 ghost use Rattle.tsdb_memory.specs.Least.{IsLeastOf};
-ghost use Rattle.tsdb_memory.specs.Shown.{IsMemoryOf, file_borns};
+ghost use Rattle.tsdb_memory.specs.StateOfMemory.{IsMemoryOf, file_borns};
 ghost use Rattle.tsdb_state.specs.Records.{Replacement, flushed, replaced};
 ghost use Rattle.tsdb_state.specs.State.{StoreState};
 

@@ -7,7 +7,7 @@ ghost use Rattle.tsdb_memory.specs.Changes.{HasFrozen};
 ghost use Rattle.tsdb_memory.specs.Fits.{HasNoPairPoint};
 ghost use Rattle.tsdb_memory.specs.Freezing.{AreRaises, HaveWatermarkPlaces, IsFreezeOf, IsRaiseOf, raised_by};
 ghost use Rattle.tsdb_memory.specs.Rows.{ChangesRoom};
-ghost use Rattle.tsdb_memory.specs.Shown.{IsMemoryOf};
+ghost use Rattle.tsdb_memory.specs.StateOfMemory.{IsMemoryOf};
 ghost use Rattle.tsdb_memory.specs.Store.{frozen_with_working};
 ghost use Rattle.tsdb_memtable.specs.Pairs.{points_of};
 ghost use Rattle.tsdb_memtable.specs.Watermarks.{watermark};

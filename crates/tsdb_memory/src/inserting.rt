@@ -4,7 +4,7 @@ ghost use Rattle.std.specs.Option.{IsSomeAnd};
 ghost use Rattle.tsdb_base.specs.declared.ids.Space.{Space as SpaceOf};
 ghost use Rattle.tsdb_memory.specs.Changes.{HasInserted};
 ghost use Rattle.tsdb_memory.specs.Model.{IsFitting};
-ghost use Rattle.tsdb_memory.specs.Shown.{IsMemoryOf};
+ghost use Rattle.tsdb_memory.specs.StateOfMemory.{IsMemoryOf};
 ghost use Rattle.tsdb_memory.specs.Rows.{ChangesRoom, put_row_cells};
 ghost use Rattle.tsdb_memtable.specs.Pairs.{UsesSpareRoom, points_of, spare_of};
 ghost use Rattle.tsdb_base.specs.Limits.{end_of_numbers};

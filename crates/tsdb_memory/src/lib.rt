@@ -39,7 +39,7 @@ mod flushing;
 mod framing;
 mod freezing;
 mod inserting;
-mod logged;
+mod logged_memory;
 mod map_laws;
 mod pairs;
 mod purging;
@@ -52,7 +52,7 @@ mod store;
 pub use cells::cells_of;
 pub use fitting::fits_pair;
 pub use freezing::Freezing;
-pub use logged::LoggedMemory;
+pub use logged_memory::LoggedMemory;
 pub use map_laws::{
     a_creation_follows_the_map, a_deletion_follows_the_map, a_freeze_keeps_the_world,
     a_row_follows_the_map,

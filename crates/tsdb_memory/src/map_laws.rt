@@ -11,7 +11,7 @@ ghost use Rattle.tsdb_model.specs.World.{World};
 ghost use Rattle.tsdb_model.specs.declared.command.Command.{Command};
 ghost use Rattle.tsdb_model.specs.declared.command.Row.{Row};
 ghost use Rattle.tsdb_model.specs.declared.command.Schema.{Schema};
-ghost use Rattle.tsdb_memory.specs.Shown.{IsMemoryOf};
+ghost use Rattle.tsdb_memory.specs.StateOfMemory.{IsMemoryOf};
 ghost use Rattle.tsdb_memory.specs.Store.{MemoryState};
 ghost use Rattle.tsdb_state.specs.Records.{CanFreeze, froze};
 ghost use Rattle.tsdb_state.specs.State.{StoreState, ToldContents};

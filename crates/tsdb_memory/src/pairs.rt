@@ -1,4 +1,4 @@
-//! What becomes of a pair of points: it is frozen, and then in files. Depends on `logged`.
+//! What becomes of a pair of points: it is frozen, and then in files. Depends on `logged_memory`.
 ghost use Rattle.std.specs.Prelude.{◌≡◌, ◌≢◌, ◌<◌, ◌≤◌, [], OnOk, length};
 ghost use Rattle.tsdb_memory.specs.Answers.{IsFreezeAnswer, answer_by};
 ghost use Rattle.tsdb_memory.specs.Changes.{HasFrozen, MemoryAfter};
@@ -8,7 +8,7 @@ ghost use Rattle.tsdb_memory.specs.Store.{frozen_with_working};
 ghost use Rattle.tsdb_state.specs.Jobs.{flushed_bytes};
 ghost use Rattle.tsdb_base.specs.Limits.{max_frozen};
 
-use crate::logged::{LoggedMemory, answer_of};
+use crate::logged_memory::{LoggedMemory, answer_of};
 use tsdb_base::{Answer, FileNumber, Memory, Stamp};
 use tsdb_log::LogRecord;
 use tsdb_outside::{Failed, Journal, StoreFault};
@@ -19,7 +19,7 @@ const FLUSHED_BYTES: usize = 22;
 impl<J: Journal> LoggedMemory<J> {
     ghost use Rattle.tsdb_memory.specs.Commands.{CanStop, HasCommandEffect, IsPrepared};
     ghost use Rattle.tsdb_memory.specs.Flushes.{IsFlushed};
-    ghost use Rattle.tsdb_memory.specs.Logged.{memory_of, framed_room};
+    ghost use Rattle.tsdb_memory.specs.LogState.{memory_of, framed_room};
 
     /// Freezes the working pair, which has a point: it stands behind the frozen ones, of which at most one may be there
     /// before. The series and the stamp stay, and a new working pair has no point.
@@ -68,7 +68,7 @@ impl<J: Journal> LoggedMemory<J> {
 
     /// The oldest frozen pair is in these files; a part without points has none, and the number 0. `listed` is the least
     /// stamp at which a file was frozen that is listed then. It takes no memory.
-    pub fn flushed(
+    pub fn append_flushed(
         &mut self,
         sequence: FileNumber,
         unsequence: FileNumber,

@@ -6,7 +6,7 @@ ghost use Rattle.std.specs.Arc.{arc_value};
 ghost use Rattle.std.specs.Option.{option_map};
 ghost use Rattle.tsdb_memory.specs.Fits.{HasNoPairPoint};
 ghost use Rattle.tsdb_memory.specs.Model.{IsSoundMemory, frozen_in};
-ghost use Rattle.tsdb_memory.specs.Shown.{TellsSpaceFilled, IsMemoryOf, number_of, part_of};
+ghost use Rattle.tsdb_memory.specs.StateOfMemory.{TellsSpaceFilled, IsMemoryOf, number_of, part_of};
 ghost use Rattle.tsdb_state.specs.Limit.{IsEmptyPair};
 ghost use Rattle.tsdb_base.specs.Limits.{max_frozen};
 ghost use Rattle.tsdb_state.specs.State.{FrozenContent as FrozenState, StoreState};

@@ -1,8 +1,8 @@
-//! Files are replaced: by the output of a compaction, or by none. Depends on `logged`.
+//! Files are replaced: by the output of a compaction, or by none. Depends on `logged_memory`.
 ghost use Rattle.std.specs.Prelude.{◌≤◌, OnOk};
 ghost use Rattle.tsdb_memory.specs.Replacing.{IsReplacement, replacement_bytes};
 
-use crate::logged::LoggedMemory;
+use crate::logged_memory::LoggedMemory;
 use tsdb_base::{Memory, Stamp};
 use tsdb_log::LogRecord;
 use tsdb_outside::{Failed, Journal, StoreFault};
@@ -15,7 +15,7 @@ const INPUT_BYTES: usize = 8;
 
 impl<J: Journal> LoggedMemory<J> {
     ghost use Rattle.tsdb_memory.specs.Commands.{IsPrepared};
-    ghost use Rattle.tsdb_memory.specs.Logged.{framed_room};
+    ghost use Rattle.tsdb_memory.specs.LogState.{framed_room};
     ghost use Rattle.tsdb_memory.specs.Replacing.{IsReplaced};
 
     /// Makes room for the record of a replacement of so many files.
@@ -34,7 +34,7 @@ impl<J: Journal> LoggedMemory<J> {
 
     /// The files that the record names are replaced by its output, if it has one. `listed` is the least stamp at
     /// which a file was frozen that is listed then. It takes no memory.
-    pub fn replaced(&mut self, item: &LogRecord, listed: Option<Stamp>) -> Result<(), Failed>
+    pub fn append_replaced(&mut self, item: &LogRecord, listed: Option<Stamp>) -> Result<(), Failed>
         requires { IsReplacement (framed_room self.old) item.now }
         ensures { IsReplaced self.old self.new item.now listed result }
     {

@@ -9,7 +9,7 @@ ghost use Rattle.tsdb_model.specs.declared.command.Command.{Command};
 ghost use Rattle.tsdb_model.specs.declared.command.Row.{Row};
 ghost use Rattle.tsdb_model.specs.declared.reply.Reply.{Reply};
 ghost use Rattle.tsdb_memory.specs.Model.{IsSoundMemory};
-ghost use Rattle.tsdb_memory.specs.Shown.{IsMemoryOf, series_entry};
+ghost use Rattle.tsdb_memory.specs.StateOfMemory.{IsMemoryOf, series_entry};
 ghost use Rattle.tsdb_memory.specs.Store.{MemoryState};
 ghost use Rattle.tsdb_memtable.specs.Pairs.{HasRisingSeries, Pair};
 ghost use Rattle.tsdb_memory.specs.Fits.{FitsPair, HasCounts, HasNoPairPoint};

@@ -5,7 +5,7 @@
 //! another owner, which it never has, the pair is held by itself.
 ghost use Rattle.std.specs.Prelude.{◌≡◌, IfSome};
 ghost use Rattle.std.specs.Arc.{arc_value};
-ghost use Rattle.tsdb_memory.specs.Shared.{pair_in};
+ghost use Rattle.tsdb_memory.specs.SharedPairs.{pair_in};
 
 use std::sync::Arc;
 use tsdb_memtable::Pair;

@@ -1,7 +1,7 @@
 //! What is in memory: the series by their numbers, the stamp, the watermarks, the marks, the frozen pairs and the
 //! working pair. Depends on `shared`, `tsdb_memtable` and `tsdb_marks`.
 ghost use Rattle.std.specs.Prelude.{◌≡◌, ◌≤◌};
-ghost use Rattle.tsdb_memory.specs.Shown.{IsMemoryOf};
+ghost use Rattle.tsdb_memory.specs.StateOfMemory.{IsMemoryOf};
 ghost use Rattle.tsdb_base.specs.Limits.{end_of_numbers};
 ghost use Rattle.tsdb_state.specs.NewStore.{new_store};
 

@@ -12,7 +12,7 @@ use Rattle.tsdb_base.specs.declared.value.Encoding.{Encoding}
 use Rattle.tsdb_base.proofs.Lists.{each_append}
 use Rattle.tsdb_model.specs.declared.command.Item.{Item}
 use Rattle.tsdb_model.specs.declared.command.Schema.{Schema}
-use Rattle.tsdb_fileset.specs.Shown.{series_entry, number_of}
+use Rattle.tsdb_fileset.specs.StateOfMemory.{series_entry, number_of}
 use Rattle.tsdb_path.specs.Nodes.{child_of}
 use Rattle.tsdb_pin.proofs.Listed.{zip_append}
 use Rattle.tsdb_pin.specs.Items.{AreFit, are_fit_with, IsAsked, IsFit, IsItemFound, IsThere, IsUnfitItem, OneOf, is_unfit_for, item_type}

@@ -7,7 +7,7 @@ use Rattle.std.specs.List.{AllByRecursion as Each, AllZip, filter, flat_map, lis
 use Rattle.std.specs.Option.{option_map}
 use Rattle.std.proofs.lemmas.Bool.{eq-eqb, false≢true}
 use Rattle.tsdb_base.specs.declared.point.Range.{Range}
-use Rattle.tsdb_fileset.specs.Held.{AreFilesOf, entry_of, outgoing_file, listed}
+use Rattle.tsdb_fileset.specs.StateOfFiles.{AreFilesOf, entry_of, outgoing_file, listed}
 use Rattle.tsdb_fileset.specs.Files.{AreKept, KeptFiles, kept_file}
 use Rattle.tsdb_fileset.specs.Places.{KeptFile}
 use Rattle.tsdb_base.proofs.Lists.{each_weaker}
@@ -19,7 +19,7 @@ use Rattle.tsdb_model.specs.declared.command.Item.{Item}
 use Rattle.tsdb_model.specs.declared.command.Schema.{Schema}
 use Rattle.tsdb_marks.specs.Lists.{is_of}
 use Rattle.tsdb_marks.specs.declared.marks.Mark.{Mark}
-use Rattle.tsdb_fileset.specs.Shown.{IsMemoryOf, number_of}
+use Rattle.tsdb_fileset.specs.StateOfMemory.{IsMemoryOf, number_of}
 use Rattle.tsdb_fileset.specs.Store.{MemoryState}
 use Rattle.tsdb_outside.specs.Files.{NamedFile}
 use Rattle.tsdb_pin.proofs.Changing.{LeavesNames, gives_names, kept_changed, takes_names}
@@ -27,7 +27,7 @@ use Rattle.tsdb_pin.proofs.Stated.{sources_shown}
 use Rattle.tsdb_pin.specs.Changes.{ChangesFiles, GivesRights, TakesRights, column_numbers, fewer_rights, more_rights}
 use Rattle.tsdb_pin.specs.Items.{IsAsked}
 use Rattle.tsdb_pin.specs.Pins.{AreColumnsHeld, AreColumnsTaken, IsColumn, IsColumnFor, IsPinFor, IsPinOver, column_paths}
-use Rattle.tsdb_pin.specs.Shown.{IsColumnOf, IsShownAs, IsStated, LeavesState}
+use Rattle.tsdb_pin.specs.StateOfPin.{IsColumnOf, IsShownAs, IsStated, LeavesState}
 use Rattle.tsdb_pin.specs.Sources.{AreSourcesOf, numbers_in, source_numbers as pinned_numbers}
 use Rattle.tsdb_pin.specs.declared.items.AskedSeries.{AskedSeries}
 use Rattle.tsdb_pin.specs.declared.pin.Column.{Column}

@@ -15,7 +15,7 @@ use Rattle.tsdb_base.specs.declared.ids.Space.TheVariants.{Sequence, Unsequence}
 use Rattle.tsdb_base.specs.declared.point.Point.{Point}
 use Rattle.tsdb_base.specs.declared.point.Range.{Range}
 use Rattle.tsdb_base.specs.declared.value.Value.{Value}
-use Rattle.tsdb_fileset.specs.Held.{AreFilesOf, entry_of, listed}
+use Rattle.tsdb_fileset.specs.StateOfFiles.{AreFilesOf, entry_of, listed}
 use Rattle.tsdb_fileset.specs.Files.{AreKept, KeptFiles, entries_in, entry_numbers, has_path, kept_file, all_numbers}
 use Rattle.tsdb_fileset.specs.Files.{outgoing_numbers}
 use Rattle.tsdb_fileset.specs.Places.{KeptFile}
@@ -27,7 +27,7 @@ use Rattle.tsdb_fileset.specs.StatePlaces.{Content, PointPlace, is_path, is_with
 use Rattle.tsdb_model.specs.World.{is_in}
 use Rattle.tsdb_model.specs.declared.command.Schema.{Schema}
 use Rattle.tsdb_fileset.proofs.Emptiness.{part_is}
-use Rattle.tsdb_fileset.specs.Shown.{IsFrozenOf, IsMemoryOf, number_of, part_of, point_value_at}
+use Rattle.tsdb_fileset.specs.StateOfMemory.{IsFrozenOf, IsMemoryOf, number_of, part_of, point_value_at}
 use Rattle.tsdb_fileset.specs.Store as memory
 use Rattle.tsdb_fileset.specs.Store.{MemoryState}
 use Rattle.tsdb_memtable.specs.Pairs.{points_of}
@@ -35,7 +35,7 @@ use Rattle.tsdb_base.specs.Points.{IsRising}
 use Rattle.tsdb_memtable.specs.Points.{is_point_within}
 use Rattle.tsdb_outside.specs.Files.{NamedFile}
 use Rattle.tsdb_pin.proofs.Listed.{zip_append}
-use Rattle.tsdb_pin.specs.Shown.{ArePointsOf, IsShownAs}
+use Rattle.tsdb_pin.specs.StateOfPin.{ArePointsOf, IsShownAs}
 use Rattle.tsdb_pin.specs.Sources.{AreOfFiles, AreRisingIn, AreSourcesOf, IsOfEntry, has_slice, pairs_in, part_in}
 use Rattle.tsdb_pin.specs.Sources.{parts_in, slice_of}
 use Rattle.tsdb_pin.specs.declared.pin.PinnedSource.{PinnedSource}

@@ -12,7 +12,7 @@ use Rattle.tsdb_model.specs.Apply.{is_unfit}
 use Rattle.tsdb_model.specs.World.{new_series}
 use Rattle.tsdb_model.specs.declared.command.Item.{Item}
 use Rattle.tsdb_model.specs.declared.command.Schema.{Schema}
-use Rattle.tsdb_fileset.specs.Shown.{series_entry, number_of}
+use Rattle.tsdb_fileset.specs.StateOfMemory.{series_entry, number_of}
 use Rattle.tsdb_path.specs.Nodes.{child_of}
 use Rattle.tsdb_pin.specs.declared.items.AskedSeries.{AskedSeries}
 use Rattle.tsdb_pin.specs.declared.items.ItemFound.{ItemFound}

@@ -2,8 +2,8 @@ pub mod Items
 pub mod Sources
 pub mod Changes
 pub mod Pins
-pub mod Shown
+pub mod StateOfPin
 pub use Rattle.tsdb_fileset.specs.Files
 pub use Rattle.tsdb_fileset.specs.Places
 pub use Rattle.tsdb_fileset.specs.Rights
-pub use Rattle.tsdb_fileset.specs.Held
+pub use Rattle.tsdb_fileset.specs.StateOfFiles

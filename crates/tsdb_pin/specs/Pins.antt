@@ -6,7 +6,7 @@ use Rattle.tsdb_base.specs.declared.point.Range.{Range}
 use Rattle.tsdb_fileset.specs.Files.{KeptFiles}
 use Rattle.tsdb_model.specs.declared.command.Item.{Item}
 use Rattle.tsdb_marks.specs.Lists.{is_of}
-use Rattle.tsdb_fileset.specs.Shown.{series_entry, number_of}
+use Rattle.tsdb_fileset.specs.StateOfMemory.{series_entry, number_of}
 use Rattle.tsdb_fileset.specs.Store.{MemoryState}
 use Rattle.tsdb_outside.specs.Files.{NamedFile}
 use Rattle.tsdb_path.specs.Nodes.{child_of}

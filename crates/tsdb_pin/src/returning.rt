@@ -1,7 +1,7 @@
 //! Giving the rights of a pin back. Depends on `pin`.
 ghost use Rattle.tsdb_pin.specs.Pins.{AreColumnsHeld};
 ghost use Rattle.tsdb_pin.specs.Changes.{GivesRights, column_numbers};
-ghost use Rattle.tsdb_pin.specs.Shown.{LeavesState};
+ghost use Rattle.tsdb_pin.specs.StateOfPin.{LeavesState};
 ghost use Rattle.tsdb_pin.specs.Sources.{AreHeldIn, IsHeldIn, numbers_in, source_numbers};
 
 use crate::pin::{Column, Pin, PinnedSource};

@@ -4,7 +4,7 @@ ghost use Rattle.std.specs.List.{filter};
 ghost use Rattle.tsdb_marks.specs.Lists.{is_of};
 ghost use Rattle.tsdb_pin.specs.Pins.{IsPinAnswer, IsPinFor, IsPinOver, IsPinTakenOrNot};
 ghost use Rattle.tsdb_pin.specs.Changes.{ChangesNoFile};
-ghost use Rattle.tsdb_pin.specs.Shown.{IsPinOfState};
+ghost use Rattle.tsdb_pin.specs.StateOfPin.{IsPinOfState};
 
 use crate::columns::take_columns;
 use crate::items::{AskedSeries, read_items};

@@ -8,7 +8,7 @@ use Rattle.std.proofs.lemmas.List.Elements.{All-cons, All-nil}
 use Rattle.std.proofs.lemmas.List.Kept.{AllPairs-filter}
 use Rattle.tsdb_base.specs.declared.point.Point.{Point}
 use Rattle.tsdb_base.specs.declared.point.Range.{Range}
-use Rattle.tsdb_streams.specs.Kept.{is_kept}
+use Rattle.tsdb_streams.specs.KeptPoints.{is_kept}
 use Rattle.tsdb_streams.specs.Lanes.{IsSourceOfStore, IsToldSource, IsTrueSource, source_all, source_left}
 use Rattle.tsdb_streams.specs.declared.source.StreamSource.{StreamSource}
 use Rattle.tsdb_streams.specs.declared.source.StreamSource.TheVariants as lent

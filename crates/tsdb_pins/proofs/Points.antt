@@ -23,13 +23,13 @@ use Rattle.tsdb_model.specs.Folds.{in_order, within}
 use Rattle.tsdb_model.specs.World as world
 use Rattle.tsdb_model.specs.World.{PointMap, World, is_in}
 use Rattle.tsdb_marks.specs.declared.marks.Mark.{Mark}
-use Rattle.tsdb_memory.specs.Shown.{point_value_at}
+use Rattle.tsdb_memory.specs.StateOfMemory.{point_value_at}
 use Rattle.tsdb_merge.proofs.MergeLemmas.{AllPairs-head, AllPairs-tail, Contains-cases, Contains-head, Contains-nil, Contains-tail, same_points}
 use Rattle.tsdb_base.specs.Points.{IsRising}
 use Rattle.tsdb_merge.specs.Winners.{IsMergeOf}
 use Rattle.tsdb_pins.specs.Worlds.{HasPointsOf, IsSourceOf, born_of, kept_of, series_points}
-use Rattle.tsdb_streams.specs.Kept.{is_kept}
-use Rattle.tsdb_pin.specs.Shown.{ArePointsOf, IsColumnOf, IsPinOf, IsShownAs}
+use Rattle.tsdb_streams.specs.KeptPoints.{is_kept}
+use Rattle.tsdb_pin.specs.StateOfPin.{ArePointsOf, IsColumnOf, IsPinOf, IsShownAs}
 use Rattle.tsdb_pin.specs.declared.pin.Column.{Column}
 use Rattle.tsdb_pin.specs.declared.pin.Pin.{Pin}
 use Rattle.tsdb_pin.specs.declared.pin.PinnedSource.{PinnedSource}

@@ -18,7 +18,7 @@ use Rattle.tsdb_model.specs.declared.reply.Reply.{Reply}
 use Rattle.tsdb_model.specs.declared.reply.Reply.TheVariants.{Lines, Plain, Values}
 use Rattle.tsdb_path.specs.Nodes.{child_of}
 use Rattle.tsdb_pin.specs.Items.{AreFit, AreItemsRefused, IsThere, IsUnfitItem, OneOf, is_unfit_for, item_type}
-use Rattle.tsdb_memory.specs.Shown.{IsMemoryOf, series_entry}
+use Rattle.tsdb_memory.specs.StateOfMemory.{IsMemoryOf, series_entry}
 use Rattle.tsdb_memory.specs.Store.{MemoryState}
 use Rattle.tsdb_pins.specs.Replies.{IsMapFault}
 use Rattle.tsdb_pin.specs.declared.pin.PinFault.{PinFault}

@@ -20,7 +20,7 @@ use Rattle.tsdb_merge.specs.Winners.{IsMergeOf, IsToldMergeOf}
 use Rattle.tsdb_outside.specs.Files.{NamedFile}
 use Rattle.tsdb_pins.proofs.Points.{pin_has}
 use Rattle.tsdb_pins.specs.Worlds.{HasPointsOf, IsSourceOf, columns_in, kept_of, series_points, values_in}
-use Rattle.tsdb_pin.specs.Shown.{IsColumnOf, IsPinOf, IsShownAs}
+use Rattle.tsdb_pin.specs.StateOfPin.{IsColumnOf, IsPinOf, IsShownAs}
 use Rattle.tsdb_pin.specs.declared.pin.Column.{Column}
 use Rattle.tsdb_pin.specs.declared.pin.Pin.{Pin}
 use Rattle.tsdb_pin.specs.declared.pin.PinnedSource.{PinnedSource}

@@ -11,7 +11,7 @@ use Rattle.tsdb_streams.specs.Files.{ArePagesIn, HasPages, IsSeriesChunk}
 use Rattle.tsdb_merge.proofs.MergeLemmas.{Contains-cases, Contains-head, Contains-nil, Contains-tail}
 use Rattle.tsdb_base.specs.Lists.{Among}
 use Rattle.tsdb_state.specs.Places.{Content}
-use Rattle.tsdb_memory.specs.Shown.{point_value_at}
+use Rattle.tsdb_memory.specs.StateOfMemory.{point_value_at}
 use Rattle.tsdb_outside.specs.Files.{NamedFile}
 use Rattle.tsdb_pages.proofs.Files.{one_tree}
 use Rattle.tsdb_pages.specs.File.{IsFile}
@@ -24,7 +24,7 @@ use Rattle.tsdb_path.proofs.Bytes.{IsNode-dotless}
 use Rattle.tsdb_path.proofs.Parts.{child_of-device_of, device_of-child, measurement_of-child}
 use Rattle.tsdb_path.specs.Nodes.{child_of, device_of, measurement_of, node_count}
 use Rattle.tsdb_pins.proofs.Points.{has_value, of_value}
-use Rattle.tsdb_pin.specs.Shown.{ArePointsOf}
+use Rattle.tsdb_pin.specs.StateOfPin.{ArePointsOf}
 use Rattle.tsdb_base.specs.Points.{IsRising}
 use Rattle.tsdb_state.specs.Stores.{BytesByNumber, HasTreePoint, IsTreeContent, IsWhole}
 use Rattle.tsdb_streams.specs.Pieces.{joined}

@@ -19,8 +19,8 @@ use Rattle.std.proofs.Math.Seq.{drop-cons}
 use Rattle.tsdb_pins.proofs.Draining.{takes_none, takes_one}
 use Rattle.tsdb_pins.specs.Reading.{IsFoldOf}
 use Rattle.tsdb_pins.specs.Weaving.{AreLater, IsNextPoint, Weaves, ends_before}
-use Rattle.tsdb_streams.specs.Kept.{stats_range}
-use Rattle.tsdb_streams.specs.Parted.{AreStatsInOrder, IsParted, is_between, points_within}
+use Rattle.tsdb_streams.specs.KeptPoints.{stats_range}
+use Rattle.tsdb_streams.specs.PartedMerge.{AreStatsInOrder, IsParted, is_between, points_within}
 use Rattle.tsdb_model.specs.Folds.{aggregate_of}
 use Rattle.tsdb_model.specs.World.{is_in}
 use Rattle.tsdb_base.specs.Points.{IsRising}

@@ -17,7 +17,7 @@ use Rattle.tsdb_merge.specs.Winners.{IsMergeOf}
 use Rattle.tsdb_outside.specs.Files.{NamedFile, Store}
 use Rattle.tsdb_path.specs.Nodes.{device_of, measurement_of, node_count}
 use Rattle.tsdb_pins.specs.Worlds.{kept_of}
-use Rattle.tsdb_pin.specs.Shown.{ArePointsOf}
+use Rattle.tsdb_pin.specs.StateOfPin.{ArePointsOf}
 use Rattle.tsdb_pin.specs.declared.pin.Column.{Column}
 use Rattle.tsdb_pin.specs.declared.pin.PinnedSource.{PinnedSource}
 use Rattle.tsdb_pin.specs.declared.pin.PinnedSource.TheVariants.{File, Part}

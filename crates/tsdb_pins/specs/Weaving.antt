@@ -5,7 +5,7 @@ use Rattle.tsdb_aggregate.specs.declared.tally.Tally.{Tally}
 use Rattle.tsdb_base.specs.declared.answers.Aggregate.{Aggregate}
 use Rattle.tsdb_base.specs.declared.point.Point.{Point}
 use Rattle.tsdb_base.specs.declared.point.Stats.{Stats}
-use Rattle.tsdb_streams.specs.Parted.{AreStatsInOrder, is_between}
+use Rattle.tsdb_streams.specs.PartedMerge.{AreStatsInOrder, is_between}
 use Rattle.tsdb_base.specs.Points.{IsRising}
 
 -- the tally is that of the first points, and of the rest the statistics and what is between them are still to be added

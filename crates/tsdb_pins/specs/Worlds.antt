@@ -10,11 +10,11 @@ use Rattle.tsdb_model.specs.Folds.{in_order, within}
 use Rattle.tsdb_model.specs.World.{PointMap, World, points_of_series}
 use Rattle.tsdb_marks.specs.declared.marks.Mark.{Mark}
 use Rattle.tsdb_merge.specs.Winners.{IsMergeOf}
-use Rattle.tsdb_pin.specs.Shown.{ArePointsOf}
+use Rattle.tsdb_pin.specs.StateOfPin.{ArePointsOf}
 use Rattle.tsdb_pin.specs.declared.pin.Column.{Column}
 use Rattle.tsdb_pin.specs.declared.pin.PinnedSource.{PinnedSource}
 use Rattle.tsdb_pin.specs.declared.pin.PinnedSource.TheVariants.{File, Part}
-use Rattle.tsdb_streams.specs.Kept.{is_kept}
+use Rattle.tsdb_streams.specs.KeptPoints.{is_kept}
 use Rattle.tsdb_state.specs.State.{ToldContents}
 
 -- the points that a series has in a range, in order of time

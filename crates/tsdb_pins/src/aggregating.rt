@@ -3,7 +3,7 @@ ghost use Rattle.std.specs.Prelude.{◌≡◌, ◌+◌, ◌≤◌, IfOk};
 ghost use Rattle.tsdb_streams.specs.Files.{HasReason};
 ghost use Rattle.tsdb_model.specs.World.{World};
 ghost use Rattle.tsdb_pins.specs.Worlds.{values_in};
-ghost use Rattle.tsdb_pin.specs.Shown.{IsPinOf};
+ghost use Rattle.tsdb_pin.specs.StateOfPin.{IsPinOf};
 ghost use Rattle.tsdb_pins.specs.Clean.{TellPages, columns_read};
 ghost use Rattle.tsdb_pins.specs.Reading.{AreColumnsOf, AreColumnsTold, AreColumnsTrue, HaveNodes, SeriesPages};
 ghost use Rattle.tsdb_pins.specs.Reading.{TellPoints};

@@ -3,7 +3,7 @@ ghost use Rattle.std.specs.List.{AllByRecursion as Each, AllZip};
 ghost use Rattle.std.specs.Prelude.{◌≡◌, ◌≤◌, All, IfOk, List, Some, map};
 ghost use Rattle.tsdb_base.specs.declared.point.Point.{Point as PointModel};
 ghost use Rattle.tsdb_streams.specs.Files.{FilePages, HasReason};
-ghost use Rattle.tsdb_streams.specs.Kept.{is_kept};
+ghost use Rattle.tsdb_streams.specs.KeptPoints.{is_kept};
 ghost use Rattle.tsdb_streams.specs.Lanes.{IsSourceOfStore, source_left};
 ghost use Rattle.tsdb_streams.specs.Streams.{AreToldSources, AreTrueSources};
 ghost use Rattle.tsdb_base.specs.Points.{IsRising};

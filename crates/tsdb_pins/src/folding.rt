@@ -4,9 +4,9 @@ ghost use Rattle.std.specs.Prelude.{◌≡◌, ◌+◌, ◌≤◌, All, IfOk, Li
 ghost use Rattle.tsdb_base.specs.declared.point.Point.{Point as PointModel};
 ghost use Rattle.tsdb_streams.specs.Clean.{sources_read};
 ghost use Rattle.tsdb_streams.specs.Files.{FilePages, HasReason};
-ghost use Rattle.tsdb_streams.specs.Kept.{is_kept};
+ghost use Rattle.tsdb_streams.specs.KeptPoints.{is_kept};
 ghost use Rattle.tsdb_streams.specs.Lanes.{IsSourceOfStore, source_all, source_left};
-ghost use Rattle.tsdb_streams.specs.Parted.{AreStatsInOrder, is_between};
+ghost use Rattle.tsdb_streams.specs.PartedMerge.{AreStatsInOrder, is_between};
 ghost use Rattle.tsdb_streams.specs.Streams.{AreToldSources, AreTrueSources, IsStreamOfStore, IsToldStream};
 ghost use Rattle.tsdb_streams.specs.Streams.{IsTrueStream, stream_due, stream_left};
 ghost use Rattle.tsdb_model.specs.Folds.{aggregate_of};

@@ -10,7 +10,7 @@ ghost use Rattle.tsdb_memory.specs.Store.{MemoryState as MemorySeen};
 ghost use Rattle.tsdb_outside.specs.Files.{NamedFile, Store};
 ghost use Rattle.tsdb_path.specs.Nodes.{device_of, measurement_of, node_count};
 ghost use Rattle.tsdb_pin.specs.Pins.{AreColumnsHeld, IsPinFor};
-ghost use Rattle.tsdb_pin.specs.Shown.{ArePointsOf};
+ghost use Rattle.tsdb_pin.specs.StateOfPin.{ArePointsOf};
 ghost use Rattle.tsdb_pins.specs.Reading.{AreColumnsOf, HaveNodes};
 ghost use Rattle.tsdb_state.specs.Stores.{BytesByNumber as Kept, IsWhole};
 ghost use Rattle.tsdb_streams.specs.Pieces.{joined};

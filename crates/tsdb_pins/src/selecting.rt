@@ -5,7 +5,7 @@ ghost use Rattle.tsdb_streams.specs.Files.{HasReason};
 ghost use Rattle.tsdb_model.specs.Folds.{rows};
 ghost use Rattle.tsdb_model.specs.World.{World};
 ghost use Rattle.tsdb_pins.specs.Worlds.{columns_in};
-ghost use Rattle.tsdb_pin.specs.Shown.{IsPinOf};
+ghost use Rattle.tsdb_pin.specs.StateOfPin.{IsPinOf};
 ghost use Rattle.tsdb_pins.specs.Reading.{AreColumnsOf, AreColumnsTold, AreColumnsTrue, HaveNodes, IsColumnRead};
 ghost use Rattle.tsdb_pins.specs.Reading.{SeriesPages, TellPoints};
 ghost use Rattle.tsdb_state.specs.State as state;

@@ -5,7 +5,7 @@ ghost use Rattle.tsdb_streams.specs.Files.{HasReason};
 ghost use Rattle.tsdb_streams.specs.Streams.{IsStreamOfStore, IsToldStream, IsTrueStream, stream_held};
 ghost use Rattle.tsdb_model.specs.World.{World};
 ghost use Rattle.tsdb_path.specs.Nodes.{node_count};
-ghost use Rattle.tsdb_pin.specs.Shown.{IsPinOf};
+ghost use Rattle.tsdb_pin.specs.StateOfPin.{IsPinOf};
 ghost use Rattle.tsdb_pins.specs.Reading.{AreColumnsOf, AreColumnsTold, AreColumnsTrue, HaveNodes, IsOfStore};
 ghost use Rattle.tsdb_pins.specs.Reading.{IsToldIn, IsTrueIn, SeriesPages, TellPoints};
 ghost use Rattle.tsdb_pins.specs.Streams.{HasColumnLeft, IsColumnOpened, IsToldColumn, IsTrueColumn};

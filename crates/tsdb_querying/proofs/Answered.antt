@@ -12,9 +12,9 @@ use Rattle.tsdb_serving.specs.Pins.{IsNotPinned, IsPinStep, IsPinned, IsUnpinned
 use Rattle.tsdb_serving.specs.CoreType.{Core}
 use Rattle.tsdb_frames.specs.Frames.{disk_of}
 use Rattle.tsdb_frames.specs.declared.frames.Frames.{Frames}
-use Rattle.tsdb_state.specs.Stored.{IsKeptWhole}
+use Rattle.tsdb_state.specs.StoredEngine.{IsKeptWhole}
 use Rattle.tsdb_base.proofs.Lists.{among_left}
-use Rattle.tsdb_memory.specs.Logged.{log_of, memory_of}
+use Rattle.tsdb_memory.specs.LogState.{log_of, memory_of}
 use Rattle.tsdb_model.specs.Apply.{ask_aggregates, reply_of}
 use Rattle.tsdb_model.specs.Folds.{rows}
 use Rattle.tsdb_model.specs.History.{IsAllowed, IsChange, IsMapReply, state_after}
@@ -34,14 +34,14 @@ use Rattle.tsdb_outside.specs.declared.faults.Counted as counted
 use Rattle.tsdb_outside.specs.declared.faults.StoreFault.{StoreFault}
 use Rattle.tsdb_outside.specs.declared.faults.StoreFault.TheVariants as store
 use Rattle.tsdb_base.specs.Causes.{Rose}
-use Rattle.tsdb_memory.specs.Shown.{series_entry}
+use Rattle.tsdb_memory.specs.StateOfMemory.{series_entry}
 use Rattle.tsdb_pins.proofs.Items.{pin_columns, pin_values}
 use Rattle.tsdb_pins.proofs.Replies.{fault_replied, rows_replied, types_of, values_replied}
 use Rattle.tsdb_pins.specs.Replies.{IsMapFault}
 use Rattle.tsdb_pins.specs.Worlds.{columns_in, values_in}
 use Rattle.tsdb_pin.specs.Items.{AreFit, AreItemsRefused}
 use Rattle.tsdb_pin.specs.Pins.{IsPinFor}
-use Rattle.tsdb_pin.specs.Shown.{IsPinOf}
+use Rattle.tsdb_pin.specs.StateOfPin.{IsPinOf}
 use Rattle.tsdb_pin.specs.declared.pin.Pin.{Pin}
 use Rattle.tsdb_pin.specs.declared.pin.PinFault.{PinFault}
 use Rattle.tsdb_pins.specs.Reading.{AreColumnsTold, AreColumnsTrue, HaveNodes, SeriesPages, TellPoints}

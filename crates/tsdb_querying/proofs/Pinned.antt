@@ -8,7 +8,7 @@ use Rattle.tsdb_serving.specs.CoreType.{Core}
 use Rattle.tsdb_frames.specs.Frames.{slot_of}
 use Rattle.tsdb_pin.specs.Places.{KeptFile, file_at, place_of_number}
 use Rattle.tsdb_base.specs.Lists.{count}
-use Rattle.tsdb_memory.specs.Logged.{log_of}
+use Rattle.tsdb_memory.specs.LogState.{log_of}
 use Rattle.tsdb_model.specs.State as plain
 use Rattle.tsdb_outside.specs.Files.{NamedFile, Store, StoredFile}
 use Rattle.tsdb_outside.specs.declared.disk.Disk as disk

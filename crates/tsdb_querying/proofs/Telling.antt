@@ -8,8 +8,8 @@ use Rattle.tsdb_base.specs.declared.point.Point.{Point}
 use Rattle.tsdb_base.specs.declared.point.Range.{Range}
 use Rattle.tsdb_pins.proofs.Trees.{Listed, listed_pages}
 use Rattle.tsdb_pins.specs.Files.{HasPages}
-use Rattle.tsdb_pin.specs.Held.{TellTheirBytes}
-use Rattle.tsdb_state.specs.Stored.{IsKeptWhole, kept_bytes}
+use Rattle.tsdb_pin.specs.StateOfFiles.{TellTheirBytes}
+use Rattle.tsdb_state.specs.StoredEngine.{IsKeptWhole, kept_bytes}
 use Rattle.tsdb_pin.specs.Files.{KeptFiles, kept_file}
 use Rattle.tsdb_pin.specs.Places.{KeptFile}
 use Rattle.tsdb_pin.specs.Rights.{IsRightTo}
@@ -19,7 +19,7 @@ use Rattle.tsdb_base.specs.Lists.{Among}
 use Rattle.tsdb_outside.specs.Files.{NamedFile, StoredFile}
 use Rattle.tsdb_path.specs.Nodes.{device_of, measurement_of, node_count}
 use Rattle.tsdb_pin.specs.Pins.{AreColumnsHeld}
-use Rattle.tsdb_pin.specs.Shown.{ArePointsOf, IsColumnOf, IsShownAs}
+use Rattle.tsdb_pin.specs.StateOfPin.{ArePointsOf, IsColumnOf, IsShownAs}
 use Rattle.tsdb_pin.specs.Sources.{AreHeldIn, IsHeldIn}
 use Rattle.tsdb_pin.specs.declared.pin.Column.{Column}
 use Rattle.tsdb_pin.specs.declared.pin.PinnedSource.{PinnedSource}

@@ -11,7 +11,7 @@ ghost use Rattle.tsdb_model.specs.declared.reply.Reply.{Reply as ReplyOf};
 ghost use Rattle.tsdb_base.specs.Causes.{Rose};
 ghost use Rattle.tsdb_outside.specs.Files.{StoredFile};
 ghost use Rattle.tsdb_pins.specs.Worlds.{values_in};
-ghost use Rattle.tsdb_pin.specs.Shown.{IsPinOf};
+ghost use Rattle.tsdb_pin.specs.StateOfPin.{IsPinOf};
 ghost use Rattle.tsdb_pins.specs.Reading.{AreColumnsOf, AreColumnsTold, AreColumnsTrue, HaveNodes, SeriesPages};
 ghost use Rattle.tsdb_pins.specs.Reading.{TellPoints};
 ghost use Rattle.tsdb_serving.specs.Flushing.{IsReady, faults_under};

@@ -13,8 +13,8 @@ use Rattle.tsdb_base.specs.declared.ids.Space.TheVariants.{Sequence, Unsequence}
 use Rattle.tsdb_flush.specs.BuiltParts as built
 use Rattle.tsdb_recover.proofs.DescribedParts.{says_its_points}
 use Rattle.tsdb_recover.specs.DescribedTrees.{HaveShortPaths}
-use Rattle.tsdb_fileset.specs.Held.{TellTheirBytes, entry_of}
-use Rattle.tsdb_state.specs.Stored.{kept_bytes}
+use Rattle.tsdb_fileset.specs.StateOfFiles.{TellTheirBytes, entry_of}
+use Rattle.tsdb_state.specs.StoredEngine.{kept_bytes}
 use Rattle.tsdb_index.specs.declared.index.FileMeta.{FileMeta}
 use Rattle.tsdb_fileset.specs.Files.{AreKept, KeptFiles, kept_file, none_kept}
 use Rattle.tsdb_fileset.specs.Places.{AreOfStore, KeptFile}
@@ -22,7 +22,7 @@ use Rattle.tsdb_base.proofs.Lists.{among_left, among_right}
 use Rattle.tsdb_base.specs.Lists.{Among}
 use Rattle.tsdb_log.specs.declared.record.LogRecord.{LogRecord}
 use Rattle.tsdb_memory.specs.Model.{IsSoundMemory}
-use Rattle.tsdb_memory.specs.Shown.{IsMemoryOf}
+use Rattle.tsdb_memory.specs.StateOfMemory.{IsMemoryOf}
 use Rattle.tsdb_memory.specs.Store as memory
 use Rattle.tsdb_outside.specs.Files.{NamedFile, Store, StoredFile}
 use Rattle.tsdb_plan.specs.declared.entry.FileEntry.{FileEntry}

@@ -5,13 +5,13 @@ use Rattle.std.specs.List.{All, AllByRecursion as Each}
 use Rattle.tsdb_recover.proofs.Counting.{are_all, entry_counted, kept_below}
 use Rattle.tsdb_recover.proofs.Known.{known_in}
 use Rattle.tsdb_recover.specs.Adopting.{AreDescribed, AreFirstOf, Describe, wanted_file, wanted_of}
-use Rattle.tsdb_recover.specs.Known.{known_of}
+use Rattle.tsdb_recover.specs.FileEntries.{known_of}
 use Rattle.tsdb_base.specs.declared.ids.FileNumber.{FileNumber}
 use Rattle.tsdb_core.specs.Core.{IsAboveNumbers}
-use Rattle.tsdb_fileset.specs.Held.{AreFilesOf, entry_of, outgoing_file, listed}
+use Rattle.tsdb_fileset.specs.StateOfFiles.{AreFilesOf, entry_of, outgoing_file, listed}
 use Rattle.tsdb_state.proofs.ImageLemmas.Numbers.{opened_numbers}
 use Rattle.tsdb_state.proofs.ImageLemmas.Storing.{opened_stored}
-use Rattle.tsdb_state.specs.Stored.{IsKeptWhole, IsStored}
+use Rattle.tsdb_state.specs.StoredEngine.{IsKeptWhole, IsStored}
 use Rattle.tsdb_fileset.specs.Files.{AreKept, KeptFiles, kept_file}
 use Rattle.tsdb_fileset.specs.Places.{KeptFile}
 use Rattle.tsdb_base.proofs.Lists.{among_left, among_right, each_append}

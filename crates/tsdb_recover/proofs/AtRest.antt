@@ -7,8 +7,8 @@ use Rattle.tsdb_recover.proofs.Counting.{differ}
 use Rattle.tsdb_recover.specs.Adopting.{AreDescribed, Describe, next_in}
 use Rattle.tsdb_recover.specs.Steps.{KeepsFileLists}
 use Rattle.tsdb_base.specs.declared.ids.Space.TheVariants.{Sequence}
-use Rattle.tsdb_fileset.specs.Held.{entry_of, listed}
-use Rattle.tsdb_state.specs.Stored.{kept_bytes}
+use Rattle.tsdb_fileset.specs.StateOfFiles.{entry_of, listed}
+use Rattle.tsdb_state.specs.StoredEngine.{kept_bytes}
 use Rattle.tsdb_fileset.specs.Files.{KeptFiles, kept_file}
 use Rattle.tsdb_fileset.specs.Places.{KeptFile}
 use Rattle.tsdb_base.proofs.Lists.{each_weaker}
@@ -21,7 +21,7 @@ use Rattle.tsdb_recover.proofs.Rest.{stored_again}
 use Rattle.tsdb_recover.specs.Damage.{IsTreeFile}
 use Rattle.tsdb_recover.specs.Taking.{AreTakenUp, IsRest, IsRestIn, IsTakingUp, rests_of}
 use Rattle.tsdb_recover.proofs.Stored.{few_stored}
-use Rattle.tsdb_recover.specs.Stored.{AreStored}
+use Rattle.tsdb_recover.specs.StoredFiles.{AreStored}
 use Rattle.tsdb_state.proofs.Counting.{is_or_not}
 use Rattle.tsdb_state.specs.Jobs.{Describes}
 use Rattle.tsdb_state.specs.State.{StoreState, ToldContents}

@@ -8,7 +8,7 @@ use Rattle.tsdb_recover.proofs.First.{next_behind, first_all, none_wanted, of_sp
 use Rattle.tsdb_recover.specs.Adopting.{AreFirst, AreFirstOf, next_in, wanted_file}
 use Rattle.tsdb_base.specs.declared.ids.Space.{Space}
 use Rattle.tsdb_base.specs.declared.ids.Space.TheVariants.{Sequence, Unsequence}
-use Rattle.tsdb_fileset.specs.Held.{listed}
+use Rattle.tsdb_fileset.specs.StateOfFiles.{listed}
 use Rattle.tsdb_fileset.specs.Files.{AreKept, KeptFiles, entry_numbers, kept_file}
 use Rattle.tsdb_fileset.specs.Files as kept
 use Rattle.tsdb_fileset.specs.Places.{KeptFile}

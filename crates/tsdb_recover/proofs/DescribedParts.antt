@@ -11,7 +11,7 @@ use Rattle.tsdb_recover.proofs.Order.{Comes, in_tree, is_in_part, chunk_among, t
 use Rattle.tsdb_recover.specs.DescribedTrees.{filled_of, group_part, tree_part}
 use Rattle.tsdb_path.proofs.Order.{not_itself}
 use Rattle.tsdb_path.specs.Order.{AreNamesBefore}
-use Rattle.tsdb_flush.specs.Built.{IsFileEntryOf, paths_of}
+use Rattle.tsdb_flush.specs.BuiltFile.{IsFileEntryOf, paths_of}
 use Rattle.tsdb_flush.specs.Parts.{Filled, schema_names}
 use Rattle.tsdb_base.proofs.Lists.{each_among, each_from_among, each_weaker}
 use Rattle.tsdb_base.specs.Lists.{Among, EachPair}

@@ -7,14 +7,14 @@ use Rattle.std.proofs.lemmas.List.Elements.{Contains-append_cases, Contains-push
 use Rattle.std.specs.Prelude.{◌↔◌, Contains, IsSome, IsTrue, MatchOption}
 use Rattle.tsdb_recover.proofs.Counting.{differ}
 use Rattle.tsdb_base.specs.declared.ids.FileNumber.{FileNumber}
-use Rattle.tsdb_state.specs.Stored.{kept_bytes}
+use Rattle.tsdb_state.specs.StoredEngine.{kept_bytes}
 use Rattle.tsdb_fileset.specs.Files.{KeptFiles, kept_file}
 use Rattle.tsdb_fileset.specs.Places.{KeptFile}
 use Rattle.tsdb_outside.specs.Disk.{WhereTold}
 use Rattle.tsdb_outside.specs.Files.{NamedFile, StoredFile, TakesOut, stored_file_numbers, plain_numbers}
 use Rattle.tsdb_recover.proofs.Rest.{found_contains, not_left, others_left, still_stored}
 use Rattle.tsdb_recover.specs.Taking.{AreGone, AreGoneIn}
-use Rattle.tsdb_recover.specs.Stored.{AreStored}
+use Rattle.tsdb_recover.specs.StoredFiles.{AreStored}
 use Rattle.tsdb_state.proofs.Counting.{is_or_not}
 
 -- ---- one file

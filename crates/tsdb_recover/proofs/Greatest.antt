@@ -10,9 +10,9 @@ use Rattle.std.specs.List.Sorted.{IsStrictlyIncreasing}
 use Rattle.tsdb_base.specs.declared.ids.FileNumber.{FileNumber}
 use Rattle.tsdb_redo.specs.Opening.{greatest, next_number}
 use Rattle.tsdb_outside.specs.Files.{IsFileNumber, StoredFile, stored_file_numbers, plain_numbers}
-use Rattle.tsdb_recover.specs.Opened.{IsNextNumber}
+use Rattle.tsdb_recover.specs.OpenedStore.{IsNextNumber}
 use Rattle.tsdb_recover.specs.Taking.{IsGreatestNumber}
-use Rattle.tsdb_recover.specs.Stored.{AreStored, HasFileNumber}
+use Rattle.tsdb_recover.specs.StoredFiles.{AreStored, HasFileNumber}
 use Rattle.tsdb_base.specs.Limits.{end_of_numbers}
 
 pub only : (m n : ℕ) → Contains (m ∷ []) n → m ≡ n

@@ -4,8 +4,8 @@ use Rattle.std.proofs.lemmas.Bool.{eq-eqb, eqb-true}
 use Rattle.std.proofs.lemmas.List.{map-append}
 use Rattle.std.specs.Prelude.{IfSome, find}
 use Rattle.std.specs.List.{AllByRecursion as Each}
-use Rattle.tsdb_recover.specs.Known.{known_by, known_of}
-use Rattle.tsdb_fileset.specs.Held.{entry_of}
+use Rattle.tsdb_recover.specs.FileEntries.{known_by, known_of}
+use Rattle.tsdb_fileset.specs.StateOfFiles.{entry_of}
 use Rattle.tsdb_fileset.specs.Files.{AreKept, KeptFiles, entry_numbers, kept_file, outgoing_numbers}
 use Rattle.tsdb_fileset.specs.Places.{KeptFile}
 use Rattle.tsdb_base.proofs.Lists.{among_map, count_append, each_from_among}

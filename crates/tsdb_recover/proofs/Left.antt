@@ -12,9 +12,9 @@ use Rattle.tsdb_recover.proofs.AdoptedCore.{same_wanted}
 use Rattle.tsdb_recover.specs.Adopting.{AreFirstOf, HasAdoptedAll, IsAdoptingOf, adopting_files, opening_of}
 use Rattle.tsdb_recover.specs.declared.adopting.Adopting.{Adopting}
 use Rattle.tsdb_core.proofs.Jobs.{is_there}
-use Rattle.tsdb_fileset.specs.Held.{listed}
+use Rattle.tsdb_fileset.specs.StateOfFiles.{listed}
 use Rattle.tsdb_state.proofs.ImageLemmas.Kept.{found_bytes, has_number}
-use Rattle.tsdb_state.specs.Stored.{kept_bytes}
+use Rattle.tsdb_state.specs.StoredEngine.{kept_bytes}
 use Rattle.tsdb_fileset.specs.Closing.{ArePutBack, AreNumbersRising, names_at}
 use Rattle.tsdb_fileset.specs.Files.{AreKept, KeptFiles, entry_numbers, kept_file, none_kept, outgoing_numbers}
 use Rattle.tsdb_fileset.specs.Files as kept
@@ -32,14 +32,14 @@ use Rattle.tsdb_recover.specs.declared.fault.Part.{Part}
 use Rattle.tsdb_recover.proofs.Opened.{begun}
 use Rattle.tsdb_recover.proofs.Rest.{behind, found_each, none_is_some, none_there}
 use Rattle.tsdb_recover.specs.Damage.{IsTreeFile}
-use Rattle.tsdb_recover.specs.Left.{AreLeft, IsUnlisted, NoneMayGo}
-use Rattle.tsdb_recover.specs.Opened.{IsReplay}
+use Rattle.tsdb_recover.specs.Strays.{AreLeft, IsUnlisted, NoneMayGo}
+use Rattle.tsdb_recover.specs.OpenedStore.{IsReplay}
 use Rattle.tsdb_recover.specs.Taking.{AreGone, AreGoneIn, AreTakenUp, HasTakenUp, IsRest, IsTakingUp, NoDamage, rests_of}
 use Rattle.tsdb_state.specs.Replays.{Replays}
 use Rattle.tsdb_state.specs.Stores.{Recorded, store_steps}
 use Rattle.tsdb_fileset.proofs.StoredPlaces.{IsToldAt, at_place, each_stored, found, named, stored_at}
 use Rattle.tsdb_recover.proofs.Stored.{few_stored, places_stored}
-use Rattle.tsdb_recover.specs.Stored.{AreStored, DifferInNumber, HasFileNumber}
+use Rattle.tsdb_recover.specs.StoredFiles.{AreStored, DifferInNumber, HasFileNumber}
 use Rattle.tsdb_state.specs.Records.{numbers_of as state_numbers}
 use Rattle.tsdb_state.specs.State.{File, StoreState}
 

@@ -6,8 +6,8 @@ use Rattle.tsdb_recover.proofs.Adopted.{wanted_listed}
 use Rattle.tsdb_recover.specs.Adopting.{AreDescribed, IsAdopted, IsReadOf}
 use Rattle.tsdb_base.specs.declared.ids.Space.{Space}
 use Rattle.tsdb_base.specs.declared.ids.Space.TheVariants.{Sequence, Unsequence}
-use Rattle.tsdb_fileset.specs.Held.{TellTheirBytes, listed}
-use Rattle.tsdb_state.specs.Stored.{IsKeptWhole, kept_bytes}
+use Rattle.tsdb_fileset.specs.StateOfFiles.{TellTheirBytes, listed}
+use Rattle.tsdb_state.specs.StoredEngine.{IsKeptWhole, kept_bytes}
 use Rattle.tsdb_index.specs.declared.index.FileMeta.{FileMeta}
 use Rattle.tsdb_fileset.specs.Files.{Appends, KeptFiles, kept_file}
 use Rattle.tsdb_fileset.specs.Places.{KeptFile}

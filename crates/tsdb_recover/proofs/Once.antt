@@ -1,7 +1,7 @@
 -- A store is damaged in one part at one place at most.
 use Rattle.std.proofs.Common.{◌≡◌, ◌∙◌, ℕ, List, [], ◌∷◌, ◌++◌, length, Option, None, Some, refl, sym, ap, subst, arith}
 use Rattle.std.specs.List.{AllByRecursion as Each}
-use Rattle.tsdb_state.specs.Stored.{kept_bytes}
+use Rattle.tsdb_state.specs.StoredEngine.{kept_bytes}
 use Rattle.tsdb_base.proofs.Lists.{each_middle}
 use Rattle.tsdb_outside.specs.Files.{StoredFile}
 use Rattle.tsdb_recover.proofs.Rest.{found_each, none_is_some}

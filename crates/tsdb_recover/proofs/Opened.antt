@@ -6,7 +6,7 @@ use Rattle.std.specs.List.{All}
 use Rattle.tsdb_recover.specs.Adopting.{HasAdoptedAll, IsAdoptingOf, adopting_files}
 use Rattle.tsdb_recover.specs.declared.adopting.Adopting.{Adopting}
 use Rattle.tsdb_base.specs.declared.ids.FileNumber.{FileNumber}
-use Rattle.tsdb_state.specs.Stored.{kept_bytes}
+use Rattle.tsdb_state.specs.StoredEngine.{kept_bytes}
 use Rattle.tsdb_fileset.specs.Files.{KeptFiles, kept_file, none_kept}
 use Rattle.tsdb_fileset.specs.Places.{KeptFile}
 use Rattle.tsdb_outside.specs.Files.{IsFileNumber, Store, StoredFile}
@@ -17,7 +17,7 @@ use Rattle.tsdb_recover.proofs.Greatest.{IsListOf, below_end, stored_greatest}
 use Rattle.tsdb_recover.proofs.Rest.{found_contains, found_each, none_found}
 use Rattle.tsdb_recover.specs.Damage.{IsFileDamaged}
 use Rattle.tsdb_recover.specs.Taking.{AreAllTaken, AreGone, AreGoneIn, KeepsAdopting, HasLeft, HasTakenMore}
-use Rattle.tsdb_recover.specs.Stored.{AreStored, HasFileNumber}
+use Rattle.tsdb_recover.specs.StoredFiles.{AreStored, HasFileNumber}
 use Rattle.tsdb_recover.specs.Taking.{HasTakenUp, IsGreatestNumber}
 use Rattle.tsdb_recover.specs.Taking.{IsRest, IsTakingUp, rests_of}
 use Rattle.tsdb_state.specs.Stores.{Recorded}

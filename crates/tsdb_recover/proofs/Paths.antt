@@ -18,7 +18,7 @@ use Rattle.tsdb_state.specs.Places.{Content, PointPlace}
 use Rattle.tsdb_model.specs.declared.command.Schema.{Schema}
 use Rattle.tsdb_flush.specs.BuiltParts.{IsFilledSeries}
 use Rattle.tsdb_memory.specs.Model.{IsFormed, IsSoundMemory}
-use Rattle.tsdb_memory.specs.Shown.{IsMemoryOf, series_entry}
+use Rattle.tsdb_memory.specs.StateOfMemory.{IsMemoryOf, series_entry}
 use Rattle.tsdb_memory.specs.Store.{MemoryState}
 use Rattle.tsdb_pages.specs.Trees.{IsMade, IsTree}
 use Rattle.tsdb_pages.specs.declared.tree.Tree.{Tree}

@@ -7,7 +7,7 @@ use Rattle.std.specs.List.{All, AllByRecursion as Each}
 use Rattle.std.specs.Option.{IsSomeAnd}
 use Rattle.tsdb_recover.proofs.AdoptedCore.{same_wanted}
 use Rattle.tsdb_recover.specs.Adopting.{AreDescribed, IsAdoptingOf, adopting_files, opening_of}
-use Rattle.tsdb_recover.specs.Known.{known_of}
+use Rattle.tsdb_recover.specs.FileEntries.{known_of}
 use Rattle.tsdb_recover.specs.declared.adopting.Adopting.{Adopting}
 use Rattle.tsdb_base.specs.declared.ids.FileNumber.{FileNumber}
 use Rattle.tsdb_core.specs.Core.{IsSeen, next_of}
@@ -16,8 +16,8 @@ use Rattle.tsdb_frames.specs.Frames.{IsLog}
 use Rattle.tsdb_frames.specs.Log.{IsSettled}
 use Rattle.tsdb_frames.specs.Slots.{HasRecords}
 use Rattle.tsdb_frames.specs.declared.frames.Frames.{Frames}
-use Rattle.tsdb_fileset.specs.Held.{TellTheirBytes}
-use Rattle.tsdb_state.specs.Stored.{IsKeptWhole, kept_bytes}
+use Rattle.tsdb_fileset.specs.StateOfFiles.{TellTheirBytes}
+use Rattle.tsdb_state.specs.StoredEngine.{IsKeptWhole, kept_bytes}
 use Rattle.tsdb_log.specs.Spelling.{IsRecord, spelling}
 use Rattle.tsdb_log.specs.declared.record.LogRecord.{LogRecord}
 use Rattle.tsdb_model.specs.State as plain
@@ -38,10 +38,10 @@ use Rattle.tsdb_recover.proofs.Greatest.{said_number}
 use Rattle.tsdb_recover.proofs.Once.{none_damaged, one_damage}
 use Rattle.tsdb_recover.proofs.Trees.{all_trees}
 use Rattle.tsdb_recover.specs.Damage.{AnswersDamageIn, IsDamagedFile, IsDamagedIn, IsFileDamaged, IsTreeFile}
-use Rattle.tsdb_recover.specs.Left.{AreLeft, IsStray, IsUnlisted, NoneMayGo}
-use Rattle.tsdb_recover.specs.Opened.{HasOpened, IsNextNumber, IsRecovered, IsReplay}
+use Rattle.tsdb_recover.specs.Strays.{AreLeft, IsStray, IsUnlisted, NoneMayGo}
+use Rattle.tsdb_recover.specs.OpenedStore.{HasOpened, IsNextNumber, IsRecovered, IsReplay}
 use Rattle.tsdb_recover.specs.Taking.{HasTakenUp, HaveLengths}
-use Rattle.tsdb_recover.specs.Stored.{AreStored}
+use Rattle.tsdb_recover.specs.StoredFiles.{AreStored}
 use Rattle.tsdb_state.proofs.ReplayLemmas.Parted as parted
 use Rattle.tsdb_state.specs.Damage as log_damage
 use Rattle.tsdb_state.specs.Replays.{IsReplayOf, Replays}

@@ -6,13 +6,13 @@ use Rattle.std.proofs.lemmas.List.Elements.{Contains-append_cases, Contains-appe
 use Rattle.std.specs.Prelude.{◌⊎◌, Contains}
 use Rattle.std.specs.List.{AllByRecursion as Each, find}
 use Rattle.tsdb_state.proofs.ImageLemmas.Kept.{found_bytes, has_number}
-use Rattle.tsdb_state.specs.Stored.{kept_bytes}
+use Rattle.tsdb_state.specs.StoredEngine.{kept_bytes}
 use Rattle.tsdb_base.proofs.Lists.{each_append, each_both, each_left, each_middle, each_weaker, each_without, pairs_of_one}
 use Rattle.tsdb_base.proofs.Lists.{pairs_push, pairs_without}
 use Rattle.tsdb_base.specs.Lists.{EachPair}
 use Rattle.tsdb_outside.specs.Files.{StoredFile, stored_file_numbers}
 use Rattle.tsdb_state.specs.Stores.{HoldsKept}
-use Rattle.tsdb_recover.specs.Stored.{AreStored, DifferInNumber, HasFileNumber}
+use Rattle.tsdb_recover.specs.StoredFiles.{AreStored, DifferInNumber, HasFileNumber}
 
 other_number : (a b : ℕ) → a ≢ b → nat_eq a b ≡ false
 other_number a b differ = by (nat_eq a b) refl

@@ -4,7 +4,7 @@ use Rattle.std.proofs.Common.{length-append}
 use Rattle.std.proofs.lemmas.List.{length-map}
 use Rattle.tsdb_recover.specs.Adopting.{AreFirst, AreFirstOf, IsAdoptingOf, adopting_files, opening_of}
 use Rattle.tsdb_recover.specs.declared.adopting.Adopting.{Adopting}
-use Rattle.tsdb_fileset.specs.Held.{listed}
+use Rattle.tsdb_fileset.specs.StateOfFiles.{listed}
 use Rattle.tsdb_fileset.specs.Files.{KeptFiles}
 use Rattle.tsdb_fileset.specs.Places.{AreOfStore}
 use Rattle.tsdb_redo.specs.Lists.{file_of}

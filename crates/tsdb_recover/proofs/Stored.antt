@@ -13,7 +13,7 @@ use Rattle.tsdb_fileset.specs.Places.{KeptFile, Places}
 use Rattle.tsdb_base.proofs.Lists.{each_map, each_weaker}
 use Rattle.tsdb_base.specs.Lists.{EachPair}
 use Rattle.tsdb_outside.specs.Files.{IsFileNumber, StoredFile, stored_file_numbers}
-use Rattle.tsdb_recover.specs.Stored.{AreStored, DifferInNumber, HasFileNumber}
+use Rattle.tsdb_recover.specs.StoredFiles.{AreStored, DifferInNumber, HasFileNumber}
 
 -- files of rising numbers are stored as files are
 pub places_stored : (places : Places) → AreNumbersRising places

@@ -18,7 +18,7 @@ use Rattle.tsdb_flush.proofs.PartsInMaking.{before_middle}
 use Rattle.tsdb_flush.proofs.Widening.{from_ends}
 use Rattle.tsdb_flush.specs.MakingSteps.{AreFrom, ComeBefore}
 use Rattle.tsdb_index.specs.declared.index.IndexEntry.{IndexEntry}
-use Rattle.tsdb_flush.specs.Built.{paths_of}
+use Rattle.tsdb_flush.specs.BuiltFile.{paths_of}
 use Rattle.tsdb_flush.specs.Parts.{Filled}
 use Rattle.tsdb_base.proofs.Lists.{each_left, each_right, pairs_left}
 use Rattle.tsdb_base.specs.Lists.{EachPair}

@@ -11,7 +11,7 @@ use Rattle.tsdb_recover.specs.Adopting.{wanted_file}
 use Rattle.tsdb_recover.specs.Steps.{KeepsFileLists}
 use Rattle.tsdb_base.specs.declared.ids.Space.{Space}
 use Rattle.tsdb_base.specs.declared.ids.Space.TheVariants.{Sequence, Unsequence}
-use Rattle.tsdb_fileset.specs.Held.{entry_of, listed}
+use Rattle.tsdb_fileset.specs.StateOfFiles.{entry_of, listed}
 use Rattle.tsdb_fileset.proofs.Counts.{counted}
 use Rattle.tsdb_fileset.specs.Files.{AreKept, KeptFiles, entry_numbers, kept_file, all_numbers, outgoing_numbers}
 use Rattle.tsdb_fileset.specs.Places.{AreOfStore, KeptFile}

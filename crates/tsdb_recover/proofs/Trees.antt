@@ -10,8 +10,8 @@ use Rattle.tsdb_recover.proofs.First.{first_all, next_behind, wanted_is}
 use Rattle.tsdb_recover.specs.Adopting.{AreFirstOf, next_in, wanted_file, wanted_of}
 use Rattle.tsdb_base.specs.declared.ids.Space.{Space}
 use Rattle.tsdb_base.specs.declared.ids.Space.TheVariants.{Sequence, Unsequence}
-use Rattle.tsdb_fileset.specs.Held.{listed}
-use Rattle.tsdb_state.specs.Stored.{kept_bytes}
+use Rattle.tsdb_fileset.specs.StateOfFiles.{listed}
+use Rattle.tsdb_state.specs.StoredEngine.{kept_bytes}
 use Rattle.tsdb_fileset.specs.Files.{Appends, KeptFiles, kept_file}
 use Rattle.tsdb_base.proofs.Lists.{each_append, each_left, each_right}
 use Rattle.tsdb_outside.specs.Files.{StoredFile}
@@ -20,7 +20,7 @@ use Rattle.tsdb_recover.specs.Files.{IsDamagedAmong}
 use Rattle.tsdb_recover.proofs.Rest.{contains_found, found_contains, none_is_some}
 use Rattle.tsdb_recover.specs.Damage.{IsBadAt, IsDamagedFile, IsTreeFile}
 use Rattle.tsdb_recover.specs.Taking.{IsNextFile, IsRestIn, rests_of}
-use Rattle.tsdb_recover.specs.Stored.{AreStored}
+use Rattle.tsdb_recover.specs.StoredFiles.{AreStored}
 use Rattle.tsdb_state.specs.State.{File, StoreState}
 
 spaces_differ : Sequence ≡ Unsequence → ⊥

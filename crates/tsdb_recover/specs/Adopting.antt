@@ -6,9 +6,9 @@ use Rattle.tsdb_recover.specs.declared.adopting.Adopting.{Adopting}
 use Rattle.tsdb_base.specs.declared.ids.Space.{Space}
 use Rattle.tsdb_base.specs.declared.ids.Space.TheVariants.{Sequence, Unsequence}
 use Rattle.tsdb_recover.specs.DescribedTrees.{HaveShortPaths, tree_part}
-use Rattle.tsdb_fileset.specs.Held.{entry_of, listed}
+use Rattle.tsdb_fileset.specs.StateOfFiles.{entry_of, listed}
 use Rattle.tsdb_index.specs.declared.index.FileMeta.{FileMeta}
-use Rattle.tsdb_flush.specs.Built.{IsFileEntryOf, paths_of}
+use Rattle.tsdb_flush.specs.BuiltFile.{IsFileEntryOf, paths_of}
 use Rattle.tsdb_fileset.specs.Files.{Appends, KeptFiles, entries_in, kept_file}
 use Rattle.tsdb_fileset.specs.Places.{AreUnread, KeptFile}
 use Rattle.tsdb_state.specs.Places.{Content}

@@ -5,7 +5,7 @@ use Rattle.tsdb_base.specs.declared.point.Point.{Point}
 use Rattle.tsdb_recover.specs.declared.summary.Summary.{Summary}
 use Rattle.tsdb_flush.specs.MakingSteps.{AddsTimes}
 use Rattle.tsdb_index.specs.declared.index.IndexEntry.{IndexEntry}
-use Rattle.tsdb_flush.specs.Built.{AreHullsOf, paths_of}
+use Rattle.tsdb_flush.specs.BuiltFile.{AreHullsOf, paths_of}
 use Rattle.tsdb_flush.specs.Parts.{Filled}
 use Rattle.tsdb_base.specs.Points.{IsRising}
 use Rattle.tsdb_path.specs.Nodes.{IsPath, child_of, device_of}

@@ -5,12 +5,12 @@ pub mod Replaying
 pub mod DescribedSteps
 pub mod DescribedTrees
 pub mod Adopting
-pub mod Known
+pub mod FileEntries
 pub mod Steps
 pub mod Damage
-pub mod Opened
-pub mod Left
-pub mod Stored
+pub mod OpenedStore
+pub mod Strays
+pub mod StoredFiles
 pub mod Taking
 pub use Rattle.tsdb_core.specs.Limits
 pub use Rattle.tsdb_core.specs.Core

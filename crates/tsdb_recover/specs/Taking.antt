@@ -8,8 +8,8 @@ use Rattle.tsdb_recover.specs.Adopting.{wanted_file}
 use Rattle.tsdb_recover.specs.declared.adopting.Adopting.{Adopting}
 use Rattle.tsdb_base.specs.declared.ids.FileNumber.{FileNumber}
 use Rattle.tsdb_base.specs.declared.ids.Space.TheVariants.{Sequence}
-use Rattle.tsdb_fileset.specs.Held.{TellTheirBytes, listed}
-use Rattle.tsdb_state.specs.Stored.{IsKeptWhole, kept_bytes}
+use Rattle.tsdb_fileset.specs.StateOfFiles.{TellTheirBytes, listed}
+use Rattle.tsdb_state.specs.StoredEngine.{IsKeptWhole, kept_bytes}
 use Rattle.tsdb_fileset.specs.Files.{KeptFiles, kept_file}
 use Rattle.tsdb_fileset.specs.Places.{AreOfStore, KeptFile}
 use Rattle.tsdb_base.specs.Causes.{Rose}
@@ -20,7 +20,7 @@ use Rattle.tsdb_recover.specs.declared.fault.OpenFault.TheVariants as fault
 use Rattle.tsdb_recover.specs.declared.fault.Part.{Part}
 use Rattle.tsdb_recover.specs.Damage.{IsFileDamaged, IsTreeFile}
 use Rattle.tsdb_state.specs.Stores.{Recorded}
-use Rattle.tsdb_recover.specs.Stored.{AreStored}
+use Rattle.tsdb_recover.specs.StoredFiles.{AreStored}
 use Rattle.tsdb_base.specs.Limits.{end_of_numbers}
 use Rattle.tsdb_state.specs.State.{StoreState, ToldContents}
 use Rattle.tsdb_state.specs.StoreOrder.{StoreInOrder}

@@ -1,11 +1,11 @@
-//! Taking up the files of a replayed log. Depends on `described`, tsdb_redo and tsdb_fileset.
+//! Taking up the files of a replayed log. Depends on `file_entry`, tsdb_redo and tsdb_fileset.
 ghost use Rattle.std.specs.Prelude.{◌≡◌, None, IfErr, IfOk, IfSome, OnErr, OnOk};
 ghost use Rattle.std.specs.Option.{option_map};
 ghost use Rattle.tsdb_recover.specs.Adopting.{AreDescribed, IsAdopted, IsKeptOf, IsReadOf, TakesUp, next_in};
 ghost use Rattle.tsdb_recover.specs.Adopting.{wanted_file};
 ghost use Rattle.tsdb_recover.specs.Steps.{HasPlaceFor, KeepsFileLists, state_file};
-ghost use Rattle.tsdb_fileset.specs.Held.{TellTheirBytes};
-ghost use Rattle.tsdb_state.specs.Stored.{kept_bytes};
+ghost use Rattle.tsdb_fileset.specs.StateOfFiles.{TellTheirBytes};
+ghost use Rattle.tsdb_state.specs.StoredEngine.{kept_bytes};
 ghost use Rattle.tsdb_fileset.specs.Files.{AreKept, IsOpen, kept_file, none_kept};
 ghost use Rattle.tsdb_fileset.specs.Places.{AreOfStore};
 ghost use Rattle.tsdb_fileset.specs.Room.{HasRoom};
@@ -18,11 +18,11 @@ ghost use Rattle.tsdb_state.specs.Stores.{Recorded, store_steps};
 ghost use Rattle.tsdb_state.specs.State.{ToldContents};
 ghost use Rattle.tsdb_state.specs.StoreOrder.{StoreInOrder};
 ghost use Rattle.tsdb_memory.specs.Model.{IsSoundMemory};
-ghost use Rattle.tsdb_memory.specs.Shown.{IsMemoryOf};
+ghost use Rattle.tsdb_memory.specs.StateOfMemory.{IsMemoryOf};
 ghost use Rattle.tsdb_memory.specs.Store.{MemoryState as InMemory};
 ghost use Rattle.std.specs.Prelude.{List as ListOf};
 
-use crate::described::{Described, describe};
+use crate::file_entry::{Described, describe};
 use std::alloc::Global;
 use tsdb_base::{FileNumber, Memory, Space};
 use tsdb_fileset::KeptFiles;

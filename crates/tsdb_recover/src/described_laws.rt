@@ -2,7 +2,7 @@
 ghost use Rattle.std.specs.Prelude.{ℕ, List};
 ghost use Rattle.tsdb_flush.specs.BuiltParts.{entry_of};
 ghost use Rattle.tsdb_recover.specs.DescribedTrees.{tree_part};
-ghost use Rattle.tsdb_flush.specs.Built.{IsFileEntryOf, paths_of};
+ghost use Rattle.tsdb_flush.specs.BuiltFile.{IsFileEntryOf, paths_of};
 ghost use Rattle.tsdb_state.specs.Places.{Content};
 ghost use Rattle.tsdb_pages.specs.Trees.{IsMade, IsTree};
 ghost use Rattle.tsdb_pages.specs.declared.tree.Tree.{Tree};

@@ -28,10 +28,10 @@
 
 mod adopting;
 mod adopting_laws;
-mod described;
 mod described_hulls;
 mod described_laws;
 mod fault;
+mod file_entry;
 mod files;
 mod finishing;
 mod log;

@@ -1,7 +1,7 @@
 //! The listed files are taken up, in the order of their lists. Depends on `fault`, `files` and `adopting`.
 ghost use Rattle.std.specs.Prelude.{◌≡◌, ◌+◌, ℕ, IsErrOf, List, None, OnOk};
 ghost use Rattle.tsdb_recover.specs.Adopting.{HasAdoptedAll, IsAdoptingOf, adopting_files};
-ghost use Rattle.tsdb_state.specs.Stored.{kept_bytes};
+ghost use Rattle.tsdb_state.specs.StoredEngine.{kept_bytes};
 ghost use Rattle.tsdb_fileset.specs.Files.{kept_file};
 ghost use Rattle.tsdb_outside.specs.Files.{StoredFile};
 ghost use Rattle.tsdb_recover.specs.Files.{HasFilesCause};

@@ -12,7 +12,7 @@ use Rattle.tsdb_base.specs.Lists.{EachPair}
 use Rattle.tsdb_state.specs.LayerOrder.{WatermarkMap}
 use Rattle.tsdb_state.specs.Places.{Content, PointPlace, place_cmp, put_content}
 use Rattle.tsdb_log.specs.declared.record.CellRecord.{CellRecord}
-use Rattle.tsdb_memory.specs.Shown.{part_of}
+use Rattle.tsdb_memory.specs.StateOfMemory.{part_of}
 use Rattle.tsdb_memtable.specs.Watermarks.{space_by}
 use Rattle.tsdb_path.specs.Nodes.{device_of}
 use Rattle.tsdb_state.specs.Limit.{point_count}

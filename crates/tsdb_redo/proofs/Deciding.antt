@@ -9,7 +9,7 @@ use Rattle.tsdb_state.specs.Places.{is_path}
 use Rattle.tsdb_model.specs.declared.command.Schema.{Schema}
 use Rattle.tsdb_memory.proofs.Types.{there_alike}
 use Rattle.tsdb_memory.specs.Fits.{HasNoPairPoint}
-use Rattle.tsdb_memory.specs.Shown.{IsFrozenOf, IsMemoryOf, series_entry, number_of}
+use Rattle.tsdb_memory.specs.StateOfMemory.{IsFrozenOf, IsMemoryOf, series_entry, number_of}
 use Rattle.tsdb_memory.specs.Store as value
 use Rattle.tsdb_redo.specs.Changes.{IsCreation, IsDeletion, IsFreezing}
 use Rattle.tsdb_state.specs.Limit.{IsEmptyPair}

@@ -9,18 +9,18 @@ use Rattle.std.specs.Prelude.{◌↔◌, IsTrue}
 use Rattle.tsdb_base.specs.declared.ids.Stamp.{Stamp}
 use Rattle.tsdb_base.specs.Lists.{Among, count}
 use Rattle.tsdb_state.specs.Places.{Content, place_cmp}
-use Rattle.tsdb_memory.specs.Shown.{IsFrozenOf, IsMemoryOf, file_borns}
+use Rattle.tsdb_memory.specs.StateOfMemory.{IsFrozenOf, IsMemoryOf, file_borns}
 use Rattle.tsdb_memory.specs.Store as value
 use Rattle.tsdb_base.specs.declared.ids.FileNumber.{FileNumber}
 use Rattle.tsdb_log.specs.declared.record.LogRecord.TheVariants.{Flushed}
 use Rattle.tsdb_memory.specs.Least.{IsLeastOf}
 use Rattle.tsdb_redo.proofs.Following.{kept_lists, lists_as, shows_after}
 use Rattle.tsdb_redo.specs.Lists.{AreListsOf, KeepsRecordedLists}
-use Rattle.tsdb_redo.specs.Named.{CanName, IsNamed, Named, NamesMore}
+use Rattle.tsdb_redo.specs.NamedNumbers.{CanName, IsNamed, Named, NamesMore}
 use Rattle.tsdb_redo.specs.Redone.{IsReplayed}
 use Rattle.tsdb_redo.specs.declared.lists.FileLists.{FileLists}
 use Rattle.tsdb_redo.specs.Opening.{IsOpeningOf}
-use Rattle.tsdb_redo.specs.Stored.{HasNoFlush, CanRedoFlush}
+use Rattle.tsdb_redo.specs.FileRecords.{HasNoFlush, CanRedoFlush}
 use Rattle.tsdb_redo.specs.declared.opening.Opening.{Opening}
 use Rattle.tsdb_state.specs.Stores.{Recorded}
 use Rattle.tsdb_state.specs.Records.{AreNew, CanFlush, IsNumberOf, flush_oldest, flushed, new_file, new_numbers}

@@ -5,10 +5,10 @@ use Rattle.tsdb_base.proofs.Lists.{among_left, among_right}
 use Rattle.tsdb_base.specs.Lists.{Among}
 use Rattle.tsdb_log.specs.declared.record.LogRecord.{LogRecord}
 use Rattle.tsdb_memory.proofs.Counts.{among_either}
-use Rattle.tsdb_memory.specs.Shown.{IsMemoryOf}
+use Rattle.tsdb_memory.specs.StateOfMemory.{IsMemoryOf}
 use Rattle.tsdb_memory.specs.Least.{IsLeastOf}
 use Rattle.tsdb_redo.specs.Lists.{AreListsOf, KeepsRecordedLists, borns_of_files, listed_files, state_of}
-use Rattle.tsdb_redo.specs.Named.{IsNamed, Named, NamesMore}
+use Rattle.tsdb_redo.specs.NamedNumbers.{IsNamed, Named, NamesMore}
 use Rattle.tsdb_redo.specs.Opening.{IsOpeningOf}
 use Rattle.std.specs.declared.result.Result.{Result}
 use Rattle.tsdb_redo.specs.declared.fault.RedoFault.{RedoFault}

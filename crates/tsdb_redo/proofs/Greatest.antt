@@ -10,7 +10,7 @@ use Rattle.tsdb_base.specs.Limits.{end_of_numbers}
 use Rattle.std.specs.Prelude.{◌↔◌}
 use Rattle.tsdb_base.specs.declared.ids.FileNumber.{FileNumber}
 use Rattle.tsdb_base.specs.Lists.{Among}
-use Rattle.tsdb_redo.specs.Named.{IsGreatest, IsInRun, IsNamed, Named, run_from}
+use Rattle.tsdb_redo.specs.NamedNumbers.{IsGreatest, IsInRun, IsNamed, Named, run_from}
 use Rattle.tsdb_redo.specs.Opening.{greatest, next_number, with_stored}
 use Rattle.tsdb_redo.specs.Runs.{AreSoundNumbers, AreRuns, IsLastInRuns}
 use Rattle.tsdb_redo.proofs.Runs.{one_end}

@@ -5,7 +5,7 @@ use Rattle.std.specs.Cmp.{ranked}
 use Rattle.std.specs.Ordering.{is_eq, nat_cmp}
 use Rattle.std.specs.declared.cmp.Ordering.TheVariants.{Equal, Greater, Less}
 use Rattle.std.proofs.Common.{Ordering}
-use Rattle.tsdb_redo.specs.Named.{run_from}
+use Rattle.tsdb_redo.specs.NamedNumbers.{run_from}
 
 same_key : (a : ℕ) → is_eq (nat_cmp a a) ≡ true
 same_key a = by (nat_cmp a a) refl

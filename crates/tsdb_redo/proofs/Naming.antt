@@ -8,7 +8,7 @@ use Rattle.std.specs.Prelude.{◌↔◌, IsTrue, OnErr}
 use Rattle.std.specs.declared.result.Result.{Result}
 use Rattle.std.specs.List.{AllByRecursion as Each}
 use Rattle.tsdb_base.specs.Lists.{Among}
-use Rattle.tsdb_redo.specs.Named.{CanName, IsNamed, Named, NamesMore}
+use Rattle.tsdb_redo.specs.NamedNumbers.{CanName, IsNamed, Named, NamesMore}
 use Rattle.tsdb_state.specs.Records.{new_numbers}
 
 -- the new numbers of two are those of the one and those of the other

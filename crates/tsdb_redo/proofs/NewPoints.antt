@@ -14,7 +14,7 @@ use Rattle.tsdb_base.specs.declared.point.Point.{Point}
 use Rattle.tsdb_base.specs.declared.point.Range.{Range}
 use Rattle.tsdb_base.specs.declared.value.Value.{Value}
 use Rattle.tsdb_log.specs.declared.record.CellRecord.{CellRecord}
-use Rattle.tsdb_memory.specs.Shown.{point_value_at}
+use Rattle.tsdb_memory.specs.StateOfMemory.{point_value_at}
 use Rattle.tsdb_memtable.specs.Pairs.{Pair, points_of}
 use Rattle.tsdb_memtable.specs.Points.{is_point_within}
 use Rattle.tsdb_redo.specs.Rows.{new_points}

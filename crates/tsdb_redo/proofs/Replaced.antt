@@ -2,15 +2,15 @@
 use Rattle.std.proofs.Common.{◌≤◌, [], ◌∷◌, sym, subst}
 use Rattle.std.specs.Prelude.{◌↔◌}
 use Rattle.tsdb_memory.specs.Least.{IsLeastOf}
-use Rattle.tsdb_memory.specs.Shown.{IsMemoryOf, file_borns}
+use Rattle.tsdb_memory.specs.StateOfMemory.{IsMemoryOf, file_borns}
 use Rattle.tsdb_redo.proofs.Flushing.{are_new}
 use Rattle.tsdb_redo.proofs.Following.{kept_lists, shows_after}
 use Rattle.tsdb_redo.proofs.Standing.{for_state}
 use Rattle.tsdb_redo.specs.Lists.{AreListsOf, KeepsRecordedLists, replacement_of}
-use Rattle.tsdb_redo.specs.Named.{NamesMore}
+use Rattle.tsdb_redo.specs.NamedNumbers.{NamesMore}
 use Rattle.tsdb_redo.specs.Opening.{IsOpeningOf}
 use Rattle.tsdb_redo.specs.Redone.{IsReplayed}
-use Rattle.tsdb_redo.specs.Stored.{IsReplacing, replaced_record}
+use Rattle.tsdb_redo.specs.FileRecords.{IsReplacing, replaced_record}
 use Rattle.tsdb_redo.specs.declared.lists.FileLists.{FileLists}
 use Rattle.tsdb_redo.specs.declared.opening.Opening.{Opening}
 use Rattle.tsdb_redo.specs.declared.replacing.Replacing.{Replacing}

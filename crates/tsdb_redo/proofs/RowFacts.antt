@@ -20,7 +20,7 @@ use Rattle.tsdb_model.specs.declared.command.Schema.{Schema}
 use Rattle.tsdb_memory.proofs.Numbers.{at_map, some_same}
 use Rattle.tsdb_memory.proofs.RowCells.{at_number, path_at}
 use Rattle.tsdb_memory.specs.Model.{IsFitting, IsSoundMemory}
-use Rattle.tsdb_memory.specs.Shown.{IsMemoryOf, series_entry, number_of, part_of, point_value_at, value_found}
+use Rattle.tsdb_memory.specs.StateOfMemory.{IsMemoryOf, series_entry, number_of, part_of, point_value_at, value_found}
 use Rattle.tsdb_memory.specs.Store.{MemoryState}
 use Rattle.tsdb_memtable.specs.Pairs.{Pair, points_of}
 use Rattle.tsdb_memtable.specs.Watermarks.{space_by, watermark}

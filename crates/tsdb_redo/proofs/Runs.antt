@@ -2,7 +2,7 @@
 use Rattle.std.proofs.Common.{◌≡◌, ◌≢◌, ◌⊎◌, inl, inr, ⊎_elim, ℕ, ◌+◌, ◌<◌, ◌≤◌, List}
 use Rattle.std.proofs.Common.{Option, Some, None, sym, ap, subst, ◌∙◌, arith}
 use Rattle.std.proofs.lemmas.Bool.{cases_eq, cases_lt}
-use Rattle.tsdb_redo.specs.Named.{IsInRun, run_from}
+use Rattle.tsdb_redo.specs.NamedNumbers.{IsInRun, run_from}
 use Rattle.tsdb_redo.specs.Runs.{AreRuns, IsBeginOfRun, EndsWith, HasOneNumberMore, IsLastUpTo}
 use Rattle.tsdb_base.specs.Limits.{end_of_numbers}
 

@@ -3,7 +3,7 @@ use Rattle.std.specs.Prelude.{◌≡◌, ◌↔◌, ℕ, ◌<◌, Bool, true, Is
 use Rattle.tsdb_model.specs.Commands.{IsSchema}
 use Rattle.tsdb_model.specs.declared.command.Schema.{Schema}
 use Rattle.tsdb_memory.specs.Fits.{HasNoPairPoint}
-use Rattle.tsdb_memory.specs.Shown.{IsMemoryOf, number_of}
+use Rattle.tsdb_memory.specs.StateOfMemory.{IsMemoryOf, number_of}
 use Rattle.tsdb_memory.specs.Store.{MemoryState}
 use Rattle.tsdb_base.specs.Limits.{end_of_numbers, max_frozen}
 use Rattle.tsdb_state.specs.Records.{CanFreeze}

@@ -1,8 +1,8 @@
-pub mod Named
+pub mod NamedNumbers
 pub mod Lists
 pub mod Opening
 pub mod Redone
 pub mod Rows
 pub mod Runs
 pub mod Changes
-pub mod Stored
+pub mod FileRecords

@@ -4,9 +4,9 @@ use Rattle.tsdb_base.specs.declared.ids.FileNumber.{FileNumber}
 use Rattle.tsdb_base.specs.declared.ids.Space.{Space}
 use Rattle.tsdb_base.specs.declared.ids.Space.TheVariants.{Sequence, Unsequence}
 use Rattle.tsdb_base.specs.Lists.{Among}
-use Rattle.tsdb_memory.specs.Shown.{IsMemoryOf}
+use Rattle.tsdb_memory.specs.StateOfMemory.{IsMemoryOf}
 use Rattle.tsdb_redo.specs.Lists.{AreListsOf}
-use Rattle.tsdb_redo.specs.Named.{IsNamed}
+use Rattle.tsdb_redo.specs.NamedNumbers.{IsNamed}
 use Rattle.tsdb_redo.specs.declared.opening.Opening.{Opening}
 use Rattle.tsdb_state.specs.Stores.{Recorded}
 use Rattle.tsdb_state.specs.State.{File, StoreState}

@@ -8,7 +8,7 @@ use Rattle.tsdb_base.specs.Lists.{EachPair}
 use Rattle.tsdb_log.specs.declared.record.CellRecord.{CellRecord}
 use Rattle.tsdb_model.specs.declared.command.Schema.{Schema}
 use Rattle.tsdb_memory.specs.Model.{IsFitting}
-use Rattle.tsdb_memory.specs.Shown.{IsMemoryOf, point_value_at}
+use Rattle.tsdb_memory.specs.StateOfMemory.{IsMemoryOf, point_value_at}
 use Rattle.tsdb_memory.specs.Store.{MemoryState}
 use Rattle.tsdb_memtable.specs.Pairs.{Pair, points_of}
 use Rattle.tsdb_path.specs.Nodes.{device_of}

@@ -1,6 +1,6 @@
 -- Runs of numbers as the code keeps them, and what the private calls on them cite.
 use Rattle.std.specs.Prelude.{◌≡◌, ◌⊎◌, ◌↔◌, ℕ, ◌+◌, ◌<◌, ◌≤◌, List, Option, None, Some, IfSome}
-use Rattle.tsdb_redo.specs.Named.{IsInRun, Named, run_from}
+use Rattle.tsdb_redo.specs.NamedNumbers.{IsInRun, Named, run_from}
 use Rattle.tsdb_base.specs.Limits.{end_of_numbers}
 
 -- each run ends before the next begins, and all are within the numbers of files

@@ -15,12 +15,12 @@
 
 mod changes;
 mod fault;
+mod file_records;
 mod lists;
 mod numbers;
 mod opening;
 mod replacing;
 mod rows;
-mod stored;
 
 pub use fault::RedoFault;
 pub use lists::ListedFile;

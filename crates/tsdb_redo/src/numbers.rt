@@ -5,7 +5,7 @@
 ghost use Rattle.std.specs.Prelude.{◌≡◌, ◌↔◌, ◌+◌, ◌<◌, [], ◌∷◌, IsTrue, None, OnErr, OnOk};
 ghost use Rattle.std.specs.BTreeMap.{IsUnchanged};
 ghost use Rattle.std.specs.Option.{option_map};
-ghost use Rattle.tsdb_redo.specs.Named.{CanName, IsGreatest, IsInRun, IsNamed, NamesMore, none_named, run_from};
+ghost use Rattle.tsdb_redo.specs.NamedNumbers.{CanName, IsGreatest, IsInRun, IsNamed, NamesMore, none_named, run_from};
 ghost use Rattle.tsdb_redo.specs.Runs.{AreRuns, IsBeginOfRun, EndsWith, HasOneNumberMore, IsLastInRuns, IsLastUpTo};
 ghost use Rattle.tsdb_base.specs.Limits.{end_of_numbers};
 ghost use Rattle.tsdb_state.specs.Records.{new_numbers};
@@ -28,7 +28,7 @@ pub struct NamedNumbers {
 }
 
 impl Model for NamedNumbers {
-    ghost use Rattle.tsdb_redo.specs.Named.{Named};
+    ghost use Rattle.tsdb_redo.specs.NamedNumbers.{Named};
     ghost use Rattle.tsdb_redo.specs.Runs.{AreSoundNumbers};
 
     ghost Value = { Named };

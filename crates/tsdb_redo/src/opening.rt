@@ -1,8 +1,8 @@
-//! A log that is replayed, record after record. Depends on `changes`, `rows` and `stored`, which have the records of
-//! each kind, and on `lists` and `numbers`.
+//! A log that is replayed, record after record. Depends on `changes`, `rows` and `file_records`, which have the records
+//! of each kind, and on `lists` and `numbers`.
 ghost use Rattle.std.specs.Prelude.{◌≡◌, ◌<◌, ◌≤◌, ◌∷◌, [], IfSome, IsErrOf, OnErr, OnOk};
 ghost use Rattle.tsdb_log.specs.declared.record.LogRecord.{LogRecord as Record};
-ghost use Rattle.tsdb_memory.specs.Shown.{IsMemoryOf};
+ghost use Rattle.tsdb_memory.specs.StateOfMemory.{IsMemoryOf};
 ghost use Rattle.tsdb_redo.specs.Lists.{listed_files};
 ghost use Rattle.tsdb_redo.specs.Opening.{IsOpeningOf, greatest, list_of, next_number, with_stored};
 ghost use Rattle.tsdb_redo.specs.Redone.{IsReplayed, IsWithoutReplay, ShowsTheSame};

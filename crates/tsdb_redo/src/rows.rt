@@ -8,7 +8,7 @@ ghost use Rattle.tsdb_redo.specs.Rows.{LacksItsSeries};
 ghost use Rattle.tsdb_redo.specs.Rows.{new_points as new_points_of};
 ghost use Rattle.tsdb_redo.specs.declared.fault.RedoFault.TheVariants as fault;
 ghost use Rattle.tsdb_memory.specs.Model.{IsSoundMemory};
-ghost use Rattle.tsdb_memory.specs.Shown.{point_value_at};
+ghost use Rattle.tsdb_memory.specs.StateOfMemory.{point_value_at};
 ghost use Rattle.tsdb_memtable.specs.Pairs.{points_of};
 ghost use Rattle.tsdb_path.specs.Nodes.{device_of, node_count};
 ghost use Rattle.std.specs.Prelude.{None};

@@ -9,8 +9,8 @@ use Rattle.tsdb_serving.specs.Core.{files_of, logged_of}
 use Rattle.tsdb_serving.specs.Replacements.{EndsFiles, HasEndedJob, IsJobAbandoned, IsJobCommit, TellsNew}
 use Rattle.tsdb_serving.specs.CoreType.{Core}
 use Rattle.tsdb_frames.specs.Frames.{faults_of, slot_of}
-use Rattle.tsdb_memory.specs.Logged.{log_of}
-use Rattle.tsdb_memory.specs.declared.logged.LoggedMemory.{LoggedMemory}
+use Rattle.tsdb_memory.specs.LogState.{log_of}
+use Rattle.tsdb_memory.specs.declared.logged_memory.LoggedMemory.{LoggedMemory}
 use Rattle.tsdb_outside.specs.Causes.{HasCause}
 use Rattle.tsdb_outside.specs.Disk.{IsLawful}
 use Rattle.tsdb_outside.specs.Files.{NamedFile, Store, StoredFile}

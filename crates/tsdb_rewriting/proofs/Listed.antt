@@ -15,7 +15,7 @@ use Rattle.tsdb_serving.proofs.Beginnings.{Fit}
 use Rattle.tsdb_serving.specs.Beginnings.{IsBegun}
 use Rattle.tsdb_serving.specs.Core.{files_of, next_of}
 use Rattle.tsdb_serving.specs.CoreType.{Core}
-use Rattle.tsdb_fileset.specs.Held.{listed}
+use Rattle.tsdb_fileset.specs.StateOfFiles.{listed}
 use Rattle.tsdb_fileset.specs.Files.{AreKept, entry_numbers}
 use Rattle.tsdb_fileset.specs.Replacing.{IsWithin, claim_run, output_in, replace_run, run_length, with_claim}
 use Rattle.tsdb_base.specs.Lists.{count, if_some}

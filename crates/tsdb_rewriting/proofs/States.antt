@@ -11,12 +11,12 @@ use Rattle.tsdb_serving.specs.Core.{IsSeen, logged_of}
 use Rattle.tsdb_serving.specs.Replacements.{CommitsIn, IsJobAbandoned, IsOutputIn, IsSeenAfterEnd, with_new}
 use Rattle.tsdb_serving.specs.CoreType.{Core}
 use Rattle.tsdb_frames.proofs.MomentLemmas.{weaker}
-use Rattle.tsdb_state.specs.Stored.{LeadsTo}
+use Rattle.tsdb_state.specs.StoredEngine.{LeadsTo}
 use Rattle.tsdb_base.proofs.Lists.{each_from_among}
 use Rattle.tsdb_state.specs.Places.{Content}
 use Rattle.tsdb_log.specs.declared.record.LogRecord.{LogRecord}
 use Rattle.tsdb_log.specs.declared.record.LogRecord.TheVariants.{Replaced}
-use Rattle.tsdb_memory.specs.Logged.{Outside, log_of, with_record}
+use Rattle.tsdb_memory.specs.LogState.{Outside, log_of, with_record}
 use Rattle.tsdb_model.specs.State as plain
 use Rattle.tsdb_outside.specs.Disk.{IsLawful}
 use Rattle.tsdb_outside.specs.Files.{NamedFile, StoredFile}

@@ -12,12 +12,12 @@ use Rattle.tsdb_compactions.specs.declared.job.Job.{Job}
 use Rattle.tsdb_serving.specs.Compactions.{IsJobKept}
 use Rattle.tsdb_serving.specs.Core.{IsSeen, KeepsJobs, files_of, limit_of, next_of}
 use Rattle.tsdb_serving.specs.CoreType.{Core}
-use Rattle.tsdb_state.specs.Stored.{LeadsTo}
+use Rattle.tsdb_state.specs.StoredEngine.{LeadsTo}
 use Rattle.tsdb_fileset.specs.Files.{KeptFiles, kept_file}
 use Rattle.tsdb_fileset.specs.Places.{AreOfStore}
 use Rattle.tsdb_fileset.specs.Replacing.{output_in, replace_run}
 use Rattle.tsdb_base.specs.Lists.{IsWithOne, count, if_some}
-use Rattle.tsdb_memory.specs.Logged.{Outside}
+use Rattle.tsdb_memory.specs.LogState.{Outside}
 use Rattle.tsdb_model.specs.State as plain
 use Rattle.tsdb_outside.specs.Files.{NamedFile, Store, StoredFile}
 use Rattle.tsdb_outside.specs.declared.disk.Disk as disk

@@ -13,7 +13,7 @@ use Rattle.tsdb_history.specs.Closing.{IsCoreClosed}
 use Rattle.tsdb_history.specs.Listings.{IsListingOf}
 use Rattle.tsdb_history.specs.Prefixes.{StandsAfter, StandsAfterPrefix}
 use Rattle.tsdb_history.specs.Serves.{HasServed, LeavesPrefix}
-use Rattle.tsdb_state.specs.Stored.{LeavesOneOf, kept_bytes}
+use Rattle.tsdb_state.specs.StoredEngine.{LeavesOneOf, kept_bytes}
 use Rattle.tsdb_base.proofs.Lists.{each_weaker}
 use Rattle.tsdb_base.specs.Lists.{EachPair}
 use Rattle.tsdb_model.specs.History.{Entry}
@@ -27,7 +27,7 @@ use Rattle.tsdb_outside.specs.declared.disk.Disk as disk
 use Rattle.tsdb_outside.specs.declared.disk.Slot.{Slot}
 use Rattle.tsdb_outside.specs.declared.disk.Slot.TheVariants.{A}
 use Rattle.tsdb_outside.specs.declared.faults.Counted as counted
-use Rattle.tsdb_recover.specs.Stored.{AreStored}
+use Rattle.tsdb_recover.specs.StoredFiles.{AreStored}
 use Rattle.tsdb_state.proofs.ReplayLemmas.Stores.{sound_images}
 use Rattle.tsdb_state.specs.Stores as stores
 use Rattle.tsdb_state.specs.Stores.{StandsForOneOf}

@@ -4,7 +4,7 @@ use Rattle.std.proofs.lemmas.Option.{same_Some}
 use Rattle.tsdb_history.proofs.Joined.{followed}
 use Rattle.tsdb_history.proofs.Prefixes.{after_wider}
 use Rattle.tsdb_history.specs.Joining.{IsFollowed}
-use Rattle.tsdb_state.specs.Stored.{kept_bytes}
+use Rattle.tsdb_state.specs.StoredEngine.{kept_bytes}
 use Rattle.tsdb_model.specs.History.{Entry, IsLegal}
 use Rattle.tsdb_model.specs.State as plain
 use Rattle.tsdb_outside.specs.Disk.{IsLawful, DiskState}

@@ -6,7 +6,7 @@ use Rattle.std.specs.Io.KnownBytes.{Keeps as KeepsBytes}
 use Rattle.std.proofs.lemmas.Option.{same_Some}
 use Rattle.std.proofs.KnownBytes.{Keeps-refl}
 use Rattle.std.specs.Option.{IsSomeAnd}
-use Rattle.tsdb_state.specs.Stored.{kept_bytes}
+use Rattle.tsdb_state.specs.StoredEngine.{kept_bytes}
 use Rattle.tsdb_base.proofs.Lists.{among_map, each_among, each_from_among}
 use Rattle.tsdb_base.specs.Lists.{Among}
 use Rattle.tsdb_history.specs.declared.told.Told.{Told as Answered}
@@ -16,7 +16,7 @@ use Rattle.tsdb_frames.proofs.FirstLemmas.{keeps_on}
 use Rattle.tsdb_outside.specs.Disk.{Image, IsLawful, Keeps, DiskState}
 use Rattle.tsdb_outside.specs.Files.{StoredFile}
 use Rattle.tsdb_outside.specs.declared.disk.Slot.TheVariants.{A}
-use Rattle.tsdb_recover.specs.Left.{AreLeft, IsStray}
+use Rattle.tsdb_recover.specs.Strays.{AreLeft, IsStray}
 use Rattle.tsdb_state.proofs.ReplayLemmas.Parted.{replay_once}
 use Rattle.tsdb_state.proofs.ReplayLemmas.Stores.{sound_kept}
 use Rattle.tsdb_state.specs.Stores.{IsWhole, Recorded, StoreStandsFor, store_steps, store_steps_determinate}
@@ -26,7 +26,7 @@ use Rattle.tsdb_recover.specs.declared.fault.OpenFault.{OpenFault}
 use Rattle.tsdb_recover.specs.declared.fault.OpenFault.TheVariants as fault
 use Rattle.tsdb_recover.specs.declared.fault.Part.{Part}
 use Rattle.tsdb_recover.specs.Damage.{AnswersDamageIn, IsDamagedIn}
-use Rattle.tsdb_recover.specs.Stored.{AreStored}
+use Rattle.tsdb_recover.specs.StoredFiles.{AreStored}
 use Rattle.tsdb_recover.specs.Taking.{HaveLengths}
 use Rattle.tsdb_run.specs.Causes.{ReportsDamage}
 use Rattle.tsdb_run.specs.Headline.{Headline, IsWithoutCommands, WholeRun}

@@ -8,13 +8,13 @@ use Rattle.std.specs.List.{find}
 use Rattle.tsdb_history.proofs.Prefixes.{after_wider, no_prefix, prefix_wider}
 use Rattle.tsdb_history.specs.Prefixes.{StandsAfter, StandsAfterPrefix}
 use Rattle.tsdb_state.proofs.ImageLemmas.Kept.{found_bytes, found_with_more, has_number, holds_found}
-use Rattle.tsdb_state.specs.Stored.{kept_bytes}
+use Rattle.tsdb_state.specs.StoredEngine.{kept_bytes}
 use Rattle.tsdb_model.specs.History.{Entry}
 use Rattle.tsdb_model.specs.State as plain
 use Rattle.tsdb_outside.specs.Disk.{Image}
 use Rattle.tsdb_outside.specs.Files.{StoredFile}
 use Rattle.tsdb_recover.proofs.Rest.{holds_itself}
-use Rattle.tsdb_recover.specs.Stored.{AreStored}
+use Rattle.tsdb_recover.specs.StoredFiles.{AreStored}
 use Rattle.tsdb_state.proofs.ReplayLemmas.Stores.{stands_with_more}
 use Rattle.tsdb_state.specs.Stores as replay
 use Rattle.tsdb_state.specs.Stores.{BytesByNumber, HoldsKept}

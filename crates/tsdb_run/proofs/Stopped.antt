@@ -17,14 +17,14 @@ use Rattle.tsdb_outside.specs.Disk.{Image, DiskState}
 use Rattle.tsdb_outside.specs.Files.{StoredFile}
 use Rattle.tsdb_outside.specs.declared.disk.Slot.TheVariants.{A}
 use Rattle.tsdb_recover.proofs.Rest.{holds_itself}
-use Rattle.tsdb_recover.specs.Left.{AreLeft, IsStray}
-use Rattle.tsdb_recover.specs.Stored.{DifferInNumber}
+use Rattle.tsdb_recover.specs.Strays.{AreLeft, IsStray}
+use Rattle.tsdb_recover.specs.StoredFiles.{DifferInNumber}
 use Rattle.tsdb_run.proofs.Executed.{some_and}
 use Rattle.tsdb_run.proofs.Refused.{stands_left}
 use Rattle.tsdb_run.specs.Headline.{AreNewer}
 use Rattle.tsdb_run.specs.Stops.{IsStopped}
 use Rattle.tsdb_run.specs.Store.{Contents, IsSoundPlace, SlotsStandFor, contents, new_state}
-use Rattle.tsdb_state.specs.Stored.{kept_bytes}
+use Rattle.tsdb_state.specs.StoredEngine.{kept_bytes}
 use Rattle.tsdb_state.specs.Stores as replay
 
 -- ---- files of different numbers

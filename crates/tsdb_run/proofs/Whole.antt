@@ -4,10 +4,10 @@ use Rattle.std.specs.Prelude.{IfSome, IsSome}
 use Rattle.std.proofs.lemmas.Bool.{false≢true}
 use Rattle.tsdb_recover.specs.Core.{next_of}
 use Rattle.tsdb_recover.specs.CoreType.{Core}
-use Rattle.tsdb_state.specs.Stored.{kept_bytes}
+use Rattle.tsdb_state.specs.StoredEngine.{kept_bytes}
 use Rattle.tsdb_outside.specs.declared.disk.Disk as disk
 use Rattle.tsdb_outside.specs.declared.faults.Counted as counted
-use Rattle.tsdb_recover.specs.Opened.{IsNextNumber, IsRecovered}
+use Rattle.tsdb_recover.specs.OpenedStore.{IsNextNumber, IsRecovered}
 use Rattle.tsdb_state.specs.Replays.{IsReplayOf}
 use Rattle.tsdb_state.specs.Stores as replay
 use Rattle.tsdb_model.specs.State as plain
@@ -21,7 +21,7 @@ use Rattle.tsdb_recover.specs.Damage.{IsDamagedFile, IsDamagedIn, IsTreeFile}
 use Rattle.tsdb_base.proofs.Lists.{each_weaker}
 use Rattle.tsdb_state.proofs.ReplayLemmas.Parted.{damaged_none, replay_once}
 use Rattle.tsdb_state.proofs.ReplayLemmas.Stores.{sound_images, sound_kept}
-use Rattle.tsdb_recover.specs.Stored.{AreStored}
+use Rattle.tsdb_recover.specs.StoredFiles.{AreStored}
 use Rattle.tsdb_state.specs.Stores.{BytesByNumber, IsWhole, Recorded, StoreStandsFor, store_steps, store_steps_determinate}
 use Rattle.tsdb_run.specs.Store.{IsPlaceDamaged, IsSoundPlace, TellsPlace, contents}
 use Rattle.tsdb_run.specs.Store.{IsNextNumberOfPlace as IsNextNumberOf}

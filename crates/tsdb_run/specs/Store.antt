@@ -5,7 +5,7 @@ use Rattle.std.specs.Prelude.{◌≡◌, ◌⊎◌, ℕ, List, Option, None, Som
 use Rattle.std.specs.FinMap.{empty}
 use Rattle.std.specs.Option.{IsSomeAnd}
 use Rattle.tsdb_history.specs.Listings.{IsListingOf}
-use Rattle.tsdb_state.specs.Stored.{kept_bytes}
+use Rattle.tsdb_state.specs.StoredEngine.{kept_bytes}
 use Rattle.tsdb_model.specs.State as plain
 use Rattle.tsdb_model.specs.declared.reply.Listing.{Listing}
 use Rattle.tsdb_outside.specs.Disk.{Image, Keeps, DiskState}
@@ -13,9 +13,9 @@ use Rattle.tsdb_outside.specs.Files.{StoredFile}
 use Rattle.tsdb_outside.specs.declared.disk.Slot.TheVariants.{A}
 use Rattle.tsdb_recover.specs.declared.fault.Part.{Part}
 use Rattle.tsdb_recover.specs.Damage.{IsDamagedIn}
-use Rattle.tsdb_recover.specs.Left.{AreLeft, IsStray}
-use Rattle.tsdb_recover.specs.Opened as recovery
-use Rattle.tsdb_recover.specs.Stored.{AreStored}
+use Rattle.tsdb_recover.specs.Strays.{AreLeft, IsStray}
+use Rattle.tsdb_recover.specs.OpenedStore as recovery
+use Rattle.tsdb_recover.specs.StoredFiles.{AreStored}
 use Rattle.tsdb_recover.specs.Taking.{HaveLengths}
 use Rattle.tsdb_state.specs.Replays.{IsReplayOf}
 use Rattle.tsdb_state.specs.Stores as store

@@ -9,7 +9,7 @@ ghost use Rattle.tsdb_base.specs.Causes.{Rose};
 ghost use Rattle.tsdb_outside.specs.Disk.{Image};
 ghost use Rattle.tsdb_outside.specs.Files.{StoredFile};
 ghost use Rattle.tsdb_history.specs.Serving.{IsServing};
-ghost use Rattle.tsdb_recover.specs.Opened.{IsRecovered};
+ghost use Rattle.tsdb_recover.specs.OpenedStore.{IsRecovered};
 ghost use Rattle.tsdb_run.specs.Headline.{HasRun};
 ghost use Rattle.tsdb_run.specs.Stops.{IsStopped};
 ghost use Rattle.tsdb_run.specs.Store.{IsSoundPlace, contents, new_state};

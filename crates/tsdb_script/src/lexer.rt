@@ -158,7 +158,7 @@ fn text<'a>(quote: u8, bytes: &'a [u8]) -> Result<(Token<'a>, &'a [u8]), LineFau
     ensures found { IfOk result (λ r. text_at quote bytes.now ≡ Some (r.0, r.1.now)) }
     ensures bad { IfErr result (λ f. (text_at quote bytes.now ≡ None) × (f ≡ BAD_TEXT)) }
 {
-    let Some((inside, length, rest)) = closed(quote, bytes) else {
+    let Some((inside, length, rest)) = split_at_quote(quote, bytes) else {
         return Err(BAD_TEXT);
     };
     if length > MAX_TEXT_BYTES {
@@ -168,7 +168,7 @@ fn text<'a>(quote: u8, bytes: &'a [u8]) -> Result<(Token<'a>, &'a [u8]), LineFau
 }
 
 /// What stands before the quote that ends a text, the length of its content, and what stands behind the quote.
-fn closed(quote: u8, bytes: &[u8]) -> Option<(&[u8], usize, &[u8])>
+fn split_at_quote(quote: u8, bytes: &[u8]) -> Option<(&[u8], usize, &[u8])>
     ensures content { option_map (λ r. (unescape quote r.0.now, r.2.now)) result ≡ content_parts quote bytes.now }
     ensures length { IfSome result (λ r. r.1 ≡ length (unescape quote r.0.now)) }
 {

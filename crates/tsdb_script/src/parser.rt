@@ -44,12 +44,12 @@ pub fn statement<'a>(alloc: Global, tokens: &mut Tokens<'a>) -> Result<Syntax<'a
     ensures parts { IfOk result HasNeededParts }
     ensures bad { IfErr result (FaultsWith (HasNoForm tokens.old.items)) }
 {
-    matched(alloc, tokens)
+    read_by_form(alloc, tokens)
 }
 
 /// Reads the tokens by the one form that begins with their first words.
 #[tactic(auto, unfolding(crate::specs::Parse::statement_at))]
-fn matched<'a>(alloc: Global, tokens: &mut Tokens<'a>) -> Result<Syntax<'a>, LineFault>
+fn read_by_form<'a>(alloc: Global, tokens: &mut Tokens<'a>) -> Result<Syntax<'a>, LineFault>
     ensures { ParsesTo (λ syntax. syntax) result (statement_at tokens.old.items) }
 {
     let form = form_of(tokens).ok_or(NO_FORM)?;
@@ -150,7 +150,7 @@ fn part<'a>(
         FormPlace::Columns => Ok(Some(SyntaxPart::Columns(list(alloc, FormPlace::Comma, tokens)?))),
         FormPlace::Where => Ok(Some(SyntaxPart::Conditions(conditions(alloc, tokens)?))),
         _ => {
-            fixed(place, tokens)?;
+            take_fixed(place, tokens)?;
             Ok(None)
         }
     }
@@ -192,7 +192,7 @@ fn stands(tokens: &Tokens, at: usize, place: FormPlace) -> bool
 }
 
 /// Takes the token that a place asks for.
-fn fixed(place: FormPlace, tokens: &mut Tokens) -> Result<(), LineFault>
+fn take_fixed(place: FormPlace, tokens: &mut Tokens) -> Result<(), LineFault>
     ensures { ParsesTo (λ _. tokens.new.items) result (fixed_at place tokens.old.items) }
 {
     match tokens.pop_front() {
@@ -236,15 +236,15 @@ fn comparison(tokens: &mut Tokens) -> Result<Comparison, LineFault>
 
 /// The measurement in parentheses behind an aggregate.
 #[tactic(auto, unfolding(crate::specs::Parse::called_at))]
-fn called<'a>(
+fn aggregate_column<'a>(
     aggregate: WordToken<'a>,
     tokens: &mut Tokens<'a>,
 ) -> Result<SyntaxColumn<'a>, LineFault>
     ensures { ParsesTo (λ column. (column, tokens.new.items)) result (called_at aggregate.entry tokens.old.items) }
 {
-    fixed(FormPlace::Open, tokens)?;
+    take_fixed(FormPlace::Open, tokens)?;
     let measurement = word(tokens)?;
-    fixed(FormPlace::Close, tokens)?;
+    take_fixed(FormPlace::Close, tokens)?;
     Ok(SyntaxColumn {
         aggregate: Some(aggregate),
         measurement,
@@ -288,7 +288,7 @@ impl<'a> Listed<'a> for SyntaxColumn<'a> {
     fn take(tokens: &mut Tokens<'a>) -> Result<SyntaxColumn<'a>, LineFault> {
         let first = word(tokens)?;
         if stands(tokens, 0, FormPlace::Open) {
-            return called(first, tokens);
+            return aggregate_column(first, tokens);
         }
         Ok(SyntaxColumn {
             aggregate: None,
@@ -303,7 +303,7 @@ impl<'a> Listed<'a> for Condition<'a> {
     /// `time` op `N`
     #[tactic(auto, unfolding(crate::specs::Parse::condition_at))]
     fn take(tokens: &mut Tokens<'a>) -> Result<Condition<'a>, LineFault> {
-        fixed(TIME, tokens)?;
+        take_fixed(TIME, tokens)?;
         let comparison = comparison(tokens)?;
         let number = word(tokens)?;
         Ok(Condition { comparison, number })
@@ -337,7 +337,7 @@ fn further<'a, P: Listed<'a>>(
     // Each item takes a token at least.
     let mut turns = tokens.len();
     while turns > 0 && stands(tokens, 0, between) {
-        fixed(between, tokens)?;
+        take_fixed(between, tokens)?;
         items.push(P::take(tokens)?)?;
         turns -= 1;
     }
@@ -352,7 +352,7 @@ fn conditions<'a>(alloc: Global, tokens: &mut Tokens<'a>) -> Result<List<Conditi
     if !stands(tokens, 0, WHERE) {
         return Ok(List::of(Vec::new(alloc)));
     }
-    fixed(WHERE, tokens)?;
+    take_fixed(WHERE, tokens)?;
     list(alloc, AND, tokens)
 }
 

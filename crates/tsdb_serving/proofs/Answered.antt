@@ -14,7 +14,7 @@ use Rattle.tsdb_log.specs.declared.record.LogRecord.{LogRecord}
 use Rattle.tsdb_log.specs.declared.record.LogRecord.TheVariants as item
 use Rattle.tsdb_memory.specs.Answers.{IsCreateAnswer, IsDeleteAnswer}
 use Rattle.tsdb_memory.specs.Commands.{NeedsNothing}
-use Rattle.tsdb_memory.specs.Logged.{Outside, log_of, memory_of, with_record}
+use Rattle.tsdb_memory.specs.LogState.{Outside, log_of, memory_of, with_record}
 use Rattle.tsdb_model.specs.Apply.{accepted, reply_of}
 use Rattle.tsdb_model.specs.History.{IsAllowed, IsChange, raise, state_after}
 use Rattle.tsdb_model.specs.State as plain

@@ -7,7 +7,7 @@ use Rattle.tsdb_core.specs.Core.{logged_of, next_of}
 use Rattle.tsdb_core.specs.Ending.{drawn_for, numbers_if}
 use Rattle.tsdb_core.specs.declared.engine.Core.{Core}
 use Rattle.tsdb_core.specs.FlushJob.{FlushJob}
-use Rattle.tsdb_memory.specs.Logged.{memory_of}
+use Rattle.tsdb_memory.specs.LogState.{memory_of}
 use Rattle.tsdb_model.specs.declared.reply.Reply.{Reply}
 use Rattle.tsdb_model.specs.declared.reply.Reply.TheVariants.{Plain}
 use Rattle.tsdb_outside.specs.declared.disk.Disk as disk

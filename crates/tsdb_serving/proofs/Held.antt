@@ -3,7 +3,7 @@ use Rattle.std.proofs.Common.{◌≡◌, ◌⊎◌, ℕ, List, ◌++◌, Option,
 use Rattle.std.specs.List.{flat_map}
 use Rattle.tsdb_core.specs.Files.{NewFiles, all_of, kept_with, built_numbers, stored_of}
 use Rattle.tsdb_state.proofs.ImageLemmas.Kept.{each_passed}
-use Rattle.tsdb_state.specs.Stored.{LeavesOneOf, without_numbers}
+use Rattle.tsdb_state.specs.StoredEngine.{LeavesOneOf, without_numbers}
 use Rattle.tsdb_base.proofs.Lists.{each_append, each_left, each_right}
 use Rattle.tsdb_model.specs.State as plain
 use Rattle.tsdb_outside.specs.Disk.{Image, in_slot}

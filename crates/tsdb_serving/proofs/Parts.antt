@@ -19,14 +19,14 @@ use Rattle.tsdb_core.specs.declared.commit.Commit.TheVariants.{Device, Done, Gon
 use Rattle.tsdb_core.specs.declared.engine.Core.{Core}
 use Rattle.tsdb_frames.proofs.MomentLemmas.{weaker}
 use Rattle.tsdb_state.proofs.ImageLemmas.After.{listed_after}
-use Rattle.tsdb_state.specs.Stored.{LeadsTo, built_files}
+use Rattle.tsdb_state.specs.StoredEngine.{LeadsTo, built_files}
 use Rattle.tsdb_core.specs.FlushJob.{FlushJob}
 use Rattle.tsdb_base.proofs.Lists.{each_among, each_from_among, each_left, each_right}
 use Rattle.tsdb_base.specs.Lists.{Among}
 use Rattle.tsdb_log.specs.declared.record.LogRecord.{LogRecord}
 use Rattle.tsdb_log.specs.declared.record.LogRecord.TheVariants.{Freeze}
 use Rattle.tsdb_memory.specs.Commands.{NeedsNothing}
-use Rattle.tsdb_memory.specs.Logged.{IsStoredIn, Outside, log_of, memory_of, with_record}
+use Rattle.tsdb_memory.specs.LogState.{IsStoredIn, Outside, log_of, memory_of, with_record}
 use Rattle.tsdb_model.specs.State as plain
 use Rattle.tsdb_model.specs.World.{World}
 use Rattle.tsdb_outside.specs.Disk.{IsLawful}

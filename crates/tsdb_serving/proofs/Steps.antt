@@ -8,9 +8,9 @@ use Rattle.tsdb_frames.proofs.MomentLemmas.{leaves_on, weaker}
 use Rattle.tsdb_frames.specs.Frames.{disk_of}
 use Rattle.tsdb_frames.specs.declared.frames.Frames.{Frames}
 use Rattle.tsdb_state.proofs.ImageLemmas.Leaving.{image_stands}
-use Rattle.tsdb_state.specs.Stored.{LeavesOneOf}
+use Rattle.tsdb_state.specs.StoredEngine.{LeavesOneOf}
 use Rattle.tsdb_base.proofs.Lists.{each_append, each_weaker}
-use Rattle.tsdb_memory.specs.Logged.{log_of}
+use Rattle.tsdb_memory.specs.LogState.{log_of}
 use Rattle.tsdb_model.specs.State as plain
 use Rattle.tsdb_outside.specs.Disk.{Image, IsLawful, DiskState}
 use Rattle.tsdb_outside.specs.Files.{StoredFile}

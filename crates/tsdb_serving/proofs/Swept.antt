@@ -8,15 +8,15 @@ use Rattle.tsdb_core.proofs.Swept.{none_left}
 use Rattle.tsdb_core.specs.Core.{files_of, limit_of, logged_of, working_of}
 use Rattle.tsdb_core.specs.Rows.{NeedsFlush}
 use Rattle.tsdb_core.specs.FilesetFiles.{AreKept}
-use Rattle.tsdb_core.specs.Held.{may_go}
+use Rattle.tsdb_core.specs.StateOfFiles.{may_go}
 use Rattle.tsdb_core.specs.FilesetSweeps.{tried_numbers}
 use Rattle.tsdb_core.specs.Sweeps.{IsSwept, without_files}
 use Rattle.tsdb_core.specs.declared.engine.Core.{Core}
 use Rattle.tsdb_frames.proofs.Counted.{no_fault_no_doubt}
 use Rattle.tsdb_frames.specs.Frames.{disk_of, faults_of, is_in_doubt, slot_of}
 use Rattle.tsdb_memory.specs.Fits.{FitsPair, HasNoPairPoint}
-use Rattle.tsdb_memory.specs.Logged.{log_of, memory_of}
-use Rattle.tsdb_memory.specs.declared.logged.LoggedMemory.{LoggedMemory}
+use Rattle.tsdb_memory.specs.LogState.{log_of, memory_of}
+use Rattle.tsdb_memory.specs.declared.logged_memory.LoggedMemory.{LoggedMemory}
 use Rattle.tsdb_model.specs.State as plain
 use Rattle.tsdb_model.specs.declared.command.Command.{Command}
 use Rattle.tsdb_model.specs.declared.command.Row.{Row}

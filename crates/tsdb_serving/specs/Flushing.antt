@@ -6,11 +6,11 @@ use Rattle.tsdb_core.specs.Ending.{drawn_for}
 use Rattle.tsdb_core.specs.Flushes.{HasNumbersOf}
 use Rattle.tsdb_core.specs.declared.engine.Core.{Core}
 use Rattle.tsdb_frames.specs.Frames.{faults_of}
-use Rattle.tsdb_state.specs.Stored.{LeadsTo}
+use Rattle.tsdb_state.specs.StoredEngine.{LeadsTo}
 use Rattle.tsdb_core.specs.FlushJob.{FlushJob}
 use Rattle.tsdb_core.specs.Places.{AreOfStore, AreUnread}
 use Rattle.tsdb_base.specs.Lists.{Among}
-use Rattle.tsdb_memory.specs.Logged.{Outside, log_of, memory_of}
+use Rattle.tsdb_memory.specs.LogState.{Outside, log_of, memory_of}
 use Rattle.tsdb_model.specs.State as plain
 use Rattle.tsdb_memory.specs.Store.{FrozenPair}
 use Rattle.tsdb_outside.specs.Files.{Store, StoredFile}

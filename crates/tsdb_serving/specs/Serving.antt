@@ -5,9 +5,9 @@ use Rattle.std.specs.List.{AllByRecursion as Each}
 use Rattle.tsdb_core.specs.Core.{IsSeen, logged_of, next_of}
 use Rattle.tsdb_core.specs.declared.engine.Core.{Core}
 use Rattle.tsdb_frames.specs.Frames.{disk_of, slot_of}
-use Rattle.tsdb_state.specs.Stored.{LeadsTo, LeavesOneOf}
+use Rattle.tsdb_state.specs.StoredEngine.{LeadsTo, LeavesOneOf}
 use Rattle.tsdb_base.specs.Lists.{EachPair}
-use Rattle.tsdb_memory.specs.Logged.{Outside, log_of, memory_of}
+use Rattle.tsdb_memory.specs.LogState.{Outside, log_of, memory_of}
 use Rattle.tsdb_base.specs.declared.answers.Answer.TheVariants.{Done, Device, Full}
 use Rattle.tsdb_model.specs.Apply.{reply_of}
 use Rattle.tsdb_model.specs.History.{DrawsNumbers, IsAllowed, IsChange, state_after}

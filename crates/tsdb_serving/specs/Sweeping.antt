@@ -4,7 +4,7 @@ use Rattle.tsdb_base.specs.Causes.{Rose}
 use Rattle.tsdb_core.specs.Core.{files_of, limit_of, logged_of, next_of}
 use Rattle.tsdb_core.specs.declared.engine.Core.{Core}
 use Rattle.tsdb_frames.specs.Frames.{is_in_doubt}
-use Rattle.tsdb_memory.specs.Logged.{log_of}
+use Rattle.tsdb_memory.specs.LogState.{log_of}
 use Rattle.tsdb_model.specs.State as plain
 use Rattle.tsdb_outside.specs.Files.{StoredFile}
 use Rattle.tsdb_outside.specs.declared.disk.Disk as disk

@@ -5,7 +5,7 @@ ghost use Rattle.std.specs.Option.{option_map};
 ghost use Rattle.tsdb_core.specs.Core.{logged_of, next_of, working_of};
 ghost use Rattle.tsdb_core.specs.Flushes.{IsDue, IsOldestPair};
 ghost use Rattle.tsdb_core.specs.Jobs.{IsJob};
-ghost use Rattle.tsdb_memory.specs.Logged.{memory_of};
+ghost use Rattle.tsdb_memory.specs.LogState.{memory_of};
 ghost use Rattle.tsdb_outside.specs.Files.{Store};
 ghost use Rattle.tsdb_base.specs.Causes.{Rose};
 ghost use Rattle.tsdb_memory.specs.Fits.{HasNoPairPoint};

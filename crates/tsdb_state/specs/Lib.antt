@@ -17,7 +17,7 @@ pub mod NewStore
 pub mod Replays
 pub mod Damage
 pub mod Stores
-pub mod Stored
+pub mod StoredEngine
 pub use Rattle.tsdb_pages.specs.File
 pub use Rattle.tsdb_pages.specs.Trees
 pub use Rattle.tsdb_pages.specs.declared.tree.Tree

@@ -5,7 +5,7 @@ ghost use Rattle.std.specs.List.{All, AllByRecursion};
 ghost use Rattle.std.specs.Option.{option_map};
 ghost use Rattle.tsdb_frames.specs.Log.{HasRecordsOrOneMore, IsLogOn, IsSettled};
 ghost use Rattle.tsdb_outside.specs.Moments.{LeavesFirstThen, LeavesOnly};
-ghost use Rattle.tsdb_state.specs.Stored.{IsKeptWhole, IsStored, LeadsTo, LeavesOneOf, kept_bytes};
+ghost use Rattle.tsdb_state.specs.StoredEngine.{IsKeptWhole, IsStored, LeadsTo, LeavesOneOf, kept_bytes};
 ghost use Rattle.tsdb_base.specs.Lists.{count};
 ghost use Rattle.tsdb_log.specs.Spelling.{IsRecord, spelling};
 ghost use Rattle.tsdb_log.specs.declared.record.LogRecord.{LogRecord};

@@ -3,7 +3,7 @@
 ghost use Rattle.std.specs.Prelude.{◌≡◌, ℕ, ℤ, List, [], ◌∷◌, ◌++◌};
 ghost use Rattle.std.specs.List.{AllByRecursion};
 ghost use Rattle.tsdb_base.specs.declared.point.Range.{Range};
-ghost use Rattle.tsdb_state.specs.Stored.{AreOutgoing, IsKeptWhole, IsStored, built_files, without_numbers};
+ghost use Rattle.tsdb_state.specs.StoredEngine.{AreOutgoing, IsKeptWhole, IsStored, built_files, without_numbers};
 ghost use Rattle.tsdb_base.specs.Lists.{IsWithOne};
 ghost use Rattle.tsdb_log.specs.Spelling.{IsRecord};
 ghost use Rattle.tsdb_log.specs.declared.record.CellRecord.{CellRecord};

@@ -20,9 +20,9 @@
 //!
 //! What a stop leaves of an engine.
 //!
-//! `specs/Stored.antt` says when an engine is stored: the acknowledged records of its log lead to its store, it is in
-//! order, and each of its files is kept. The laws say that each step keeps it stored, and that whatever a stop leaves
-//! of a stored engine, at each moment of an append too, stands for its world or for that of the record in doubt.
+//! `specs/StoredEngine.antt` says when an engine is stored: the acknowledged records of its log lead to its store, it
+//! is in order, and each of its files is kept. The laws say that each step keeps it stored, and that whatever a stop
+//! leaves of a stored engine, at each moment of an append too, stands for its world or for that of the record in doubt.
 #![tactic(auto)]
 
 mod image_laws;

@@ -15,9 +15,9 @@ use Rattle.tsdb_streams.proofs.LaneViews.{ArePages, IsPage, pages_by_number}
 use Rattle.tsdb_streams.specs.Clean.{count_read, hull_of, is_clean, others, source_hulls, source_read}
 use Rattle.tsdb_streams.specs.Cleaning.{IsCleaned, is_clean_page, lane_hulls, page_times}
 use Rattle.tsdb_streams.specs.Files.{FilePages, HasEntryPages}
-use Rattle.tsdb_streams.specs.Kept.{stats_range}
+use Rattle.tsdb_streams.specs.KeptPoints.{stats_range}
 use Rattle.tsdb_streams.specs.Lanes.{IsTrueSource, OpensAs, count_due, is_due, lane_due, source_all}
-use Rattle.tsdb_streams.specs.declared.kept.Kept.{Kept}
+use Rattle.tsdb_streams.specs.declared.survival.Kept.{Kept}
 use Rattle.tsdb_streams.specs.declared.lane.Lane.{Lane}
 use Rattle.tsdb_streams.specs.declared.lane.Lane.TheVariants.{Pages, Part}
 use Rattle.tsdb_streams.specs.declared.source.StreamSource.{StreamSource}

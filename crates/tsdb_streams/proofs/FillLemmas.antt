@@ -8,7 +8,7 @@ use Rattle.tsdb_base.specs.declared.point.Range.{Range}
 use Rattle.tsdb_streams.proofs.KeptLemmas.{none_kept}
 use Rattle.tsdb_streams.proofs.PageFacts.{there}
 use Rattle.tsdb_streams.specs.Files.{HasEntryPages}
-use Rattle.tsdb_streams.specs.Kept.{is_kept, kept, stats_range}
+use Rattle.tsdb_streams.specs.KeptPoints.{is_kept, kept, stats_range}
 use Rattle.tsdb_streams.specs.Lanes.{Gives, is_due, is_passed, left_pages}
 use Rattle.tsdb_index.specs.declared.index.IndexEntry.{IndexEntry}
 use Rattle.tsdb_index.specs.declared.index.PageEntry.{PageEntry}

@@ -8,7 +8,7 @@ use Rattle.tsdb_aggregate.specs.Pieces.{overlap}
 use Rattle.tsdb_base.specs.declared.point.Point.{Point}
 use Rattle.tsdb_base.specs.declared.point.Range.{Range}
 use Rattle.tsdb_base.specs.declared.point.Stats.{Stats}
-use Rattle.tsdb_streams.specs.Kept.{is_kept, kept, stats_range}
+use Rattle.tsdb_streams.specs.KeptPoints.{is_kept, kept, stats_range}
 use Rattle.tsdb_model.specs.World.{is_in}
 use Rattle.tsdb_marks.specs.declared.marks.Mark.{Mark}
 use Rattle.tsfile_reader.specs.Page.{LieIn}

@@ -20,7 +20,7 @@ use Rattle.tsdb_streams.proofs.Views.{AreApart, IsFit, Seen}
 use Rattle.tsdb_streams.proofs.ViewMerges.{left_part, points_of, right_part, rising_back}
 use Rattle.tsdb_streams.specs.Clean.{any_meets, hull_of, is_clean, is_marked}
 use Rattle.tsdb_streams.specs.Cleaning.{page_times, picked}
-use Rattle.tsdb_streams.specs.Kept.{is_kept, stats_range}
+use Rattle.tsdb_streams.specs.KeptPoints.{is_kept, stats_range}
 use Rattle.tsdb_streams.specs.Lanes.{left_pages}
 use Rattle.tsdb_index.specs.declared.index.PageEntry.{PageEntry}
 use Rattle.tsdb_base.specs.Lists.{EachPair, if_some}

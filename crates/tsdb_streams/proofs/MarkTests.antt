@@ -6,7 +6,7 @@ use Rattle.std.proofs.lemmas.Bool.{lt-ltb, ltb-true}
 use Rattle.std.proofs.lemmas.List.Elements.{All-cons, All-head, All-nil, All-tail}
 use Rattle.tsdb_base.specs.declared.point.Point.{Point}
 use Rattle.tsdb_base.specs.declared.point.Range.{Range}
-use Rattle.tsdb_streams.specs.Kept.{is_kept}
+use Rattle.tsdb_streams.specs.KeptPoints.{is_kept}
 use Rattle.tsdb_state.proofs.LayerLemmas.Places.{is_path_same, path_itself}
 use Rattle.tsdb_state.specs.Marks.{is_over, survives}
 use Rattle.tsdb_state.specs.Places.{is_path}

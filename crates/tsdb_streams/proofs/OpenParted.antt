@@ -22,10 +22,10 @@ use Rattle.tsdb_streams.proofs.CleanFacts.{both}
 use Rattle.tsdb_streams.specs.Clean.{any_meets, others, source_hulls, source_read, sources_read}
 use Rattle.tsdb_streams.specs.Cleaning.{AreCleaned, IsCleaned, IsFlagged, all_set, flags_of, is_clean_page, lane_hulls, lane_passed}
 use Rattle.tsdb_streams.specs.Files.{FilePages, HasEntryPages}
-use Rattle.tsdb_streams.specs.Kept.{stats_range}
+use Rattle.tsdb_streams.specs.KeptPoints.{stats_range}
 use Rattle.tsdb_streams.specs.Lanes.{IsLaneOfStore, IsToldLane, IsTrueLane, IsTrueSource, OpensAs, keep_of, lane_due, lane_points_left, left_pages, source_all, source_left}
-use Rattle.tsdb_streams.specs.Parted.{IsParted}
-use Rattle.tsdb_streams.specs.declared.kept.Kept.{Kept}
+use Rattle.tsdb_streams.specs.PartedMerge.{IsParted}
+use Rattle.tsdb_streams.specs.declared.survival.Kept.{Kept}
 use Rattle.tsdb_streams.specs.declared.lane.Lane.{Lane}
 use Rattle.tsdb_streams.specs.declared.lane.Lane.TheVariants.{Pages, Part}
 use Rattle.tsdb_streams.specs.declared.lane.PageLane.{PageLane}

@@ -23,9 +23,9 @@ use Rattle.tsdb_streams.proofs.Views.{AreApart, AreSound, IsFit, Seen, View, Vie
 use Rattle.tsdb_streams.proofs.ViewMerges.{points_of}
 use Rattle.tsdb_streams.specs.Clean.{any_meets, hull_of, others}
 use Rattle.tsdb_streams.specs.Cleaning.{all_set, is_clean_page, lane_hulls, page_times, picked}
-use Rattle.tsdb_streams.specs.Kept.{stats_range}
+use Rattle.tsdb_streams.specs.KeptPoints.{stats_range}
 use Rattle.tsdb_streams.specs.Lanes.{keep_of, left_pages}
-use Rattle.tsdb_streams.specs.declared.kept.Kept.{Kept}
+use Rattle.tsdb_streams.specs.declared.survival.Kept.{Kept}
 use Rattle.tsdb_streams.specs.declared.lane.Lane.{Lane}
 use Rattle.tsdb_streams.specs.declared.lane.Lane.TheVariants.{Pages, Part}
 use Rattle.tsdb_streams.specs.declared.lane.PageLane.{PageLane}

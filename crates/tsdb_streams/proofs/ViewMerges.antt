@@ -19,8 +19,8 @@ use Rattle.tsdb_base.specs.declared.value.Value.TheVariants.{I64}
 use Rattle.tsdb_streams.proofs.CleanFacts.{inside}
 use Rattle.tsdb_streams.proofs.KeptLemmas.{common_time}
 use Rattle.tsdb_streams.proofs.Views.{AreApart, AreSound, IsFit, Seen, View, ViewsApart, all_of, covered, fit_of, gathered, kept_all, kept_left, lists_left, overlap_swap, passed_of, separate}
-use Rattle.tsdb_streams.specs.Kept.{stats_range}
-use Rattle.tsdb_streams.specs.Parted.{AreStatsInOrder, is_between, points_within}
+use Rattle.tsdb_streams.specs.KeptPoints.{stats_range}
+use Rattle.tsdb_streams.specs.PartedMerge.{AreStatsInOrder, is_between, points_within}
 use Rattle.tsdb_base.specs.Lists.{Among, EachPair, if_some}
 use Rattle.tsdb_base.proofs.Lists.{each_among}
 use Rattle.tsdb_model.specs.Folds.{aggregate_of}

@@ -4,8 +4,8 @@ use Rattle.std.specs.List.{list_any}
 use Rattle.tsdb_base.specs.declared.point.Range.{Range}
 use Rattle.tsdb_base.specs.declared.point.Stats.{Stats}
 use Rattle.tsdb_streams.specs.Clean.{any_meets, hull_of, is_clean, others}
-use Rattle.tsdb_streams.specs.Kept.{stats_range}
-use Rattle.tsdb_streams.specs.declared.kept.Kept.{Kept}
+use Rattle.tsdb_streams.specs.KeptPoints.{stats_range}
+use Rattle.tsdb_streams.specs.declared.survival.Kept.{Kept}
 use Rattle.tsdb_streams.specs.declared.lane.Lane.{Lane}
 use Rattle.tsdb_streams.specs.declared.lane.Lane.TheVariants.{Pages, Part}
 use Rattle.tsdb_index.specs.declared.index.PageEntry.{PageEntry}

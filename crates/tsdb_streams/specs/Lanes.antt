@@ -6,8 +6,8 @@ use Rattle.tsdb_aggregate.specs.Pieces.{overlap}
 use Rattle.tsdb_base.specs.declared.point.Point.{Point}
 use Rattle.tsdb_base.specs.declared.point.Range.{Range}
 use Rattle.tsdb_streams.specs.Files.{FilePages, HasEntryPages, IsTold, IsTruth}
-use Rattle.tsdb_streams.specs.Kept.{is_kept, stats_range}
-use Rattle.tsdb_streams.specs.declared.kept.Kept.{Kept}
+use Rattle.tsdb_streams.specs.KeptPoints.{is_kept, stats_range}
+use Rattle.tsdb_streams.specs.declared.survival.Kept.{Kept}
 use Rattle.tsdb_streams.specs.declared.lane.Lane.{Lane}
 use Rattle.tsdb_streams.specs.declared.lane.Lane.TheVariants.{Pages, Part}
 use Rattle.tsdb_streams.specs.declared.lane.PageLane.{PageLane}

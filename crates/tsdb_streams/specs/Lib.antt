@@ -1,4 +1,4 @@
-pub mod Kept
+pub mod KeptPoints
 pub mod Clean
 pub mod Cleaning
 pub mod Files
@@ -7,7 +7,7 @@ pub mod Order
 pub mod Props
 pub mod Walking
 pub mod Streams
-pub mod Parted
-pub mod Indexed
+pub mod PartedMerge
+pub mod IndexedFiles
 pub mod Pieces
 pub mod Survivors

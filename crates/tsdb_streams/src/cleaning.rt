@@ -1,4 +1,4 @@
-//! The clean pages of a column. Depends on `kept`, `lane`, `ordering` and tsdb_aggregate.
+//! The clean pages of a column. Depends on `survival`, `lane`, `ordering` and tsdb_aggregate.
 ghost use Rattle.std.specs.List.{list_any};
 ghost use Rattle.std.specs.List.Sorted.{IsPermutation};
 ghost use Rattle.std.specs.Prelude.{◌≡◌, ◌<◌, ◌≤ℤ◌, ◌++◌, AllPairs, IfOk, OnOk, flat_map, length, map};
@@ -7,9 +7,9 @@ ghost use Rattle.tsdb_streams.specs.Cleaning.{AreCleaned, IsFlagged, all_set, fl
 ghost use Rattle.tsdb_streams.specs.Cleaning.{lane_passed, picked, whole_of};
 
 use crate::filling::is_passed;
-use crate::kept::{Kept, contains, times_of};
 use crate::lane::Lane;
 use crate::ordering::page_meets;
+use crate::survival::{Kept, contains, times_of};
 use std::alloc::Global;
 use tsdb_aggregate::overlap;
 use tsdb_base::{Memory, Point, Range, Stamp, Stats};

@@ -1,4 +1,4 @@
-//! Taking points of a source, as far as they are kept. Depends on `file`, `kept` and `lane`.
+//! Taking points of a source, as far as they are kept. Depends on `file`, `survival` and `lane`.
 ghost use Rattle.std.specs.Prelude.{◌≡◌, ◌+◌, ◌≤◌, ◌<◌, [], ◌++◌, IfErr, IfOk, OnOk, Some, length};
 ghost use Rattle.tsdb_outside.specs.declared.faults.StoreFault.TheVariants as fault;
 ghost use Rattle.tsdb_merge.specs.Supplies.{IsFilled, Moves};
@@ -9,8 +9,8 @@ ghost use Rattle.tsdb_streams.specs.Lanes.{is_due, is_passed, keep_of, lane_due,
 ghost use Rattle.tsdb_streams.specs.Lanes.{pages_left, part_left};
 
 use crate::file::load_page;
-use crate::kept::{Kept, times_of};
 use crate::lane::{Lane, PageLane, PartLane};
+use crate::survival::{Kept, times_of};
 use std::alloc::Global;
 use tsdb_aggregate::overlap;
 use tsdb_base::{Memory, Point, Range};

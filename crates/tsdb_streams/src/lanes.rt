@@ -5,8 +5,8 @@ ghost use Rattle.tsdb_streams.specs.Files.{FilePages};
 ghost use Rattle.tsdb_streams.specs.Walking.{AreLanesOfStore, AreTrueLanes, LeavesLanes, lanes_left, lanes_most};
 
 use crate::filling::fill_lane;
-use crate::kept::Kept;
 use crate::lane::Lane;
+use crate::survival::Kept;
 use std::alloc::Global;
 use tsdb_base::Point;
 use tsdb_outside::{Port, StoreFault};

@@ -19,8 +19,7 @@ mod cleaning;
 mod counting;
 mod file;
 mod filling;
-mod indexed;
-mod kept;
+mod indexed_files;
 mod lane;
 mod lanes;
 mod laws;
@@ -29,9 +28,10 @@ mod ordering;
 mod pulling;
 mod source;
 mod stream;
+mod survival;
 mod walking;
 
-pub use indexed::{open_index, open_indexed};
+pub use indexed_files::{open_index, open_indexed};
 pub use laws::{
     merged_survivors_are_all, merged_survivors_are_the_values, pieces_merge_as_their_sources,
 };

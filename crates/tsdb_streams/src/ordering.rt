@@ -1,10 +1,10 @@
-//! Whether a page of an entry meets some times. Depends on `kept` and tsdb_aggregate.
+//! Whether a page of an entry meets some times. Depends on `survival` and tsdb_aggregate.
 ghost use Rattle.std.specs.Prelude.{◌≡◌, ◌<◌, IsTrue, length, map};
 ghost use Rattle.tsdb_streams.specs.Clean.{any_meets};
 ghost use Rattle.tsdb_streams.specs.Cleaning.{page_times};
 ghost use Rattle.tsdb_streams.specs.Order.{ArePagesInOrder, IsNextPage};
 
-use crate::kept::times_of;
+use crate::survival::times_of;
 use tsdb_aggregate::overlap;
 use tsdb_base::Range;
 use tsdb_index::PageEntry;

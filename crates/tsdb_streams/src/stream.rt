@@ -1,10 +1,10 @@
-//! The points of one series over several sources. Depends on `lane`, `kept` and tsdb_merge.
+//! The points of one series over several sources. Depends on `lane`, `survival` and tsdb_merge.
 ghost use Rattle.std.specs.Prelude.{◌<◌, ◌^◌, length};
 ghost use Rattle.tsdb_merge.specs.Steps.{IsRootNode};
 ghost use Rattle.tsdb_streams.specs.Props.{root_prop};
 
-use crate::kept::Kept;
 use crate::lane::Lane;
+use crate::survival::Kept;
 use std::alloc::Global;
 use tsdb_merge::Node;
 use tsdb_outside::StoreFault;

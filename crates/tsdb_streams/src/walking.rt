@@ -11,9 +11,9 @@ ghost use Rattle.tsdb_merge.specs.Winners.{TakesTold};
 ghost use Rattle.tsdb_streams.specs.Files.{FilePages};
 ghost use Rattle.tsdb_streams.specs.Walking.{AreLanesOfStore, AreTrueLanes, LeavesLanes, lanes_left, lanes_most};
 
-use crate::kept::Kept;
 use crate::lane::Lane;
 use crate::lanes::fill_one;
+use crate::survival::Kept;
 use std::alloc::Global;
 use tsdb_base::Point;
 use tsdb_merge::{Head, Node, into_point, pop, take_next};

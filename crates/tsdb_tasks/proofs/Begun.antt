@@ -13,7 +13,7 @@ use Rattle.tsdb_tasks.specs.Inputs.{AreHeld, IsHeld, TakesInputs, TakesEntries, 
 use Rattle.tsdb_tasks.specs.declared.finishing.InputRuns.{InputRuns}
 use Rattle.tsdb_compactions.specs.Jobs.{input_file}
 use Rattle.tsdb_compactions.specs.declared.job.Input.{Input}
-use Rattle.tsdb_fileset.specs.Held.{listed}
+use Rattle.tsdb_fileset.specs.StateOfFiles.{listed}
 use Rattle.tsdb_fileset.specs.Files.{KeepsLists, KeptFiles, kept_file}
 use Rattle.tsdb_fileset.specs.Places.{ArePlacesMade, KeptFile, OnlyMakesPlaces, place_of_number}
 use Rattle.tsdb_fileset.specs.Replacing.{compaction_room}

@@ -12,13 +12,13 @@ use Rattle.tsdb_compactions.proofs.Memory.{content_of_part}
 use Rattle.tsdb_compactions.specs.BuiltParts.{IsContentOfPart, IsJobOf, IsPart}
 use Rattle.tsdb_tasks.proofs.Parts.{is_part}
 use Rattle.tsdb_tasks.specs.Files.{IsOfPart, NewFile, known_entry, file_number}
-use Rattle.tsdb_fileset.specs.Held.{entry_of}
+use Rattle.tsdb_fileset.specs.StateOfFiles.{entry_of}
 use Rattle.tsdb_compactions.specs.FlushJobs.{IsJob, job_part}
 use Rattle.tsdb_compactions.specs.Parts.{Filled, IsNumberDrawnFor}
 use Rattle.tsdb_compactions.specs.FlushJob.{FlushJob}
 use Rattle.tsdb_state.specs.Places.{Content}
 use Rattle.tsdb_model.specs.declared.command.Schema.{Schema}
-use Rattle.tsdb_memory.specs.Shown.{IsPairContent as IsShownAs}
+use Rattle.tsdb_memory.specs.StateOfMemory.{IsPairContent as IsShownAs}
 use Rattle.tsdb_outside.specs.Files.{Store}
 use Rattle.tsdb_pages.specs.File.{IsFile}
 use Rattle.tsdb_pages.specs.Trees.{IsMade, IsTree}

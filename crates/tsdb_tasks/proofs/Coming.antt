@@ -14,8 +14,8 @@ use Rattle.tsdb_tasks.proofs.Stored.{each_of_job, each_told, files_differ, not_a
 use Rattle.tsdb_tasks.specs.Coming.{AreSentOut, HaveCome, StandLast, outgoing_of}
 use Rattle.tsdb_tasks.specs.Files.{AreAllThere, AreFilesOfJob, IsOutAs, NewFile, NewFiles, TellBytes, all_of, kept_with}
 use Rattle.tsdb_tasks.specs.Files.{known_entry, known_with, file_number, built_numbers, state_files, told_after_flush}
-use Rattle.tsdb_fileset.specs.Held.{AreFilesOf, TellTheirBytes, entry_of, outgoing_file, listed}
-use Rattle.tsdb_state.specs.Stored.{kept_bytes}
+use Rattle.tsdb_fileset.specs.StateOfFiles.{AreFilesOf, TellTheirBytes, entry_of, outgoing_file, listed}
+use Rattle.tsdb_state.specs.StoredEngine.{kept_bytes}
 use Rattle.tsdb_compactions.specs.FlushJob.{FlushJob}
 use Rattle.tsdb_fileset.proofs.Counts.{counted}
 use Rattle.tsdb_fileset.specs.Files.{KeptFiles, kept_file}
@@ -24,7 +24,7 @@ use Rattle.tsdb_base.proofs.Lists.{among_left, among_map, among_right, any_among
 use Rattle.tsdb_base.proofs.Lists.{each_from_among}
 use Rattle.tsdb_base.proofs.Lists.{each_map}
 use Rattle.tsdb_base.specs.Lists.{Among, count, if_some}
-use Rattle.tsdb_memory.specs.Logged.{IsStoredIn, Outside}
+use Rattle.tsdb_memory.specs.LogState.{IsStoredIn, Outside}
 use Rattle.tsdb_memory.proofs.Frozen.{image_of}
 use Rattle.tsdb_outside.specs.Files.{Store}
 use Rattle.tsdb_plan.specs.declared.entry.FileEntry.{FileEntry}

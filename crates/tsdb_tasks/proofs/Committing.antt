@@ -15,9 +15,9 @@ use Rattle.tsdb_tasks.proofs.Stored.{at_sequence, at_unsequence, stored_with, to
 use Rattle.tsdb_tasks.specs.Files.{AreAllThere, AreFilesOfJob, IsOutAs, NewFile, NewFiles, TellBytes, all_of}
 use Rattle.tsdb_tasks.specs.Files.{known_entry}
 use Rattle.tsdb_tasks.specs.Files.{kept_with, known_with, file_number, state_files, told_after_flush, with_files}
-use Rattle.tsdb_fileset.specs.Held.{listed}
+use Rattle.tsdb_fileset.specs.StateOfFiles.{listed}
 use Rattle.tsdb_state.proofs.ImageLemmas.Storing.{end_flush_stored}
-use Rattle.tsdb_state.specs.Stored.{IsKeptWhole, built_files}
+use Rattle.tsdb_state.specs.StoredEngine.{IsKeptWhole, built_files}
 use Rattle.tsdb_compactions.specs.FlushJob.{FlushJob}
 use Rattle.tsdb_fileset.proofs.Counts.{counted}
 use Rattle.tsdb_base.proofs.Lists.{among_left, among_right, any_among, count_append, each_among, each_append}
@@ -26,11 +26,11 @@ use Rattle.tsdb_base.proofs.Lists.{each_right, with_one_is}
 use Rattle.tsdb_base.specs.Lists.{Among, EachPair, IsWithOne, count, if_some}
 use Rattle.tsdb_state.specs.Places.{Content}
 use Rattle.tsdb_memory.specs.Flushes.{CanCommit}
-use Rattle.tsdb_memory.specs.Logged.{IsStoredIn, Outside}
+use Rattle.tsdb_memory.specs.LogState.{IsStoredIn, Outside}
 use Rattle.tsdb_memory.proofs.Counts.{among_either}
 use Rattle.tsdb_memory.proofs.Frozen.{image_of}
 use Rattle.tsdb_memory.specs.Least.{IsLeastOf}
-use Rattle.tsdb_memory.specs.Shown.{file_borns}
+use Rattle.tsdb_memory.specs.StateOfMemory.{file_borns}
 use Rattle.tsdb_outside.specs.Files.{Store}
 use Rattle.tsdb_state.specs.Jobs.{Describes, drawn_by}
 use Rattle.tsdb_state.proofs.Numbering.{count_with_one}

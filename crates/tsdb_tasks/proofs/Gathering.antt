@@ -12,14 +12,14 @@ use Rattle.tsdb_tasks.specs.Series.{AreOfPaths, HasPathNames, input_path, run_pa
 use Rattle.tsdb_tasks.specs.Series.{series_in}
 use Rattle.tsdb_tasks.specs.declared.finishing.InputRuns.{InputRuns}
 use Rattle.tsdb_tasks.specs.declared.series.InputSeries.{InputSeries}
-use Rattle.tsdb_fileset.specs.Held.{listed}
+use Rattle.tsdb_fileset.specs.StateOfFiles.{listed}
 use Rattle.tsdb_fileset.specs.Files.{KeptFiles, kept_file}
 use Rattle.tsdb_fileset.specs.Places.{KeptFile}
 use Rattle.tsdb_base.proofs.Lists.{each_append}
 use Rattle.tsdb_base.specs.Lists.{if_some}
 use Rattle.tsdb_model.specs.declared.command.Schema.{Schema}
 use Rattle.tsdb_memory.proofs.Numbers.{some_same}
-use Rattle.tsdb_memory.specs.Shown.{number_of}
+use Rattle.tsdb_memory.specs.StateOfMemory.{number_of}
 use Rattle.tsdb_plan.specs.declared.entry.FileEntry.{FileEntry}
 use Rattle.tsdb_state.specs.State.{File}
 

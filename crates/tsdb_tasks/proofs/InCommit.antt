@@ -17,7 +17,7 @@ use Rattle.tsdb_tasks.specs.States.{AreInputsIn, IsFresh, IsNewOf, IsPlaceOf, se
 use Rattle.tsdb_tasks.specs.declared.finishing.InputRuns.{InputRuns}
 use Rattle.tsdb_compactions.specs.Jobs.{IsCompactionOf}
 use Rattle.tsdb_compactions.specs.declared.job.Job.{Job}
-use Rattle.tsdb_fileset.specs.Held.{AreFilesOf, entry_of, outgoing_file, listed}
+use Rattle.tsdb_fileset.specs.StateOfFiles.{AreFilesOf, entry_of, outgoing_file, listed}
 use Rattle.tsdb_fileset.proofs.Replaced.{run_parts}
 use Rattle.tsdb_fileset.specs.Files.{AreKept, IsOpen, KeptFiles, kept_file}
 use Rattle.tsdb_fileset.specs.Places.{KeptFile}

@@ -15,7 +15,7 @@ use Rattle.tsdb_tasks.specs.States.{AreInputsIn, IsPlaceOf}
 use Rattle.tsdb_tasks.specs.declared.finishing.InputRuns.{InputRuns}
 use Rattle.tsdb_compactions.specs.Jobs.{IsCompactionOf}
 use Rattle.tsdb_compactions.specs.declared.job.Job.{Job}
-use Rattle.tsdb_fileset.specs.Held.{AreFilesOf, listed}
+use Rattle.tsdb_fileset.specs.StateOfFiles.{AreFilesOf, listed}
 use Rattle.tsdb_fileset.specs.Files.{AreKept, KeptFiles, entry_numbers}
 use Rattle.tsdb_fileset.specs.Replacing.{run_length}
 use Rattle.tsdb_base.specs.Lists.{IsRun, count}

@@ -23,7 +23,7 @@ use Rattle.tsdb_tasks.specs.States.{IsFresh, sent_files}
 use Rattle.tsdb_compactions.specs.Jobs.{IsCompactionOf, input_file}
 use Rattle.tsdb_compactions.specs.declared.job.Input.{Input}
 use Rattle.tsdb_compactions.specs.declared.job.Job.{Job}
-use Rattle.tsdb_fileset.specs.Held.{AreFilesOf, entry_of, outgoing_file, listed}
+use Rattle.tsdb_fileset.specs.StateOfFiles.{AreFilesOf, entry_of, outgoing_file, listed}
 use Rattle.tsdb_fileset.proofs.Replaced.{run_parts}
 use Rattle.tsdb_fileset.specs.Files.{AreKept, IsOpen, KeptFiles, entries_in, entry_numbers, kept_file, all_numbers}
 use Rattle.tsdb_fileset.specs.Places.{KeptFile, file_at, place_of_number}

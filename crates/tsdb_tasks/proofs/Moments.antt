@@ -18,7 +18,7 @@ use Rattle.tsdb_tasks.specs.declared.finishing.InputRuns.{InputRuns}
 use Rattle.tsdb_tasks.specs.declared.series.JobSeries.{JobSeries}
 use Rattle.tsdb_compactions.specs.Outputs.{HasSchema}
 use Rattle.tsdb_compactions.specs.Plans.{IsOfMoment}
-use Rattle.tsdb_fileset.specs.Held.{AreFilesOf, entry_of, listed}
+use Rattle.tsdb_fileset.specs.StateOfFiles.{AreFilesOf, entry_of, listed}
 use Rattle.tsdb_fileset.proofs.Replaced.{run_parts}
 use Rattle.tsdb_fileset.specs.Files.{AreKept, KeptFiles, entries_in, kept_file}
 use Rattle.tsdb_fileset.specs.Places.{KeptFile}
@@ -34,8 +34,8 @@ use Rattle.tsdb_marks.specs.Lists.{is_of}
 use Rattle.tsdb_marks.specs.declared.marks.Mark.{Mark}
 use Rattle.tsdb_memory.proofs.Counts.{among_either}
 use Rattle.tsdb_memory.proofs.Frozen.{image_of}
-use Rattle.tsdb_memory.specs.Shown.{IsMemoryOf}
-use Rattle.tsdb_memory.specs.Shown as shown
+use Rattle.tsdb_memory.specs.StateOfMemory.{IsMemoryOf}
+use Rattle.tsdb_memory.specs.StateOfMemory as shown
 use Rattle.tsdb_memory.specs.Store.{MemoryState}
 use Rattle.tsdb_plan.specs.declared.entry.FileEntry.{FileEntry}
 use Rattle.tsdb_plan.specs.declared.entry.Run.{Run}

@@ -6,7 +6,7 @@ use Rattle.std.proofs.lemmas.Bool.{eq-eqb, eqb-true, false≢true}
 use Rattle.std.specs.List.{AllByRecursion as Each, find, flat_map, list_any}
 use Rattle.tsdb_tasks.specs.Files.{NewFile, NewFiles, all_of, at_file, kept_with, file_number, built_numbers, stored_of}
 use Rattle.tsdb_state.proofs.ImageLemmas.Kept.{found_bytes, found_without, has_number}
-use Rattle.tsdb_state.specs.Stored.{kept_bytes, without_numbers}
+use Rattle.tsdb_state.specs.StoredEngine.{kept_bytes, without_numbers}
 use Rattle.tsdb_base.proofs.Lists.{among_map, any_among, each_among}
 use Rattle.tsdb_base.specs.Lists.{Among, EachPair, if_some}
 use Rattle.tsdb_outside.specs.Files.{StoredFile}

@@ -19,7 +19,7 @@ use Rattle.tsdb_tasks.specs.declared.finishing.InputRuns.{InputRuns}
 use Rattle.tsdb_tasks.specs.declared.series.JobSeries.{JobSeries}
 use Rattle.tsdb_compactions.specs.Jobs.{IsCompactionOf, IsJobFormed}
 use Rattle.tsdb_compactions.specs.declared.job.Job.{Job}
-use Rattle.tsdb_fileset.specs.Held.{listed}
+use Rattle.tsdb_fileset.specs.StateOfFiles.{listed}
 use Rattle.tsdb_fileset.proofs.Replaced.{run_parts}
 use Rattle.tsdb_fileset.specs.Files.{IsOpen, KeptFiles, entry_numbers, kept_file}
 use Rattle.tsdb_fileset.specs.Places.{KeptFile}

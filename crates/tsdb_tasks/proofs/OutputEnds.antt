@@ -10,10 +10,10 @@ use Rattle.tsdb_base.proofs.Lists.{among_left, with_one_is}
 use Rattle.tsdb_state.specs.Layers.{value_in}
 use Rattle.tsdb_base.specs.Lists.{Among, IsWithOne, count}
 use Rattle.tsdb_state.specs.Places.{Content}
-use Rattle.tsdb_memory.specs.Logged.{IsStoredIn, Outside}
+use Rattle.tsdb_memory.specs.LogState.{IsStoredIn, Outside}
 use Rattle.tsdb_memory.specs.Replacing.{CanCommitReplacement}
 use Rattle.tsdb_memory.specs.Least.{IsLeastOf}
-use Rattle.tsdb_memory.specs.Shown.{file_borns}
+use Rattle.tsdb_memory.specs.StateOfMemory.{file_borns}
 use Rattle.tsdb_tasks.proofs.OutputsTold.{known_output, output_kept, stored_with, told_output, told_same}
 use Rattle.tsdb_tasks.specs.Outputs.{IsNewOutput, output_file, with_output}
 use Rattle.tsdb_state.proofs.OtherJobs.{inputs_listed}

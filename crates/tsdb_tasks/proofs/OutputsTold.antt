@@ -7,11 +7,11 @@ use Rattle.tsdb_tasks.proofs.Doubts.{told_elsewhere}
 use Rattle.tsdb_tasks.proofs.Numbers.{at_itself, at_other, kept_new, kept_other}
 use Rattle.tsdb_tasks.specs.Files.{NewFile, at_file, kept_with, known_entry, file_number}
 use Rattle.tsdb_state.proofs.ImageLemmas.Kept.{whole_as}
-use Rattle.tsdb_state.specs.Stored.{IsKeptWhole, kept_bytes}
+use Rattle.tsdb_state.specs.StoredEngine.{IsKeptWhole, kept_bytes}
 use Rattle.tsdb_base.proofs.Lists.{among_left, among_map, among_right, each_among, each_from_among}
 use Rattle.tsdb_base.specs.Lists.{Among, IsWithOne, count}
 use Rattle.tsdb_state.specs.Places.{Content, PointPlace}
-use Rattle.tsdb_memory.specs.Logged.{IsStoredIn, Outside}
+use Rattle.tsdb_memory.specs.LogState.{IsStoredIn, Outside}
 use Rattle.tsdb_model.specs.World.{World}
 use Rattle.tsdb_tasks.specs.Outputs.{IsNewOutput, only_output, output_file, with_output}
 use Rattle.tsdb_state.specs.Stores.{IsTreeContent}

@@ -24,7 +24,7 @@ use Rattle.tsdb_memory.proofs.Frozen.{image_of}
 use Rattle.tsdb_memory.proofs.Numbers.{schema_at, some_same}
 use Rattle.tsdb_memory.proofs.Raises.{all_at}
 use Rattle.tsdb_memory.specs.Model.{IsFormed, IsSoundMemory}
-use Rattle.tsdb_memory.specs.Shown.{number_of}
+use Rattle.tsdb_memory.specs.StateOfMemory.{number_of}
 use Rattle.tsdb_memory.specs.Store.{MemoryState}
 use Rattle.tsdb_path.specs.Nodes.{device_of, measurement_of, node_count}
 

@@ -16,9 +16,9 @@ use Rattle.tsdb_tasks.specs.Files.{AreFilesOfJob, IsOfPart, IsOutAs, NewFile, Ne
 use Rattle.tsdb_tasks.specs.Files.{kept_with, known_entry, known_with, file_number, built_numbers, state_files}
 use Rattle.tsdb_tasks.specs.Files.{told_after_flush}
 use Rattle.tsdb_tasks.specs.Files.{with_files}
-use Rattle.tsdb_fileset.specs.Held.{listed}
+use Rattle.tsdb_fileset.specs.StateOfFiles.{listed}
 use Rattle.tsdb_state.proofs.ImageLemmas.Kept.{whole_as}
-use Rattle.tsdb_state.specs.Stored.{IsKeptWhole, kept_bytes}
+use Rattle.tsdb_state.specs.StoredEngine.{IsKeptWhole, kept_bytes}
 use Rattle.tsdb_compactions.specs.FlushJobs.{job_part}
 use Rattle.tsdb_compactions.specs.FlushJob.{FlushJob}
 use Rattle.tsdb_fileset.proofs.Counts.{counted}
@@ -27,7 +27,7 @@ use Rattle.tsdb_base.proofs.Lists.{each_append}
 use Rattle.tsdb_base.proofs.Lists.{each_from_among, each_left, each_map, each_right}
 use Rattle.tsdb_base.specs.Lists.{Among, EachPair, count, if_some}
 use Rattle.tsdb_state.specs.Places.{PointPlace}
-use Rattle.tsdb_memory.specs.Logged.{IsStoredIn, Outside}
+use Rattle.tsdb_memory.specs.LogState.{IsStoredIn, Outside}
 use Rattle.tsdb_model.specs.World.{World}
 use Rattle.tsdb_memory.proofs.Frozen.{image_of}
 use Rattle.tsdb_outside.specs.Files.{Store}

@@ -13,7 +13,7 @@ use Rattle.tsdb_tasks.specs.Inputs.{AreHeld, IsHeld, IsOneTaken, TakesInputs, Ta
 use Rattle.tsdb_tasks.specs.Inputs.{input_numbers}
 use Rattle.tsdb_compactions.specs.Jobs.{input_file}
 use Rattle.tsdb_compactions.specs.declared.job.Input.{Input}
-use Rattle.tsdb_fileset.specs.Held.{listed}
+use Rattle.tsdb_fileset.specs.StateOfFiles.{listed}
 use Rattle.tsdb_fileset.specs.Files.{AreKept, KeepsLists, KeptFiles, entries_in, entry_numbers, kept_file, all_numbers}
 use Rattle.tsdb_fileset.specs.Files.{outgoing_numbers}
 use Rattle.tsdb_fileset.specs.Places.{KeptFile, OthersStay}

@@ -19,8 +19,8 @@ use Rattle.tsdb_tasks.specs.declared.series.JobSeries.{JobSeries}
 use Rattle.tsdb_compactions.specs.Jobs.{input_file}
 use Rattle.tsdb_compactions.specs.Outputs.{IsOneTold, IsInputRead, TellsTruth}
 use Rattle.tsdb_compactions.specs.declared.job.Input.{Input}
-use Rattle.tsdb_fileset.specs.Held.{AreFilesOf, TellTheirBytes, listed}
-use Rattle.tsdb_state.specs.Stored.{IsKeptWhole, kept_bytes}
+use Rattle.tsdb_fileset.specs.StateOfFiles.{AreFilesOf, TellTheirBytes, listed}
+use Rattle.tsdb_state.specs.StoredEngine.{IsKeptWhole, kept_bytes}
 use Rattle.tsdb_fileset.specs.Files.{AreKept, KeptFiles, kept_file, all_numbers}
 use Rattle.tsdb_fileset.specs.Places.{KeptFile}
 use Rattle.tsdb_fileset.specs.Replacing.{IsWithin}
@@ -28,7 +28,7 @@ use Rattle.tsdb_fileset.specs.Rights.{IsRightTo}
 use Rattle.tsdb_base.proofs.Lists.{among_left, among_map, among_right, count_append, each_among, each_from_among}
 use Rattle.tsdb_state.specs.Layers.{value_in}
 use Rattle.tsdb_base.specs.Lists.{Among, EachPair, count, if_some}
-use Rattle.tsdb_memory.specs.Shown.{IsMemoryOf}
+use Rattle.tsdb_memory.specs.StateOfMemory.{IsMemoryOf}
 use Rattle.tsdb_memory.specs.Store.{MemoryState}
 use Rattle.tsdb_outside.specs.Files.{NamedFile, StoredFile}
 use Rattle.tsdb_state.proofs.Fresh.{count_here}

@@ -7,7 +7,7 @@ use Rattle.tsdb_tasks.specs.declared.beginning.TakenInputs.{TakenInputs}
 use Rattle.tsdb_tasks.specs.declared.finishing.InputRuns.{InputRuns}
 use Rattle.tsdb_compactions.specs.Jobs.{input_file}
 use Rattle.tsdb_compactions.specs.declared.job.Input.{Input}
-use Rattle.tsdb_fileset.specs.Held.{listed}
+use Rattle.tsdb_fileset.specs.StateOfFiles.{listed}
 use Rattle.tsdb_fileset.specs.Files.{IsOpen, KeepsLists, KeptFiles, kept_file}
 use Rattle.tsdb_fileset.specs.Replacing.{claim_run, compaction_room}
 use Rattle.tsdb_fileset.specs.Room.{more_room}

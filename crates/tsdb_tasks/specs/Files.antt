@@ -5,8 +5,8 @@ use Rattle.std.specs.Option.{option_map}
 use Rattle.tsdb_base.specs.declared.ids.FileNumber.{FileNumber}
 use Rattle.tsdb_base.specs.declared.ids.Space.TheVariants.{Sequence, Unsequence}
 use Rattle.tsdb_compactions.specs.Flushes.{IsFlushOf}
-use Rattle.tsdb_fileset.specs.Held.{entry_of, listed}
-use Rattle.tsdb_state.specs.Stored.{without_numbers}
+use Rattle.tsdb_fileset.specs.StateOfFiles.{entry_of, listed}
+use Rattle.tsdb_state.specs.StoredEngine.{without_numbers}
 use Rattle.tsdb_compactions.specs.FlushBuilt.{IsBuiltOf, IsPartDone}
 use Rattle.tsdb_compactions.specs.FlushJobs.{IsJob, job_part}
 use Rattle.tsdb_compactions.specs.Parts.{Filled}
@@ -15,7 +15,7 @@ use Rattle.tsdb_compactions.specs.FlushJob.{FlushJob}
 use Rattle.tsdb_compactions.specs.Flushed.{Flushed}
 use Rattle.tsdb_fileset.specs.Places.{KeptFile}
 use Rattle.tsdb_base.specs.Lists.{IsWithOne, if_some}
-use Rattle.tsdb_memory.specs.Logged.{Outside}
+use Rattle.tsdb_memory.specs.LogState.{Outside}
 use Rattle.tsdb_outside.specs.Files.{NamedFile, Store, StoredFile}
 use Rattle.tsdb_plan.specs.declared.entry.FileEntry.{FileEntry}
 use Rattle.tsdb_state.specs.State as state

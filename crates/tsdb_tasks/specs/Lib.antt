@@ -14,7 +14,7 @@ pub use Rattle.tsdb_compactions.specs.declared.job.Job
 pub use Rattle.tsdb_compactions.specs.declared.job.Input
 pub use Rattle.tsdb_compactions.specs.Plans
 pub use Rattle.tsdb_pin.specs.Pins
-pub use Rattle.tsdb_pin.specs.Shown
+pub use Rattle.tsdb_pin.specs.StateOfPin
 pub use Rattle.tsdb_pin.specs.declared.pin.Pin
 pub use Rattle.tsdb_pin.specs.declared.pin.PinnedSource
 pub use Rattle.tsdb_pin.specs.declared.pin.PinnedSource.TheVariants

@@ -2,10 +2,10 @@
 use Rattle.std.specs.Prelude.{◌≡◌, ℕ, List, [], ◌∷◌, None, Some}
 use Rattle.std.specs.FinMap.{get}
 use Rattle.tsdb_tasks.specs.Files.{NewFile, NewFiles, at_file, kept_with, known_entry, file_number}
-use Rattle.tsdb_fileset.specs.Held.{listed}
+use Rattle.tsdb_fileset.specs.StateOfFiles.{listed}
 use Rattle.tsdb_state.specs.Layers.{value_in}
 use Rattle.tsdb_state.specs.Places.{Content, PointPlace}
-use Rattle.tsdb_memory.specs.Logged.{Outside}
+use Rattle.tsdb_memory.specs.LogState.{Outside}
 use Rattle.tsdb_pages.specs.File.{IsFile}
 use Rattle.tsdb_pages.specs.Trees.{IsMade, IsTree}
 use Rattle.tsdb_pages.specs.declared.tree.Tree.{Tree}

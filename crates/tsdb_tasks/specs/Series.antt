@@ -13,7 +13,7 @@ use Rattle.tsdb_base.specs.Lists.{Among, EachPair, if_some}
 use Rattle.tsdb_model.specs.Commands.{IsSchema}
 use Rattle.tsdb_model.specs.declared.command.Schema.{Schema}
 use Rattle.tsdb_marks.specs.Lists.{is_of}
-use Rattle.tsdb_memory.specs.Shown.{number_of}
+use Rattle.tsdb_memory.specs.StateOfMemory.{number_of}
 use Rattle.tsdb_memory.specs.Store.{MemoryState}
 use Rattle.tsdb_path.specs.Nodes.{device_of, measurement_of, node_count}
 

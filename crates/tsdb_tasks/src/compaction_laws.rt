@@ -14,13 +14,13 @@ ghost use Rattle.tsdb_tasks.specs.declared.series.JobSeries.{JobSeries as Series
 ghost use Rattle.tsdb_compactions.specs.Jobs.{IsCompactionOf};
 ghost use Rattle.tsdb_compactions.specs.Outputs.{HasSchema};
 ghost use Rattle.tsdb_compactions.specs.Plans.{IsOfMoment};
-ghost use Rattle.tsdb_fileset.specs.Held.{AreFilesOf, TellTheirBytes};
+ghost use Rattle.tsdb_fileset.specs.StateOfFiles.{AreFilesOf, TellTheirBytes};
 ghost use Rattle.tsdb_fileset.specs.Files.{AreKept, IsOpen, KeptFiles};
 ghost use Rattle.tsdb_fileset.specs.Replacing.{IsWithin};
 ghost use Rattle.tsdb_state.specs.Layers.{value_in};
 ghost use Rattle.tsdb_state.specs.Places.{PointPlace};
 ghost use Rattle.tsdb_marks.specs.declared.marks.Mark.{Mark};
-ghost use Rattle.tsdb_memory.specs.Shown.{IsMemoryOf};
+ghost use Rattle.tsdb_memory.specs.StateOfMemory.{IsMemoryOf};
 ghost use Rattle.tsdb_memory.specs.Store.{MemoryState};
 ghost use Rattle.tsdb_outside.specs.Files.{StoredFile};
 ghost use Rattle.tsdb_state.specs.Jobs.{HasKind, Stands, job_inputs};

@@ -27,7 +27,7 @@ use Rattle.tsdb_base.specs.Points.{IsRising}
 use Rattle.tsdb_pages.specs.Pages.{ArePoints, IsInRange}
 use Rattle.tsdb_pages.specs.Trees.{IsBefore, IsChunk, IsGroup, IsMade, chunks_of, page_points}
 use Rattle.tsfile_writer.specs.declared.layout.OpenChunk.{OpenChunk}
-use Rattle.tsfile_writer.specs.Given.{AreChunksOf, IsChunkOf, IsMadeSeries, IsTreeOf, MayBeFollowedBy, GivenSeries, placed, given_series}
+use Rattle.tsfile_writer.specs.BuilderInput.{AreChunksOf, IsChunkOf, IsMadeSeries, IsTreeOf, MayBeFollowedBy, GivenSeries, placed, given_series}
 use Rattle.tsfile_writer.specs.Steps.{AreChunks, AreGroupsWritten, start_if}
 use Rattle.tsfile_writer.specs.Building.{AreClosed, AreGrouped, BeginsGroup, BuildState, IsOpenOf, PutsIn}
 use Rattle.tsdb_pages.proofs.Entries.{flat_push}

@@ -12,7 +12,7 @@ use Rattle.tsdb_pages.proofs.Order.{pairs_across}
 use Rattle.tsfile_writer.specs.declared.builder.Builder.{Builder}
 use Rattle.tsfile_writer.specs.Building.{WasGiven}
 use Rattle.tsfile_writer.specs.Driving.{HasLast, IsBare}
-use Rattle.tsfile_writer.specs.Given.{MayTake, GivenSeries, given_series, with_last_point}
+use Rattle.tsfile_writer.specs.BuilderInput.{MayTake, GivenSeries, given_series, with_last_point}
 use Rattle.tsfile_writer.proofs.Grouping.{all_behind}
 
 -- the last series at this path has the points before the rest

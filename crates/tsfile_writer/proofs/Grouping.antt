@@ -9,7 +9,7 @@ use Rattle.tsdb_pages.specs.declared.tree.Page.{Page}
 use Rattle.tsdb_pages.specs.declared.tree.Chunk.{Chunk}
 use Rattle.tsdb_pages.specs.declared.tree.Group.{Group}
 use Rattle.tsdb_pages.specs.Trees.{IsBefore}
-use Rattle.tsfile_writer.specs.Given.{AreChunksOf, AreFilled, IsChunkOf, GivenSeries, placed}
+use Rattle.tsfile_writer.specs.BuilderInput.{AreChunksOf, AreFilled, IsChunkOf, GivenSeries, placed}
 use Rattle.tsdb_pages.proofs.Entries.{flat_push}
 
 -- ---- lists

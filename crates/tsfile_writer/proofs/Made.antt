@@ -11,7 +11,7 @@ use Rattle.tsdb_pages.specs.declared.tree.Group.{Group}
 use Rattle.tsdb_pages.specs.declared.tree.Tree.{Tree}
 use Rattle.tsdb_pages.specs.Pages.{IsInRange}
 use Rattle.tsdb_pages.specs.Trees.{HasParts, IsGroup, IsMade, chunks_of, page_points}
-use Rattle.tsfile_writer.specs.Given.{AreChunksOf, IsChunkOf, IsMadeSeries, IsTreeOf, GivenSeries, placed}
+use Rattle.tsfile_writer.specs.BuilderInput.{AreChunksOf, IsChunkOf, IsMadeSeries, IsTreeOf, GivenSeries, placed}
 use Rattle.tsfile_writer.proofs.Appending.{more_taken}
 
 -- ---- the tree of series

@@ -17,7 +17,7 @@ use Rattle.tsdb_pages.specs.declared.tree.Group.{Group}
 use Rattle.tsdb_pages.specs.declared.tree.Tree.{Tree}
 use Rattle.tsdb_pages.specs.File.{IsFile}
 use Rattle.tsdb_pages.specs.Trees.{IsBefore, IsGroup, page_points}
-use Rattle.tsfile_writer.specs.Given.{AreChunksOf, AreFilled, IsChunkOf, IsTreeOf, GivenSeries, placed}
+use Rattle.tsfile_writer.specs.BuilderInput.{AreChunksOf, AreFilled, IsChunkOf, IsTreeOf, GivenSeries, placed}
 
 -- ---- pages filled in turn
 

@@ -20,7 +20,7 @@ use Rattle.tsdb_pages.specs.Pages.{ArePoints, IsInRange}
 use Rattle.tsdb_pages.specs.Trees.{page_points}
 use Rattle.tsdb_pages.proofs.Order.{pairs_across, pairs_behind, pairs_push, rises}
 use Rattle.tsfile_writer.specs.declared.layout.OpenChunk.{OpenChunk}
-use Rattle.tsfile_writer.specs.Given.{IsMadeSeries, MayTake, GivenSeries, with_last_point}
+use Rattle.tsfile_writer.specs.BuilderInput.{IsMadeSeries, MayTake, GivenSeries, with_last_point}
 use Rattle.tsfile_writer.specs.Steps.{AreChunks, ArePages, IsChunkBegun, start_if}
 use Rattle.tsfile_writer.specs.Building.{BeginsGroup, BuildState, IsOpenOf, IsStarted, PutsIn, SameIfAny, StandInChunk}
 use Rattle.tsdb_pages.proofs.Entries.{count_pages, flat_push}

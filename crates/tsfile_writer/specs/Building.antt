@@ -18,7 +18,7 @@ use Rattle.tsdb_pages.specs.Trees.{IsBefore, IsChunk, IsGroup, page_points}
 use Rattle.tsfile_writer.specs.declared.builder.Builder.{Builder}
 use Rattle.tsfile_writer.specs.declared.builder.OpenSeries.{OpenSeries}
 use Rattle.tsfile_writer.specs.declared.layout.OpenChunk.{OpenChunk}
-use Rattle.tsfile_writer.specs.Given.{AreChunksOf, IsMadeSeries, GivenSeries, placed}
+use Rattle.tsfile_writer.specs.BuilderInput.{AreChunksOf, IsMadeSeries, GivenSeries, placed}
 use Rattle.tsfile_writer.specs.Steps.{AreChunks, ArePages, IsChunkBegun, IsLonger, SameChunk}
 use Rattle.tsfile_writer.specs.Steps.{start_if}
 

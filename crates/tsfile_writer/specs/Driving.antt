@@ -5,7 +5,7 @@ use Rattle.tsdb_base.specs.declared.value.Encoding.{Encoding}
 use Rattle.tsdb_path.specs.Nodes.{device_of, measurement_of}
 use Rattle.tsfile_writer.specs.declared.builder.Builder.{Builder}
 use Rattle.tsfile_writer.specs.Building.{WasGiven}
-use Rattle.tsfile_writer.specs.Given.{GivenSeries, given_series}
+use Rattle.tsfile_writer.specs.BuilderInput.{GivenSeries, given_series}
 
 -- the last series is at this path and has no points
 pub record IsBare (path : List ℕ) (data_type : DataType) (encoding : Encoding) (builder : Builder) : Type 0 where

@@ -15,8 +15,8 @@ ghost use Rattle.tsdb_pages.specs.Trees.{IsMade};
 ghost use Rattle.tsdb_path.specs.Nodes.{IsPath, device_of as device_in, measurement_of as measurement_in, node_count};
 ghost use Rattle.tsfile_writer.specs.Building.{AreClosed, BeginsGroup, IsBuilding, IsStarted, PutsIn, SameIfAny};
 ghost use Rattle.tsfile_writer.specs.Building.{SameSeries, WasGiven};
-ghost use Rattle.tsfile_writer.specs.Given.{IsTreeOf, MayBeFollowedBy, MayTake, GivenSeries, given_series};
-ghost use Rattle.tsfile_writer.specs.Given.{with_last_point};
+ghost use Rattle.tsfile_writer.specs.BuilderInput.{IsTreeOf, MayBeFollowedBy, MayTake, GivenSeries, given_series};
+ghost use Rattle.tsfile_writer.specs.BuilderInput.{with_last_point};
 
 use crate::fault::BuildFault;
 use crate::layout::{OpenChunk, append_chunk, append_end, append_group_start};

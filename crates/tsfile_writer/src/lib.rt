@@ -7,8 +7,8 @@ mod builder;
 mod fault;
 mod laws;
 mod layout;
-mod told;
 mod tree;
+mod tree_facts;
 
 pub use builder::Builder;
 pub use fault::BuildFault;

@@ -1,4 +1,4 @@
-//! Writing the file of a tree. Depends on `layout` and `told`.
+//! Writing the file of a tree. Depends on `layout` and `tree_facts`.
 ghost use Rattle.std.specs.Prelude.{◌≡◌, List, [], ◌∷◌, ◌++◌, true, IfOk, OnOk};
 ghost use Rattle.tsdb_pages.specs.declared.tree.Chunk.{Chunk as ChunkOf};
 ghost use Rattle.tsdb_pages.specs.declared.tree.Group.{Group as GroupOf};
@@ -7,7 +7,7 @@ ghost use Rattle.tsdb_pages.specs.Trees.{IsChunk, IsGroup, IsMade, IsTree};
 ghost use Rattle.tsfile_writer.specs.Steps.{AreChunks, AreGroupsWritten};
 
 use crate::layout::{append_chunk, append_end, append_group_start};
-use crate::told::tell_tree;
+use crate::tree_facts::tell_tree;
 use std::alloc::Global;
 use tsdb_base::Memory;
 use tsdb_index::IndexEntry;

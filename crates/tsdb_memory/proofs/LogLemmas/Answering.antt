@@ -4,7 +4,7 @@ use Rattle.std.specs.Prelude.{◌<◌, IsSome}
 use Rattle.std.specs.Result.{IsErr}
 use Rattle.tsdb_base.specs.declared.answers.Answer.TheVariants.{Done}
 use Rattle.tsdb_memory.specs.Answers.{IsAccepted, IsCreateAnswer, IsDeleteAnswer, IsFreezeAnswer, answer_by}
-use Rattle.tsdb_memory.specs.Shown.{number_of}
+use Rattle.tsdb_memory.specs.StateOfMemory.{number_of}
 use Rattle.tsdb_memory.specs.Store.{FrozenPair, MemoryState, frozen_with_working}
 use Rattle.tsdb_memtable.specs.Pairs.{Pair}
 use Rattle.tsdb_outside.specs.declared.faults.StoreFault.{StoreFault}

@@ -18,7 +18,7 @@ use Rattle.tsdb_memory.specs.Changes.{cut_series, points_with_row}
 use Rattle.tsdb_memory.specs.Commands.{create_record}
 use Rattle.tsdb_memory.specs.Least.{least_with}
 use Rattle.tsdb_memory.specs.Rows.{ChangesRoom}
-use Rattle.tsdb_memory.specs.Shown.{number_of}
+use Rattle.tsdb_memory.specs.StateOfMemory.{number_of}
 use Rattle.tsdb_memory.specs.Store.{FrozenPair, MemoryState}
 use Rattle.tsdb_memtable.specs.Pairs.{Pair, change_points, points_of, without_range}
 use Rattle.tsdb_memtable.specs.Points.{is_outside}

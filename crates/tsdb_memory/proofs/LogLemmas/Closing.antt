@@ -7,12 +7,12 @@ use Rattle.tsdb_frames.specs.Log.{HasRecordsOrOneMore, IsLogOn, IsSettled}
 use Rattle.tsdb_frames.specs.declared.frames.Frames.{Frames}
 use Rattle.tsdb_state.proofs.ImageLemmas.Leaving.{bytes_stand, settled_is_sound}
 use Rattle.tsdb_state.proofs.ImageLemmas.Storing.{settled_stored}
-use Rattle.tsdb_state.specs.Stored.{LeadsTo, LeavesOneOf}
+use Rattle.tsdb_state.specs.StoredEngine.{LeadsTo, LeavesOneOf}
 use Rattle.tsdb_log.specs.Spelling.{spelling}
 use Rattle.tsdb_log.specs.declared.record.LogRecord.{LogRecord}
 use Rattle.tsdb_memory.specs.Closing.{IsClosed, LeavesRecords}
-use Rattle.tsdb_memory.specs.Logged.{IsSoundLogged, Outside, log_of}
-use Rattle.tsdb_memory.specs.declared.logged.LoggedMemory.{LoggedMemory}
+use Rattle.tsdb_memory.specs.LogState.{IsSoundLogged, Outside, log_of}
+use Rattle.tsdb_memory.specs.declared.logged_memory.LoggedMemory.{LoggedMemory}
 use Rattle.tsdb_model.specs.State as plain
 use Rattle.tsdb_base.specs.Causes.{Rose}
 use Rattle.tsdb_outside.specs.Causes.{HasCause}

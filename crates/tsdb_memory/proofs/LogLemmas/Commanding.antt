@@ -14,11 +14,11 @@ use Rattle.tsdb_memory.proofs.LogLemmas.Steps.{appended_from, both_kept, faulted
 use Rattle.tsdb_memory.specs.Answers.{answer_by}
 use Rattle.tsdb_memory.specs.Appends.{HasStopped, IsAppended}
 use Rattle.tsdb_memory.specs.Commands.{CanPut, CanStop, HasCommandEffect, IsPrepared, create_record}
-use Rattle.tsdb_memory.specs.Logged.{HasLog, IsSoundLogged, IsStoredIn, Outside, memory_of, framed_room, with_record}
-use Rattle.tsdb_memory.specs.declared.logged.LoggedMemory.{LoggedMemory}
+use Rattle.tsdb_memory.specs.LogState.{HasLog, IsSoundLogged, IsStoredIn, Outside, memory_of, framed_room, with_record}
+use Rattle.tsdb_memory.specs.declared.logged_memory.LoggedMemory.{LoggedMemory}
 use Rattle.tsdb_model.specs.Commands.{IsSchema}
 use Rattle.tsdb_model.specs.declared.command.Schema.{Schema}
-use Rattle.tsdb_memory.specs.Shown.{IsMemoryOf, number_of}
+use Rattle.tsdb_memory.specs.StateOfMemory.{IsMemoryOf, number_of}
 use Rattle.tsdb_memory.specs.Store.{MemoryState}
 use Rattle.tsdb_outside.specs.declared.disk.Disk as disk
 use Rattle.tsdb_outside.specs.declared.faults.Counted as counted

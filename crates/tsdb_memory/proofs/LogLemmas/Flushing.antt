@@ -5,16 +5,16 @@ use Rattle.tsdb_base.specs.declared.ids.Stamp.{Stamp}
 use Rattle.tsdb_frames.specs.Frames.{disk_of, slot_of}
 use Rattle.tsdb_state.proofs.ImageLemmas.Leaving.{append_moments}
 use Rattle.tsdb_state.proofs.ImageLemmas.Storing.{built_numbers, commit_flush_stored, end_flush_stored, flush_failed, no_longer, settled_stored}
-use Rattle.tsdb_state.specs.Stored.{built_files}
+use Rattle.tsdb_state.specs.StoredEngine.{built_files}
 use Rattle.tsdb_log.specs.Spelling.{IsRecord}
 use Rattle.tsdb_log.specs.declared.record.LogRecord.{LogRecord}
 use Rattle.tsdb_log.specs.declared.record.LogRecord.TheVariants.{Flushed}
 use Rattle.tsdb_memory.specs.Appends.{HasItems, IsAppended}
 use Rattle.tsdb_memory.specs.Flushes.{CanCommit}
-use Rattle.tsdb_memory.specs.Logged.{HasLog, IsFaulted, IsSoundLogged, IsStoredIn, LeavesStates, Outside, log_of, memory_of, with_record}
-use Rattle.tsdb_memory.specs.declared.logged.LoggedMemory.{LoggedMemory}
+use Rattle.tsdb_memory.specs.LogState.{HasLog, IsFaulted, IsSoundLogged, IsStoredIn, LeavesStates, Outside, log_of, memory_of, with_record}
+use Rattle.tsdb_memory.specs.declared.logged_memory.LoggedMemory.{LoggedMemory}
 use Rattle.tsdb_memory.specs.Least.{IsLeastOf}
-use Rattle.tsdb_memory.specs.Shown.{IsMemoryOf, file_borns}
+use Rattle.tsdb_memory.specs.StateOfMemory.{IsMemoryOf, file_borns}
 use Rattle.tsdb_outside.specs.Moments.{LeavesFirstThen}
 use Rattle.tsdb_outside.specs.declared.disk.Disk as disk
 use Rattle.tsdb_outside.specs.declared.faults.Counted as counted

@@ -23,12 +23,12 @@ use Rattle.tsdb_log.specs.declared.record.LogRecord.{LogRecord}
 use Rattle.tsdb_log.specs.declared.record.LogRecord.TheVariants.{Create, Delete, Flushed, Freeze, Insert, Replaced}
 use Rattle.tsdb_log.specs.declared.record.LogRecord.TheVariants.{Snapshot}
 use Rattle.tsdb_memory.specs.Appends.{IsAppended}
-use Rattle.tsdb_memory.specs.Logged.{HasLog, IsFaulted, IsSoundLogged, IsStoredIn, LeavesStates, Outside, log_of, memory_of}
-use Rattle.tsdb_memory.specs.Logged.{with_record}
+use Rattle.tsdb_memory.specs.LogState.{HasLog, IsFaulted, IsSoundLogged, IsStoredIn, LeavesStates, Outside, log_of, memory_of}
+use Rattle.tsdb_memory.specs.LogState.{with_record}
 use Rattle.tsdb_memory.specs.Replacing.{CanCommitReplacement, IsReplacement, replacement_bytes}
-use Rattle.tsdb_memory.specs.declared.logged.LoggedMemory.{LoggedMemory}
+use Rattle.tsdb_memory.specs.declared.logged_memory.LoggedMemory.{LoggedMemory}
 use Rattle.tsdb_memory.specs.Least.{IsLeastOf}
-use Rattle.tsdb_memory.specs.Shown.{IsMemoryOf, file_borns}
+use Rattle.tsdb_memory.specs.StateOfMemory.{IsMemoryOf, file_borns}
 use Rattle.tsdb_outside.specs.declared.disk.Disk as disk
 use Rattle.tsdb_outside.specs.declared.faults.Counted as counted
 use Rattle.tsdb_outside.specs.declared.faults.Failed.{Failed}

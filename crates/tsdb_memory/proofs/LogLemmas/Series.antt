@@ -4,7 +4,7 @@ use Rattle.std.specs.Prelude.{IsSome, ◌<◌}
 use Rattle.tsdb_model.specs.Commands.{IsSchema}
 use Rattle.tsdb_model.specs.declared.command.Schema.{Schema}
 use Rattle.tsdb_memory.proofs.Types.{no_type_at, some_type_at}
-use Rattle.tsdb_memory.specs.Shown.{IsMemoryOf, number_of}
+use Rattle.tsdb_memory.specs.StateOfMemory.{IsMemoryOf, number_of}
 use Rattle.tsdb_memory.specs.Store.{MemoryState}
 use Rattle.tsdb_base.specs.Limits.{end_of_numbers}
 use Rattle.tsdb_state.specs.Records.{CanCreate, CanDelete}

@@ -10,15 +10,15 @@ use Rattle.tsdb_frames.specs.Log.{HasRecordsOrOneMore}
 use Rattle.tsdb_frames.specs.declared.frames.Frames.{Frames}
 use Rattle.tsdb_state.proofs.ImageLemmas.Leaving.{append_moments, image_stands}
 use Rattle.tsdb_state.proofs.ImageLemmas.Storing.{settled_stored}
-use Rattle.tsdb_state.specs.Stored.{LeavesOneOf}
+use Rattle.tsdb_state.specs.StoredEngine.{LeavesOneOf}
 use Rattle.tsdb_log.specs.Spelling.{spelling}
 use Rattle.tsdb_log.specs.declared.record.LogRecord.{LogRecord}
 use Rattle.tsdb_memory.specs.Answers.{IsRefusal}
 use Rattle.tsdb_memory.specs.Appends.{IsAppended, IsLogKept}
 use Rattle.tsdb_memory.specs.Commands.{IsAfter, HasCommandEffect, IsPrepared}
-use Rattle.tsdb_memory.specs.Logged.{HasLog, IsFaulted, IsSoundLogged, IsStoredIn, LeavesStates, Outside, log_of, memory_of, framed_room, two_numbers, with_record}
-use Rattle.tsdb_memory.specs.declared.logged.LoggedMemory.{LoggedMemory}
-use Rattle.tsdb_memory.specs.Shown.{IsMemoryOf}
+use Rattle.tsdb_memory.specs.LogState.{HasLog, IsFaulted, IsSoundLogged, IsStoredIn, LeavesStates, Outside, log_of, memory_of, framed_room, two_numbers, with_record}
+use Rattle.tsdb_memory.specs.declared.logged_memory.LoggedMemory.{LoggedMemory}
+use Rattle.tsdb_memory.specs.StateOfMemory.{IsMemoryOf}
 use Rattle.tsdb_outside.proofs.DiskLemmas.{Elapses-same}
 use Rattle.tsdb_outside.specs.Causes.{HasCause}
 use Rattle.tsdb_outside.specs.Disk.{Image, in_slot}

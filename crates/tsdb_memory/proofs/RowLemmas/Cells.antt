@@ -19,7 +19,7 @@ use Rattle.tsdb_model.specs.declared.command.Literal.TheVariants as literal
 use Rattle.tsdb_model.specs.declared.command.Schema.{Schema}
 use Rattle.tsdb_memory.proofs.Numbers.{at_map, some_same}
 use Rattle.tsdb_memory.specs.Model.{IsFitting}
-use Rattle.tsdb_memory.specs.Shown.{series_entry}
+use Rattle.tsdb_memory.specs.StateOfMemory.{series_entry}
 use Rattle.tsdb_memtable.specs.Points.{value_bytes}
 use Rattle.tsdb_path.proofs.Bytes.{IsNode-dotless}
 use Rattle.tsdb_path.proofs.Parts.{device_of-child, measurement_of-child}

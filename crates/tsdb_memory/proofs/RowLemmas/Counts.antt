@@ -15,7 +15,7 @@ use Rattle.tsdb_state.specs.Places.{Content, PointPlace, place_cmp}
 use Rattle.tsdb_model.specs.declared.command.Schema.{Schema}
 use Rattle.tsdb_memory.proofs.Counts.{are_keys, counted_points, path_in, placed, places_apart, places_in, value_placed}
 use Rattle.tsdb_memory.specs.Model.{IsSoundMemory}
-use Rattle.tsdb_memory.specs.Shown.{IsPairContent, IsMemoryOf}
+use Rattle.tsdb_memory.specs.StateOfMemory.{IsPairContent, IsMemoryOf}
 use Rattle.tsdb_memory.specs.Store.{MemoryState}
 use Rattle.tsdb_memtable.specs.Pairs.{HasRisingSeries, Pair, SeriesPoints, byte_count, space_count, points_in, series_bytes}
 use Rattle.tsdb_memtable.specs.Points.{counted_bytes, point_bytes, value_bytes}

@@ -17,7 +17,7 @@ use Rattle.tsdb_model.specs.declared.command.Command.TheVariants.{Insert}
 use Rattle.tsdb_model.specs.declared.command.Row.{Row}
 use Rattle.tsdb_model.specs.declared.command.Schema.{Schema}
 use Rattle.tsdb_model.specs.declared.reply.Reply.TheVariants.{Plain}
-use Rattle.tsdb_memory.specs.Shown.{IsMemoryOf, series_entry}
+use Rattle.tsdb_memory.specs.StateOfMemory.{IsMemoryOf, series_entry}
 use Rattle.tsdb_memory.specs.Store.{MemoryState}
 use Rattle.tsdb_path.specs.Nodes.{child_of}
 use Rattle.tsdb_memory.proofs.RowLemmas.Lists as lists

@@ -18,7 +18,7 @@ use Rattle.tsdb_model.specs.declared.command.Cell.{Cell}
 use Rattle.tsdb_model.specs.declared.command.Row.{Row}
 use Rattle.tsdb_model.specs.declared.command.Schema.{Schema}
 use Rattle.tsdb_memory.proofs.Types.{type_found, type_of_number}
-use Rattle.tsdb_memory.specs.Shown.{series_entry, number_of}
+use Rattle.tsdb_memory.specs.StateOfMemory.{series_entry, number_of}
 use Rattle.tsdb_path.specs.Nodes.{IsName, child_of}
 use Rattle.tsdb_memory.proofs.RowLemmas.Cells.{as_many, cells_of_items, items_differ, items_of_device, items_push}
 use Rattle.tsdb_memory.proofs.RowLemmas.Lists as lists

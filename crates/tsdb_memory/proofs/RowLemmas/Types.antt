@@ -6,7 +6,7 @@ use Rattle.tsdb_memory.proofs.Numbers.{schema_at}
 use Rattle.tsdb_memory.proofs.Raises.{all_at}
 use Rattle.tsdb_memory.proofs.Types.{type_found, type_of_number}
 use Rattle.tsdb_memory.specs.Model.{IsFormed}
-use Rattle.tsdb_memory.specs.Shown.{series_entry, number_of}
+use Rattle.tsdb_memory.specs.StateOfMemory.{series_entry, number_of}
 use Rattle.tsdb_path.specs.Nodes.{IsPath}
 use Rattle.tsdb_state.specs.Worlds.{type_at}
 

@@ -5,7 +5,7 @@ use Rattle.std.specs.Prelude.{nat_eq, not}
 use Rattle.std.specs.List.{AllByRecursion as Each, filter, find, list_any}
 use Rattle.std.specs.Option.{option_map}
 use Rattle.std.proofs.lemmas.Bool.{eqb-true}
-use Rattle.tsdb_state.specs.Stored.{IsKeptWhole, kept_bytes, without_numbers}
+use Rattle.tsdb_state.specs.StoredEngine.{IsKeptWhole, kept_bytes, without_numbers}
 use Rattle.tsdb_base.specs.Lists.{Among}
 use Rattle.tsdb_outside.specs.Files.{StoredFile}
 use Rattle.tsdb_state.specs.Stores.{BytesByNumber, HoldsKept, IsTreeContent, IsWhole}

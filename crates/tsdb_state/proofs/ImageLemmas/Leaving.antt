@@ -8,7 +8,7 @@ use Rattle.tsdb_frames.specs.Log.{HasRecordsOrOneMore, IsLogOn, IsSettled}
 use Rattle.tsdb_outside.specs.Moments.{LeavesFirstThen, LeavesOnly}
 use Rattle.tsdb_state.proofs.ImageLemmas.After.{listed_after}
 use Rattle.tsdb_state.proofs.ImageLemmas.Kept.{holds_found, kept_by_number, whole_as}
-use Rattle.tsdb_state.specs.Stored.{IsKeptWhole, IsStored, LeadsTo, LeavesOneOf, kept_bytes}
+use Rattle.tsdb_state.specs.StoredEngine.{IsKeptWhole, IsStored, LeadsTo, LeavesOneOf, kept_bytes}
 use Rattle.tsdb_base.proofs.Lists.{each_among, each_left, each_right, each_weaker}
 use Rattle.tsdb_base.specs.Lists.{Among}
 use Rattle.tsdb_log.specs.Spelling.{IsRecord, spelling}

@@ -8,7 +8,7 @@ use Rattle.tsdb_base.specs.declared.point.Range.{Range}
 use Rattle.tsdb_state.proofs.ImageLemmas.After.{listed_after, named_drawn, named_output}
 use Rattle.tsdb_state.proofs.ImageLemmas.Kept.{each_passed, found_bytes, found_with_more, found_without, kept_by_number, whole_as}
 use Rattle.tsdb_state.proofs.ImageLemmas.Leaving.{kept_listed, kept_outgoing}
-use Rattle.tsdb_state.specs.Stored.{AreOutgoing, IsKeptWhole, IsStored, built_files, kept_bytes, without_numbers}
+use Rattle.tsdb_state.specs.StoredEngine.{AreOutgoing, IsKeptWhole, IsStored, built_files, kept_bytes, without_numbers}
 use Rattle.tsdb_base.proofs.Lists.{each_among, each_append, each_both, each_from_among, each_left}
 use Rattle.tsdb_base.proofs.Lists.{each_weaker, with_one_is}
 use Rattle.tsdb_base.specs.Lists.{Among, IsWithOne, count}

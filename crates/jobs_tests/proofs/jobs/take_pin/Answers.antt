@@ -1,5 +1,5 @@
 use Rattle.tsdb_core.specs.Core.{files_of, logged_of}
-use Rattle.tsdb_memory.specs.Logged.{memory_of}
+use Rattle.tsdb_memory.specs.LogState.{memory_of}
 use Rattle.tsdb_pins.proofs.Named.{have_nodes}
 use Rattle.jobs_tests.proofs.Out.{pin_refused, pin_taken}
 use Rattle.jobs_tests.proofs.jobs.take_pin.Goals as goal

@@ -6,9 +6,9 @@ use Rattle.tsdb_core.proofs.flushing.least_with.Goals as goal
 
 pub returns : goal.returns
 returns c borns is = subst (λ (s : Stamp). IsLeastWith (Some s) c.args.job.now borns) (sym c.lesser.ensures)
-    (least_with_job c.args.least c.args.job.now borns (not_none c.drawn.result _ c.drawn.ensures c.if-drawn-eq0.false)
+    (least_with_job c.args.least c.args.job.now borns (not_none c.count_drawn.result _ c.count_drawn.ensures c.if-count_drawn-eq0.false)
     is)
 
 pub returns-then-drawn-eq0 : goal.returns-then-drawn-eq0
-returns-then-drawn-eq0 c borns is =
-    least_without c.args.least c.args.job.now borns (sym c.drawn.ensures ∙ c.if-drawn-eq0.true) is
+returns-then-count_drawn-eq0 c borns is =
+    least_without c.args.least c.args.job.now borns (sym c.count_drawn.ensures ∙ c.if-count_drawn-eq0.true) is

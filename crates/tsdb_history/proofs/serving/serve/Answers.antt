@@ -34,29 +34,29 @@ returns-in-Select-clause-answers g c = λ tells.
 
 pub returns-in-Flush-clause-answers : goal.returns-in-Flush-clause-answers
 returns-in-Flush-clause-answers g c = λ tells.
-    subst (λ command. ServesCommand c.args.core.now c.flushed.new.core command (Plain c.flushed.result)) (sym c.in-Flush.is)
-    (c.flushed.ensures.answers tells)
+    subst (λ command. ServesCommand c.args.core.now c.serve_flush.new.core command (Plain c.serve_flush.result)) (sym c.in-Flush.is)
+    (c.serve_flush.ensures.answers tells)
 
 pub returns-in-ShowFiles-clause-answers : goal.returns-in-ShowFiles-clause-answers
 returns-in-ShowFiles-clause-answers g c = λ tells.
-    subst (λ command. ServesCommand c.args.core.now c.args.core.now command c.shown.result) (sym c.in-ShowFiles.is)
-    c.shown.ensures.answers
+    subst (λ command. ServesCommand c.args.core.now c.args.core.now command c.serve_show.result) (sym c.in-ShowFiles.is)
+    c.serve_show.ensures.answers
 
 pub returns-in-CompactInner-clause-answers : goal.returns-in-CompactInner-clause-answers
 returns-in-CompactInner-clause-answers g c = λ tells.
-    subst (λ command. ServesCommand c.args.core.now c.inner_compacted.new.core command (Plain c.inner_compacted.result))
-    (sym c.in-CompactInner.is) (c.inner_compacted.ensures.answers tells)
+    subst (λ command. ServesCommand c.args.core.now c.serve_inner.new.core command (Plain c.serve_inner.result))
+    (sym c.in-CompactInner.is) (c.serve_inner.ensures.answers tells)
 
 pub returns-in-CompactCross-clause-answers : goal.returns-in-CompactCross-clause-answers
 returns-in-CompactCross-clause-answers g c = λ tells.
-    subst (λ command. ServesCommand c.args.core.now c.cross_compacted.new.core command (Plain c.cross_compacted.result))
-    (sym c.in-CompactCross.is) (c.cross_compacted.ensures.answers tells)
+    subst (λ command. ServesCommand c.args.core.now c.serve_cross.new.core command (Plain c.serve_cross.result))
+    (sym c.in-CompactCross.is) (c.serve_cross.ensures.answers tells)
 
 pub returns-in-Select-clause-full : goal.returns-in-Select-clause-full
 returns-in-Select-clause-full g c = no_full c.query.new.core c.query.result c.query.ensures.no_full
 
 pub returns-in-ShowFiles-clause-full : goal.returns-in-ShowFiles-clause-full
-returns-in-ShowFiles-clause-full g c = no_full c.args.core.now c.shown.result c.shown.ensures.no_full
+returns-in-ShowFiles-clause-full g c = no_full c.args.core.now c.serve_show.result c.serve_show.ensures.no_full
 
 pub returns-in-Create-clause-listed : goal.returns-in-Create-clause-listed
 returns-in-Create-clause-listed g c = λ listing asked is. absurd (let same = sym asked ∙ c.in-Create.is in cc)
@@ -82,4 +82,4 @@ returns-in-CompactCross-clause-listed g c = λ listing asked is.
     absurd (let same = sym asked ∙ c.in-CompactCross.is in cc)
 
 pub returns-in-ShowFiles-clause-listed : goal.returns-in-ShowFiles-clause-listed
-returns-in-ShowFiles-clause-listed g c = λ listing asked is. c.shown.ensures.listed listing is
+returns-in-ShowFiles-clause-listed g c = λ listing asked is. c.serve_show.ensures.listed listing is

@@ -4,7 +4,7 @@ use Rattle.std.proofs.lemmas.Int.{to_z-of_z}
 use Rattle.std.proofs.lemmas.Result.{err_from_is_err_and}
 use Rattle.tsdb_base.specs.Values.{type_of}
 use Rattle.tsdb_streams.proofs.Reasons.{reason_memory, reason_ok, reason_then, same_reason}
-use Rattle.tsdb_streams.specs.Indexed.{source_of}
+use Rattle.tsdb_streams.specs.IndexedFiles.{source_of}
 use Rattle.tsdb_streams.specs.Streams.{stream_left}
 use Rattle.tsdb_inner.proofs.Copied.{copies_all, copies_none, first_differs, first_may_put, has_begun, ok_then, rest_differs}
 use Rattle.tsdb_inner.proofs.copying.copy_series.Goals as goal

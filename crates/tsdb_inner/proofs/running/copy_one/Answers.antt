@@ -1,7 +1,7 @@
 use Rattle.std.proofs.Common.{rules, ◌≡◌, ◌∙◌, ◌⊎◌, false, true, map, subst, arith}
 use Rattle.std.specs.List.{AllByRecursion as Each}
 use Rattle.std.proofs.lemmas.Result.{err_from_is_err_and}
-use Rattle.tsdb_streams.specs.Indexed.{source_of}
+use Rattle.tsdb_streams.specs.IndexedFiles.{source_of}
 use Rattle.tsdb_inner.proofs.Opened.{indexed_of, lent_of}
 use Rattle.tsdb_inner.proofs.Series.{cause_ok, copies_winners, damage_cause, inputs_of_store, told_cause}
 use Rattle.tsdb_inner.specs.Inputs.{TellsBytes}

@@ -2,7 +2,7 @@ use Rattle.std.proofs.Common.{◌≡◌, ◌∙◌, subst, sym, arith}
 use Rattle.std.proofs.lemmas.Result.{err_from_is_err_and}
 use Rattle.tsdb_streams.proofs.Reasons.{reason_then, same_reason}
 use Rattle.tsdb_streams.specs.Clean.{sources_read}
-use Rattle.tsdb_streams.specs.Parted.{IsParted}
+use Rattle.tsdb_streams.specs.PartedMerge.{IsParted}
 use Rattle.tsdb_streams.specs.Streams.{stream_due, stream_left}
 use Rattle.tsdb_pins.proofs.Counted.{added_later, added_most}
 use Rattle.tsdb_pins.proofs.Draining.{later_then, ok_then}

@@ -2,7 +2,7 @@ use Rattle.std.proofs.Common.{rules, ◌≡◌, ◌∙◌, None, Err, refl, arit
 use Rattle.std.specs.Prelude.{filter}
 use Rattle.std.proofs.lemmas.Result.{err_from_is_err_and}
 use Rattle.tsdb_streams.proofs.Reasons.{reason_memory, reason_ok, reason_then, same_reason}
-use Rattle.tsdb_streams.specs.Parted.{is_between}
+use Rattle.tsdb_streams.specs.PartedMerge.{is_between}
 use Rattle.tsdb_pins.proofs.Draining.{later_then}
 use Rattle.tsdb_pins.proofs.Weaving.{next_is, weaves_first, woven_end, woven_point}
 use Rattle.tsdb_pins.proofs.folding.fold_stream.Goals as goal

@@ -2,7 +2,7 @@ use Rattle.std.proofs.Common.{◌≡◌, ◌≤◌, List, None, Some}
 use Rattle.std.specs.Prelude.{filter}
 use Rattle.tsdb_base.specs.declared.point.Point.{Point}
 use Rattle.tsdb_streams.specs.Files.{FilePages}
-use Rattle.tsdb_streams.specs.Parted.{AreStatsInOrder, is_between}
+use Rattle.tsdb_streams.specs.PartedMerge.{AreStatsInOrder, is_between}
 use Rattle.tsdb_streams.specs.Streams.{IsStreamOfStore, IsToldStream, IsTrueStream, stream_due, stream_left}
 use Rattle.tsdb_base.specs.Points.{IsRising}
 use Rattle.tsdb_pins.proofs.Weaving.{Woven}

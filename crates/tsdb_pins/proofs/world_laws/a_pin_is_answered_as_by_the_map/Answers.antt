@@ -1,7 +1,7 @@
 use Rattle.std.proofs.Common.{◌∙◌, ap, map, sym}
 use Rattle.tsdb_model.specs.Folds.{rows}
 use Rattle.tsdb_model.specs.declared.reply.Reply.TheVariants.{Lines, Values}
-use Rattle.tsdb_memory.specs.Shown.{series_entry}
+use Rattle.tsdb_memory.specs.StateOfMemory.{series_entry}
 use Rattle.tsdb_pins.proofs.Items.{pin_columns, pin_values}
 use Rattle.tsdb_pins.proofs.Replies.{rows_replied, types_of, values_replied}
 use Rattle.tsdb_pins.proofs.world_laws.a_pin_is_answered_as_by_the_map.Goals as goal

@@ -1,5 +1,5 @@
 use Rattle.std.proofs.Common.{map}
-use Rattle.tsdb_memory.specs.Shown.{series_entry}
+use Rattle.tsdb_memory.specs.StateOfMemory.{series_entry}
 use Rattle.tsdb_pins.proofs.Replies.{fault_replied, types_of}
 use Rattle.tsdb_pins.proofs.world_laws.a_refusal_is_that_of_the_map.Goals as goal
 

@@ -2,9 +2,9 @@ use Rattle.std.proofs.Common.{Err, ap, map, refl, subst, sym, ◌∙◌}
 use Rattle.tsdb_base.specs.declared.answers.Answer.TheVariants as answer
 use Rattle.tsdb_serving.specs.Core.{files_of, logged_of}
 use Rattle.tsdb_frames.specs.Frames.{faults_of}
-use Rattle.tsdb_memory.specs.Logged.{log_of, memory_of}
+use Rattle.tsdb_memory.specs.LogState.{log_of, memory_of}
 use Rattle.tsdb_model.specs.declared.reply.Reply.TheVariants.{Plain, Values}
-use Rattle.tsdb_memory.specs.Shown.{series_entry}
+use Rattle.tsdb_memory.specs.StateOfMemory.{series_entry}
 use Rattle.tsdb_pin.specs.Items.{AreItemsRefused}
 use Rattle.tsdb_pin.specs.declared.pin.PinFault.TheVariants as fault
 use Rattle.tsdb_pins.proofs.Held.{columns_of}

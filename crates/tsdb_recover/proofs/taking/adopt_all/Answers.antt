@@ -1,6 +1,6 @@
 use Rattle.std.proofs.Common.{◌∙◌, Ok, refl, subst, sym}
 use Rattle.tsdb_recover.specs.Adopting.{adopting_files, wanted_file}
-use Rattle.tsdb_state.specs.Stored.{kept_bytes}
+use Rattle.tsdb_state.specs.StoredEngine.{kept_bytes}
 use Rattle.tsdb_recover.proofs.Causes.{cause_then, none_yet}
 use Rattle.tsdb_recover.proofs.Steps.{fewer_left, goes_nowhere, goes_then, takes_then}
 use Rattle.tsdb_recover.proofs.Trees.{damaged_next, said_next, said_none}

@@ -5,7 +5,7 @@ use Rattle.tsdb_history.specs.Reach.{AreFullWithin, max_drawn}
 use Rattle.std.specs.Prelude.{is_some}
 use Rattle.tsdb_recover.specs.CoreType.{Core}
 use Rattle.tsdb_frames.specs.Frames.{journal_of}
-use Rattle.tsdb_memory.specs.Logged.{log_of}
+use Rattle.tsdb_memory.specs.LogState.{log_of}
 use Rattle.tsdb_recover.specs.Core.{logged_of}
 use Rattle.tsdb_base.specs.Causes.{Rose}
 use Rattle.tsdb_outside.specs.Files.{Store}

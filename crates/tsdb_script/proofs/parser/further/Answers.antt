@@ -6,8 +6,8 @@ use Rattle.tsdb_script.proofs.parser.further.Goals.{then-loop-turns-test+else-st
 pub loop-turns-preserved : goal.loop-turns-preserved
 loop-turns-preserved g c =
     rw c.in_ok-push-2.ensures.items
-    (items_step c.args.between g.P.Listed.at c.loop-turns.turns c.loop-turns.tokens.items c.fixed.new.tokens.items c.take.new.tokens.items c.loop-turns.items.items c.in_ok-take.field-0 _
-    c.loop-turns-test.true (sym c.stands.ensures ∙ c.if-stands.true) c.in_ok-fixed.ensures c.in_ok-take.ensures c.loop-turns.invariant)
+    (items_step c.args.between g.P.Listed.at c.loop-turns.turns c.loop-turns.tokens.items c.take_fixed.new.tokens.items c.take.new.tokens.items c.loop-turns.items.items c.in_ok-take.field-0 _
+    c.loop-turns-test.true (sym c.stands.ensures ∙ c.if-stands.true) c.in_ok-take_fixed.ensures c.in_ok-take.ensures c.loop-turns.invariant)
 
 pub returns : goal.returns
 returns g c =

@@ -2,7 +2,7 @@ use Rattle.std.proofs.Common.{arith, refl, subst, sym}
 use Rattle.tsdb_memory.proofs.Following.{deletion_follows}
 use Rattle.tsdb_core.specs.Core.{logged_of}
 use Rattle.tsdb_log.specs.declared.record.LogRecord.TheVariants as item
-use Rattle.tsdb_memory.specs.Logged.{memory_of}
+use Rattle.tsdb_memory.specs.LogState.{memory_of}
 use Rattle.tsdb_model.specs.declared.command.Command.TheVariants.{Delete}
 use Rattle.tsdb_serving.proofs.Answered.{HasStamp, allowed, answered, delete_stamp, stamp_is, world_is}
 use Rattle.tsdb_serving.proofs.Jobs.{kept_ready}

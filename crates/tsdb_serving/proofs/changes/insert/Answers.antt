@@ -1,7 +1,7 @@
 use Rattle.std.proofs.Common.{◌≡◌, [], ◌++◌, inl, arith, refl, subst, sym, ◌∙◌}
 use Rattle.tsdb_core.specs.Core.{logged_of}
 use Rattle.tsdb_core.specs.FilesetFiles.{KeptFiles}
-use Rattle.tsdb_memory.specs.Logged.{memory_of}
+use Rattle.tsdb_memory.specs.LogState.{memory_of}
 use Rattle.tsdb_model.specs.declared.command.Command.TheVariants.{Insert}
 use Rattle.tsdb_model.specs.declared.reply.Reply.TheVariants.{Plain}
 use Rattle.tsdb_serving.proofs.Answered.{HasStamp, allowed, behind, flush_failed, insert_stamp, row_answered, stamp_is}

@@ -3,7 +3,7 @@ use Rattle.tsdb_core.proofs.OutputsBuilt.{of_job_done}
 use Rattle.tsdb_core.specs.Core.{logged_of}
 use Rattle.tsdb_core.specs.Files.{new_files}
 use Rattle.tsdb_core.specs.Flushes.{IsCommitAnswer}
-use Rattle.tsdb_memory.specs.Logged.{memory_of}
+use Rattle.tsdb_memory.specs.LogState.{memory_of}
 use Rattle.tsdb_serving.proofs.Flushes.{commit_ends}
 use Rattle.tsdb_serving.proofs.Jobs.{all_in_store, done_so_far, is_out, tell_bytes}
 use Rattle.tsdb_serving.proofs.flushing.commit.Goals as goal

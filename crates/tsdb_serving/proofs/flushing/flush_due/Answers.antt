@@ -1,7 +1,7 @@
 use Rattle.std.proofs.Common.{Ok, ap, arith, subst, sym, ◌∙◌}
 use Rattle.tsdb_core.specs.Core.{logged_of, next_of}
 use Rattle.tsdb_core.specs.Flushes.{IsTakeAnswer, IsFlushTakenOrNot}
-use Rattle.tsdb_memory.specs.Logged.{memory_of}
+use Rattle.tsdb_memory.specs.LogState.{memory_of}
 use Rattle.tsdb_memory.specs.Store.{MemoryState}
 use Rattle.tsdb_serving.proofs.Causes.{cause_before, core_cause, full_is}
 use Rattle.tsdb_serving.proofs.Flushes.{dropped, flushed, no_less, not_taken, oldest_still}

@@ -1,7 +1,7 @@
 use Rattle.std.proofs.Common.{ap}
 use Rattle.tsdb_core.proofs.OutputsBuilt.{of_job}
 use Rattle.tsdb_core.specs.Files.{new_files}
-use Rattle.tsdb_memory.specs.Logged.{memory_of}
+use Rattle.tsdb_memory.specs.LogState.{memory_of}
 use Rattle.tsdb_serving.proofs.Flushes.{abandon_ends}
 use Rattle.tsdb_serving.proofs.Jobs.{all_in_store, is_out, tell_bytes}
 use Rattle.tsdb_serving.proofs.flushing.give_up.Goals as goal

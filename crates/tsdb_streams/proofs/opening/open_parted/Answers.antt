@@ -9,7 +9,7 @@ use Rattle.tsdb_path.specs.Nodes.{device_of, measurement_of}
 use Rattle.tsdb_merge.specs.Steps.{root_left}
 use Rattle.tsdb_streams.proofs.OpenParted.{all_cleaned, flagged_of, flagged_told, flagged_true, as_many_due, is_parted}
 use Rattle.tsdb_streams.specs.Cleaning.{lane_passed}
-use Rattle.tsdb_streams.specs.declared.kept.Kept.{Kept}
+use Rattle.tsdb_streams.specs.declared.survival.Kept.{Kept}
 use Rattle.std.specs.List.Sorted.{IsPermutation}
 use Rattle.tsdb_streams.proofs.opening.open_parted.Goals as goal
 

@@ -4,7 +4,7 @@ use Rattle.std.proofs.lemmas.Result.{err_from_is_err_and}
 use Rattle.std.specs.Prelude.{All, Some}
 use Rattle.tsdb_base.specs.declared.point.Point.{Point}
 use Rattle.tsdb_streams.proofs.OpenedFacts.{merged_of, zip_all}
-use Rattle.tsdb_streams.specs.Kept.{is_kept}
+use Rattle.tsdb_streams.specs.KeptPoints.{is_kept}
 use Rattle.tsdb_streams.specs.Lanes.{IsToldLane, IsToldSource, IsTrueLane, IsTrueSource, OpensAs}
 use Rattle.tsdb_streams.proofs.Reasons.{reason_memory, reason_ok, same_reason}
 use Rattle.tsdb_path.specs.Nodes.{device_of, measurement_of}

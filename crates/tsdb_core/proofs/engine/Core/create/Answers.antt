@@ -3,7 +3,7 @@ use Rattle.tsdb_memory.proofs.Following.{creation_follows}
 use Rattle.tsdb_core.proofs.Seen.{core_command}
 use Rattle.tsdb_core.proofs.Worlds.{map_step, memory_seen, order_seen}
 use Rattle.tsdb_memory.specs.Commands.{NeedsNothing, create_record}
-use Rattle.tsdb_memory.specs.Logged.{memory_of}
+use Rattle.tsdb_memory.specs.LogState.{memory_of}
 use Rattle.tsdb_model.specs.declared.command.Command.TheVariants.{Create}
 use Rattle.tsdb_core.proofs.engine.Core.create.Goals as goal
 

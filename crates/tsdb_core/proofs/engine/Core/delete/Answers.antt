@@ -2,7 +2,7 @@ use Rattle.tsdb_memory.proofs.Following.{deletion_follows}
 use Rattle.tsdb_core.proofs.Seen.{delete_command}
 use Rattle.tsdb_core.proofs.Worlds.{map_step, memory_seen, order_seen}
 use Rattle.tsdb_log.specs.declared.record.LogRecord.TheVariants as item
-use Rattle.tsdb_memory.specs.Logged.{memory_of}
+use Rattle.tsdb_memory.specs.LogState.{memory_of}
 use Rattle.tsdb_model.specs.declared.command.Command.TheVariants.{Delete}
 use Rattle.tsdb_core.proofs.engine.Core.delete.Goals as goal
 

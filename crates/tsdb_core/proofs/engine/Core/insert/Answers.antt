@@ -1,6 +1,6 @@
 use Rattle.tsdb_core.proofs.RowLemmas.{row_counts, row_follows, row_kept, tried_answer, untouched_counts, untouched_follows}
 use Rattle.tsdb_core.proofs.RowMoments.{still_leaves}
-use Rattle.tsdb_memory.specs.Logged.{memory_of}
+use Rattle.tsdb_memory.specs.LogState.{memory_of}
 use Rattle.tsdb_core.proofs.engine.Core.insert.Goals as goal
 
 pub returns-in-Ok-clause-map : goal.returns-in-Ok-clause-map

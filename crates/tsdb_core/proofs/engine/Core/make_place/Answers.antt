@@ -1,7 +1,7 @@
 use Rattle.std.proofs.Common.{inl, inr, subst}
 use Rattle.tsdb_core.proofs.RowLemmas.{can_freeze_for, frozen_for, not_fit}
 use Rattle.tsdb_core.specs.Rows.{IsFrozenFor}
-use Rattle.tsdb_memory.specs.Logged.{memory_of}
+use Rattle.tsdb_memory.specs.LogState.{memory_of}
 use Rattle.tsdb_core.proofs.engine.Core.make_place.Goals as goal
 
 pub returns-clause-done : goal.returns-clause-done

@@ -4,7 +4,7 @@ use Rattle.std.specs.Int.{w64}
 use Rattle.std.specs.Prelude.{◌<◌}
 use Rattle.tsdb_core.proofs.RowLemmas.{frozen_row, put_of, put_row, row_world}
 use Rattle.tsdb_core.proofs.RowMoments.{row_leaves}
-use Rattle.tsdb_memory.specs.Logged.{memory_of}
+use Rattle.tsdb_memory.specs.LogState.{memory_of}
 use Rattle.tsdb_base.specs.Limits.{end_of_numbers}
 use Rattle.tsdb_core.proofs.engine.Core.put_row.Goals as goal
 

@@ -2,7 +2,7 @@ use Rattle.std.proofs.Common.{ap, subst, sym, ◌∙◌}
 use Rattle.std.proofs.lemmas.Bool.{false≢true}
 use Rattle.tsdb_core.proofs.Oldest.{none_reached}
 use Rattle.tsdb_core.specs.Flushes.{IsDue}
-use Rattle.tsdb_memory.specs.Logged.{memory_of}
+use Rattle.tsdb_memory.specs.LogState.{memory_of}
 use Rattle.tsdb_memory.specs.Model.{AreFrozenInTurn}
 use Rattle.tsdb_memory.specs.Store.{MemoryState}
 use Rattle.tsdb_core.proofs.engine.Core.take_flush.Goals as goal

@@ -25,13 +25,13 @@ returns-in_err-prepare_flush-clause-not g c = on_err _ (not_taken c.args.self.no
 pub returns-clause-taken : goal.returns-clause-taken
 returns-clause-taken g c = flush_taken c.args.self.now c.reserve_flushed.new.self c.prepare_flush.new.self
     c.in_ok-job.job
-    (c.args.self.now.next_file + c.drawn.result) c.in_ok-reserve_flushed.ensures.kept
+    (c.args.self.now.next_file + c.count_drawn.result) c.in_ok-reserve_flushed.ensures.kept
     c.in_ok-reserve_flushed.ensures.room c.in_ok-job.ensures.job
     (subst (λ store. IsJobTaken store c.args.self.now.next_file c.in_ok-job.job) c.memory.ensures
     c.in_ok-job.ensures.taken) c.in_ok-job.ensures.some
     c.requires.left c.in_ok-prepare_flush.ensures.lists c.in_ok-prepare_flush.ensures.files
     c.in_ok-prepare_flush.ensures.places c.in_ok-prepare_flush.ensures.room
-    (ap (λ n. c.args.self.now.next_file + n) (c.drawn.ensures ∙ sym (count_is c.in_ok-job.job)))
+    (ap (λ n. c.args.self.now.next_file + n) (c.count_drawn.ensures ∙ sym (count_is c.in_ok-job.job)))
 
 pub returns-in_err-reserve_flushed-clause-world : goal.returns-in_err-reserve_flushed-clause-world
 returns-in_err-reserve_flushed-clause-world g c = not_taken_world c.args.self.now _ (not_taken c.args.self.now
@@ -53,10 +53,10 @@ returns-in_err-prepare_flush-clause-world g c = not_taken_world c.args.self.now 
 pub returns-clause-world : goal.returns-clause-world
 returns-clause-world g c = taken_world c.args.self.now _ c.in_ok-job.job
     (flush_taken c.args.self.now c.reserve_flushed.new.self c.prepare_flush.new.self c.in_ok-job.job
-    (c.args.self.now.next_file + c.drawn.result) c.in_ok-reserve_flushed.ensures.kept
+    (c.args.self.now.next_file + c.count_drawn.result) c.in_ok-reserve_flushed.ensures.kept
     c.in_ok-reserve_flushed.ensures.room c.in_ok-job.ensures.job
     (subst (λ store. IsJobTaken store c.args.self.now.next_file c.in_ok-job.job) c.memory.ensures
     c.in_ok-job.ensures.taken) c.in_ok-job.ensures.some
     c.requires.left c.in_ok-prepare_flush.ensures.lists c.in_ok-prepare_flush.ensures.files
     c.in_ok-prepare_flush.ensures.places c.in_ok-prepare_flush.ensures.room
-    (ap (λ n. c.args.self.now.next_file + n) (c.drawn.ensures ∙ sym (count_is c.in_ok-job.job))))
+    (ap (λ n. c.args.self.now.next_file + n) (c.count_drawn.ensures ∙ sym (count_is c.in_ok-job.job))))

@@ -1,6 +1,6 @@
 use Rattle.std.proofs.Common.{subst}
 use Rattle.tsdb_core.proofs.RowLemmas.{counts_told}
-use Rattle.tsdb_memory.specs.Logged.{memory_of}
+use Rattle.tsdb_memory.specs.LogState.{memory_of}
 use Rattle.tsdb_memtable.specs.Pairs.{HasRisingSeries}
 use Rattle.tsdb_core.proofs.engine.Core.tell_counts.Goals as goal
 

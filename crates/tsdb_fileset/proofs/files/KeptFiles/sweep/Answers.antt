@@ -4,7 +4,7 @@ use Rattle.tsdb_fileset.specs.declared.files.Outgoing.{Outgoing}
 use Rattle.tsdb_fileset.specs.Files.{KeptFiles}
 use Rattle.tsdb_fileset.specs.Places.{AreOfStore, TakesAway}
 use Rattle.tsdb_fileset.specs.Sweeps.{AreOnce, LeavesWithout, StopsSweepAt, free_numbers, tried_numbers}
-use Rattle.tsdb_fileset.specs.Kept.{view_of}
+use Rattle.tsdb_fileset.specs.SoundFiles.{view_of}
 use Rattle.tsdb_fileset.proofs.Swept.{once, swept_failed, swept_ok, swept_sound}
 use Rattle.tsdb_fileset.proofs.files.KeptFiles.sweep.Goals as goal
 

@@ -3,7 +3,7 @@ use Rattle.tsdb_memory.proofs.Effects.{created_shown, created_sound}
 use Rattle.tsdb_memory.proofs.Numbers.{joined}
 use Rattle.tsdb_memory.specs.Changes.{HasCreated}
 use Rattle.tsdb_memory.specs.Model.{schema_of, memory_view}
-use Rattle.tsdb_memory.specs.Shown.{IsMemoryOf, number_of}
+use Rattle.tsdb_memory.specs.StateOfMemory.{IsMemoryOf, number_of}
 use Rattle.tsdb_memory.specs.Store.{MemoryState}
 use Rattle.tsdb_base.specs.Limits.{end_of_numbers}
 use Rattle.tsdb_memory.proofs.store.MemoryStore.finish_create.Goals as goal

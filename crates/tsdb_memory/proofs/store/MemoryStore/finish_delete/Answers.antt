@@ -10,7 +10,7 @@ use Rattle.tsdb_memory.proofs.Numbers.{number_found}
 use Rattle.tsdb_memory.specs.Changes.{HasDeleted, cut_series}
 use Rattle.tsdb_memory.specs.Least.{least_with}
 use Rattle.tsdb_memory.specs.Model.{schema_of, memory_view}
-use Rattle.tsdb_memory.specs.Shown.{IsMemoryOf, number_of}
+use Rattle.tsdb_memory.specs.StateOfMemory.{IsMemoryOf, number_of}
 use Rattle.tsdb_memory.specs.Store as value
 use Rattle.tsdb_memory.specs.declared.store.FrozenPair.{FrozenPair}
 use Rattle.tsdb_memtable.specs.Pairs.{points_of}

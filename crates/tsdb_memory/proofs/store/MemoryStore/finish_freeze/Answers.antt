@@ -3,7 +3,7 @@ use Rattle.tsdb_memory.proofs.Frozen.{froze_shown, froze_sound, frozen_store, pu
 use Rattle.tsdb_memory.specs.Fits.{HasNoPairPoint}
 use Rattle.tsdb_memory.specs.Freezing.{AreRaises, raised_by}
 use Rattle.tsdb_memory.specs.Model.{IsSoundMemory, frozen_in, memory_view}
-use Rattle.tsdb_memory.specs.Shown.{IsMemoryOf}
+use Rattle.tsdb_memory.specs.StateOfMemory.{IsMemoryOf}
 use Rattle.tsdb_memory.specs.Store as value
 use Rattle.tsdb_memory.specs.declared.freezing.Raise.{Raise}
 use Rattle.tsdb_memtable.specs.Pairs.{Pair}

@@ -7,7 +7,7 @@ use Rattle.tsdb_base.specs.declared.ids.Space.{Space}
 use Rattle.tsdb_memory.specs.Changes.{HasInserted, points_with_row}
 use Rattle.tsdb_memory.specs.Model.{IsSoundMemory, memory_view}
 use Rattle.tsdb_memory.specs.Rows.{put_row_cells}
-use Rattle.tsdb_memory.specs.Shown.{IsMemoryOf}
+use Rattle.tsdb_memory.specs.StateOfMemory.{IsMemoryOf}
 use Rattle.tsdb_memory.specs.Store as value
 use Rattle.tsdb_memtable.specs.Pairs.{Pair, points_of}
 use Rattle.tsdb_memtable.specs.Watermarks.{space_by, watermark}

@@ -5,7 +5,7 @@ use Rattle.tsdb_memory.proofs.Later.{borns_kept}
 use Rattle.tsdb_memory.specs.Changes.{KeepsSeries}
 use Rattle.tsdb_memory.specs.Least.{least_with}
 use Rattle.tsdb_memory.specs.Model.{memory_view}
-use Rattle.tsdb_memory.specs.Shown.{IsMemoryOf}
+use Rattle.tsdb_memory.specs.StateOfMemory.{IsMemoryOf}
 use Rattle.tsdb_memory.specs.Store as value
 use Rattle.tsdb_memory.specs.declared.store.FrozenPair.{FrozenPair}
 use Rattle.tsdb_memory.proofs.store.MemoryStore.finish_replaced.Goals as goal

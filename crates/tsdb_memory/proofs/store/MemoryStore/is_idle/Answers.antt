@@ -3,7 +3,7 @@ use Rattle.tsdb_base.specs.declared.ids.Space.TheVariants.{Sequence}
 use Rattle.tsdb_memory.proofs.Emptiness.{idle_by, late_point, not_idle, some_point}
 use Rattle.tsdb_memory.specs.Fits.{HasNoPairPoint}
 use Rattle.tsdb_memory.specs.Model.{memory_view}
-use Rattle.tsdb_memory.specs.Shown.{TellsSpaceFilled, IsMemoryOf}
+use Rattle.tsdb_memory.specs.StateOfMemory.{TellsSpaceFilled, IsMemoryOf}
 use Rattle.tsdb_memory.specs.Store.{MemoryState}
 use Rattle.tsdb_memory.proofs.store.MemoryStore.is_idle.Goals as goal
 

@@ -3,7 +3,7 @@ use Rattle.std.specs.Option.{option_copied}
 use Rattle.tsdb_memory.proofs.Emptiness.{oldest_part}
 use Rattle.tsdb_memory.proofs.Later.{oldest_of}
 use Rattle.tsdb_memory.specs.Model.{frozen_in, memory_view}
-use Rattle.tsdb_memory.specs.Shown.{TellsSpaceFilled, IsMemoryOf}
+use Rattle.tsdb_memory.specs.StateOfMemory.{TellsSpaceFilled, IsMemoryOf}
 use Rattle.tsdb_memory.specs.Store.{MemoryState}
 use Rattle.tsdb_memory.specs.declared.store.FrozenPair.{FrozenPair}
 use Rattle.tsdb_memtable.specs.Pairs.{Pair}

@@ -2,7 +2,7 @@ use Rattle.std.proofs.Common.{◌∙◌, map, subst, sym}
 use Rattle.tsdb_memory.proofs.Counts.{counted_points}
 use Rattle.tsdb_memory.proofs.Emptiness.{part_is}
 use Rattle.tsdb_memory.specs.Model.{schema_of}
-use Rattle.tsdb_memory.specs.Shown.{IsMemoryOf, part_of}
+use Rattle.tsdb_memory.specs.StateOfMemory.{IsMemoryOf, part_of}
 use Rattle.tsdb_memory.specs.Store.{MemoryState}
 use Rattle.tsdb_memory.proofs.store.MemoryStore.points.Goals as goal
 

@@ -2,7 +2,7 @@ use Rattle.std.proofs.Common.{refl, sym, subst, ap, map}
 use Rattle.tsdb_memory.proofs.Effects.{roomy_shown, roomy_sound}
 use Rattle.tsdb_memory.specs.Model.{schema_of, memory_view}
 use Rattle.tsdb_memory.specs.Rows.{ChangesRoom}
-use Rattle.tsdb_memory.specs.Shown.{IsMemoryOf}
+use Rattle.tsdb_memory.specs.StateOfMemory.{IsMemoryOf}
 use Rattle.tsdb_memory.specs.Store.{MemoryState}
 use Rattle.tsdb_memory.proofs.store.MemoryStore.prepare_create.Goals as goal
 

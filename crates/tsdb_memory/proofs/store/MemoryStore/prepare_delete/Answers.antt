@@ -1,7 +1,7 @@
 use Rattle.std.proofs.Common.{refl, sym, subst}
 use Rattle.tsdb_memory.proofs.Effects.{roomy_shown}
 use Rattle.tsdb_memory.specs.Model.{memory_view}
-use Rattle.tsdb_memory.specs.Shown.{IsMemoryOf}
+use Rattle.tsdb_memory.specs.StateOfMemory.{IsMemoryOf}
 use Rattle.tsdb_memory.specs.Store.{MemoryState}
 use Rattle.tsdb_memory.proofs.store.MemoryStore.prepare_delete.Goals as goal
 

@@ -1,7 +1,7 @@
 use Rattle.std.proofs.Common.{◌≡◌, ◌∙◌, Some, ap, map, slice_get, subst, sym}
 use Rattle.tsdb_memory.proofs.Numbers.{holds_of, named, none_first, number_found, some_first}
 use Rattle.tsdb_memory.specs.Model.{schema_of}
-use Rattle.tsdb_memory.specs.Shown.{number_of}
+use Rattle.tsdb_memory.specs.StateOfMemory.{number_of}
 use Rattle.tsdb_memory.specs.Store as value
 use Rattle.tsdb_memory.proofs.store.MemoryStore.series.Goals as goal
 

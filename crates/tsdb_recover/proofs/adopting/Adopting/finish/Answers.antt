@@ -2,12 +2,12 @@ use Rattle.std.proofs.Common.{◌≡◌, [], map, None, sym, subst}
 use Rattle.tsdb_recover.proofs.AdoptedCore.{above_kept, opened_files, same_wanted, stored_opened}
 use Rattle.tsdb_fileset.specs.Files.{KeptFiles}
 use Rattle.tsdb_recover.specs.Adopting.{HaveNoClaims, adopting_files, opening_of}
-use Rattle.tsdb_recover.specs.Known.{known_of}
+use Rattle.tsdb_recover.specs.FileEntries.{known_of}
 use Rattle.tsdb_core.specs.Core.{IsSeen}
 use Rattle.tsdb_frames.specs.Frames.{IsLog}
 use Rattle.tsdb_log.specs.Spelling.{spelling}
-use Rattle.tsdb_memory.specs.Logged.{Outside}
-use Rattle.tsdb_memory.specs.Shown.{IsMemoryOf}
+use Rattle.tsdb_memory.specs.LogState.{Outside}
+use Rattle.tsdb_memory.specs.StateOfMemory.{IsMemoryOf}
 use Rattle.tsdb_state.specs.NewStore.{opened}
 use Rattle.tsdb_recover.proofs.adopting.Adopting.finish.Goals as goal
 

@@ -1,5 +1,5 @@
 use Rattle.std.proofs.Common.{arith, max, subst, sym}
-use Rattle.tsdb_redo.specs.Named.{IsGreatest, Named}
+use Rattle.tsdb_redo.specs.NamedNumbers.{IsGreatest, Named}
 use Rattle.tsdb_redo.proofs.Greatest.{newest_end, with_newest, without_newest}
 use Rattle.tsdb_redo.proofs.numbers.NamedNumbers.greatest.Goals as goal
 

@@ -4,7 +4,7 @@ use Rattle.std.proofs.lemmas.Result.{err_from_is_err_and}
 use Rattle.std.specs.Int.{w64}
 use Rattle.std.specs.Prelude.{true}
 use Rattle.tsdb_log.specs.declared.record.LogRecord.TheVariants.{Insert}
-use Rattle.tsdb_memory.specs.Shown.{IsMemoryOf}
+use Rattle.tsdb_memory.specs.StateOfMemory.{IsMemoryOf}
 use Rattle.tsdb_redo.proofs.Following.{names_nothing, passed_on, shows_after, without_replay}
 use Rattle.tsdb_redo.proofs.RowFacts.{can_insert, row_differs}
 use Rattle.tsdb_redo.specs.Rows.{HasNoInsert, TellsRoomFor, IsRowOf}

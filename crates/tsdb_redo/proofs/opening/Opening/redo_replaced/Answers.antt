@@ -4,7 +4,7 @@ use Rattle.std.proofs.lemmas.Result.{err_from_is_err_and}
 use Rattle.tsdb_redo.proofs.Replaced.{replacing, shows_replaced}
 use Rattle.tsdb_redo.proofs.Following.{kept_lists, kept_state, out_of_memory, shows_same, without_replay}
 use Rattle.tsdb_redo.specs.Lists.{CanReplaceIn, replacement_of}
-use Rattle.tsdb_redo.specs.Stored.{replaced_record}
+use Rattle.tsdb_redo.specs.FileRecords.{replaced_record}
 use Rattle.tsdb_redo.specs.declared.opening.Opening.{Opening}
 use Rattle.tsdb_redo.proofs.opening.Opening.redo_replaced.Goals as goal
 

@@ -5,7 +5,7 @@ use Rattle.tsdb_path.specs.Nodes.{device_of, measurement_of}
 use Rattle.tsdb_pages.specs.File.{head}
 use Rattle.tsfile_writer.specs.declared.builder.OpenSeries.{OpenSeries}
 use Rattle.tsfile_writer.specs.Building.{IsGiven}
-use Rattle.tsfile_writer.specs.Given.{MayBeFollowedBy, GivenSeries, given_series}
+use Rattle.tsfile_writer.specs.BuilderInput.{MayBeFollowedBy, GivenSeries, given_series}
 use Rattle.tsfile_writer.proofs.Waiting.{state_at}
 use Rattle.tsfile_writer.proofs.Closing.{first_begun, names_before, next_begun}
 use Rattle.tsfile_writer.proofs.builder.Builder.series.Goals as goal

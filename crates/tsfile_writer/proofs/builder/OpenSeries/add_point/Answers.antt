@@ -2,7 +2,7 @@ use Rattle.std.proofs.Common.{◌≡◌, ◌<◌, List, [], ◌∷◌, ◌++◌,
 use Rattle.tsdb_base.specs.declared.point.Point.{Point}
 use Rattle.tsdb_base.specs.Limits.{max_values}
 use Rattle.tsdb_pages.specs.Pages.{IsInRange}
-use Rattle.tsfile_writer.specs.Given.{with_last_point}
+use Rattle.tsfile_writer.specs.BuilderInput.{with_last_point}
 use Rattle.tsfile_writer.proofs.Waiting.{are_points, state_at, page_turned, point_suits, point_waits}
 use Rattle.tsfile_writer.proofs.builder.OpenSeries.add_point.Goals as goal
 use Rattle.tsfile_writer.proofs.builder.OpenSeries.add_point.Goals.{then-len-eq-MAX_POINTS+in_ok-put_page, else-len-eq-MAX_POINTS}

@@ -1,0 +1,28 @@
+use Rattle.std.proofs.Common.{◌∙◌, sym}
+use Rattle.tsdb_history.proofs.Replies.{fault_is_device, fault_is_not_done, writes_cross, writing_done, writing_failed}
+use Rattle.tsdb_model.specs.declared.reply.Reply.TheVariants.{Plain}
+use Rattle.tsdb_base.specs.declared.answers.Answer.TheVariants.{Done}
+use Rattle.tsdb_querying.proofs.ServingFull.{by_number, full_fault, no_full}
+use Rattle.tsdb_history.proofs.serving.serve_cross.Goals as goal
+
+pub returns-in-Ok-clause-answers : goal.returns-in-Ok-clause-answers
+returns-in-Ok-clause-answers g c = λ tells. writing_done _ writes_cross c.args.core.now c.compact_cross.new.core (c.compact_cross.ensures.goes_on.keeps tells)
+
+pub returns-in-Err-clause-answers : goal.returns-in-Err-clause-answers
+returns-in-Err-clause-answers g c = λ tells. writing_failed _ writes_cross c.args.core.now c.compact_cross.new.core
+    (c.compact_cross.ensures.goes_on.keeps tells) c.in-Err.fault c.in-Err.ensures.full
+    c.answer.result c.answer.ensures
+
+pub returns-in-Err-clause-compacted : goal.returns-in-Err-clause-compacted
+returns-in-Err-clause-compacted g c = λ done. absurd (fault_is_not_done c.in-Err.fault (sym c.answer.ensures ∙ done))
+
+pub returns-in-Err-clause-cause : goal.returns-in-Err-clause-cause
+returns-in-Err-clause-cause g c = λ sure device. c.in-Err.ensures.cause sure
+    (fault_is_device c.in-Err.fault (sym c.answer.ensures ∙ device))
+
+pub returns-in-Ok-clause-full : goal.returns-in-Ok-clause-full
+returns-in-Ok-clause-full g c = no_full c.compact_cross.new.core (Plain Done) (λ counter is. absurd cc)
+
+pub returns-in-Err-clause-full : goal.returns-in-Err-clause-full
+returns-in-Err-clause-full g c = by_number c.args.core.now c.compact_cross.new.core c.answer.result
+    (λ counter is. c.in-Err.ensures.counter counter (full_fault c.in-Err.fault counter (sym c.answer.ensures ∙ is)))

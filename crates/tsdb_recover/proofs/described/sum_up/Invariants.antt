@@ -1,5 +1,0 @@
-use Rattle.tsdb_recover.proofs.Summaries.{HasSummed}
-use Rattle.tsdb_recover.proofs.described.sum_up.Given as goal
-
-abbrev pub invariant-loop-entry : goal.invariant-loop-entry
-invariant-loop-entry l = HasSummed l.entries l.entry-index l.summary
