@@ -78,8 +78,8 @@ unless_idle store count same few idle empty some = record {
 }
   where
     busy : (idle : Bool) → not idle ≡ true → idle ≡ false
-    busy true yes = absurd (false≢true yes)
-    busy false yes = refl
+    busy true is = absurd (false≢true is)
+    busy false is = refl
 
     by : (idle : Bool) (state : StoreState) → IsMemoryOf store state → (IsTrue idle ↔ IsEmptyPair state.working)
         → IsTrue (not idle) ↔ CanFreeze state

@@ -40,7 +40,7 @@ pub(crate) fn lane_of<'a, R: ReadRight>(
     found: Option<IndexEntry>,
 ) -> Lane<'a, R>
     ensures { (names : List ℕ × List ℕ) → IsFoundIn (R.file right.now) names found
-        → OpensAs R.file names (Source.File right.entry born) result }
+        → OpensAs R.file names (StreamSource.File right.entry born) result }
 {
     match found {
         Some(entry) => Lane::Pages(PageLane {
@@ -67,7 +67,7 @@ fn open_file<'a, P: Port>(
 ) -> Result<Lane<'a, P::Right>, StoreFault>
     requires of_store { (P.Right.file right.now).store ≡ P.store port.old }
     ensures opens { IfOk result
-        (OpensAs P.Right.file (device.now, measurement.now) (Source.File right.entry born)) }
+        (OpensAs P.Right.file (device.now, measurement.now) (StreamSource.File right.entry born)) }
     ensures of_store { IfOk result (IsLaneOfStore P.Right.file (P.store port.new)) }
     ensures reason { (pages : FilePages) → IsTruth (device.now, measurement.now) pages (P.Right.file right.now)
         → HasReason (IsTold pages (P.Right.file right.now)) (P.faults port.old) (P.faults port.new) result }

@@ -9,6 +9,6 @@ returns c borns is = subst (λ (s : Stamp). IsLeastWith (Some s) c.args.job.now 
     (least_with_job c.args.least c.args.job.now borns (not_none c.count_drawn.result _ c.count_drawn.ensures c.if-count_drawn-eq0.false)
     is)
 
-pub returns-then-drawn-eq0 : goal.returns-then-drawn-eq0
+pub returns-then-count_drawn-eq0 : goal.returns-then-count_drawn-eq0
 returns-then-count_drawn-eq0 c borns is =
     least_without c.args.least c.args.job.now borns (sym c.count_drawn.ensures ∙ c.if-count_drawn-eq0.true) is

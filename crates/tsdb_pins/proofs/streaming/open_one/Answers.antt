@@ -7,7 +7,7 @@ use Rattle.tsdb_pins.proofs.Lent.{all_left, kept_rising, of_store_lent, told_len
 use Rattle.tsdb_pins.specs.Reading.{IsLentAs}
 use Rattle.tsdb_pins.proofs.streaming.open_one.Goals as goal
 
-pub open_column-requires-clause-of_store : goal.open_column-requires-clause-of_store
+pub open_stream-requires-clause-of_store : goal.open_stream-requires-clause-of_store
 open_stream-requires-clause-of_store g c = λ lifetimes lives.
     of_store_lent g.F.Right.ReadRight.file _ c.args.column.now.sources c.in_ok-sources.sources.items
     (subst (λ l. AllZip IsLentAs l c.in_ok-sources.sources.items) c.items.ensures c.in_ok-sources.ensures) c.requires.of_store

@@ -1,7 +1,7 @@
 use Rattle.tsdb_core.proofs.Replacements.{appends_end, room_for}
 use Rattle.tsdb_core.proofs.engine.Core.log_end.Goals as goal
 
-pub replaced-outcome-requires-after_bounds : goal.replaced-outcome-requires-after_bounds
+pub append_replaced-outcome-requires-after_bounds : goal.append_replaced-outcome-requires-after_bounds
 append_replaced-outcome-requires-after_bounds g c = λ lifetimes lives. room_for g.F.Right.ReadRight.file c.args.self.now
     c.args.job c.args.job.born c.args.job.space c.place_of.result c.number_of.result c.requires.out
 

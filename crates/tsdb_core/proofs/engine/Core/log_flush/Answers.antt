@@ -2,7 +2,7 @@ use Rattle.tsdb_core.proofs.Commits.{appended, record_room}
 use Rattle.tsdb_fileset.specs.Files.{listed_borns}
 use Rattle.tsdb_core.proofs.engine.Core.log_flush.Goals as goal
 
-pub flushed-requires-clause-room : goal.flushed-requires-clause-room
+pub append_flushed-requires-clause-room : goal.append_flushed-requires-clause-room
 append_flushed-requires-clause-room g c = λ lifetimes lives. record_room c.args.self.now c.args.job.now c.requires
 
 pub returns-in-Ok-clause-logged : goal.returns-in-Ok-clause-logged

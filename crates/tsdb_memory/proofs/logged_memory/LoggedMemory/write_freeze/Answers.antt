@@ -130,6 +130,6 @@ returns-clause-memory g c = frozen_after (memory_of c.args.self.now) (memory_of 
     c.in_ok-append.ensures.memory c.in_ok-freezing.ensures.kept) c.finish_freeze.ensures.made
 
 pub finish_freeze-requires-clause-some : goal.finish_freeze-requires-clause-some
-finish_freeze-requires-clause-some g c = λ lifetimes lives.
+finish_freeze-requires-clause-some g c =
     subst (λ (p : Pair). ¬ HasNoPairPoint p)
     (sym (ap (λ (s : MemoryState). s.working) c.in_ok-append.ensures.memory ∙ c.in_ok-freezing.ensures.working)) c.requires.some
