@@ -12,8 +12,8 @@ use Rattle.tsdb_base.specs.declared.answers.Answer.TheVariants as answer
 use Rattle.tsdb_core.proofs.Seen.{core_command}
 use Rattle.tsdb_core.proofs.Worlds.{freeze_keeps, order_seen, row_step}
 use Rattle.tsdb_core.specs.Commands.{IsCoreCommand, KeepsFiles}
-use Rattle.tsdb_core.specs.Core.{IsSeen, limit_of, logged_of, working_of}
-use Rattle.tsdb_core.specs.RowSteps.{AreReadCells, CanFreezeFor, HasStateCounts, IsUnchangedAnswer}
+use Rattle.tsdb_core.specs.Core.{HasStateCounts, IsSeen, limit_of, logged_of, working_of}
+use Rattle.tsdb_core.specs.RowSteps.{AreReadCells, CanFreezeFor, IsUnchangedAnswer}
 use Rattle.tsdb_core.specs.Rows.{CountsRow, FitsCore, HasRowPlace, IsFrozenFor, IsRowPut, IsRowCommand, NeedsFlush}
 use Rattle.tsdb_core.specs.Worlds.{CoreFollowsMap, IsWorldOf, CoreKeepsWorld}
 use Rattle.tsdb_core.specs.declared.engine.Core.{Core}

@@ -7,15 +7,17 @@ use Rattle.tsdb_core.specs.declared.engine.Core.{Core}
 use Rattle.tsdb_fileset.specs.StateOfFiles.{AreFilesOf, TellTheirBytes}
 use Rattle.tsdb_fileset.specs.Files.{IsOpen, KeptFiles, kept_file}
 use Rattle.tsdb_base.specs.Lists.{count}
+use Rattle.tsdb_memory.specs.Fits.{HasCounts}
 use Rattle.tsdb_memory.specs.LogState.{IsSoundLogged, Outside, memory_of, framed_room}
 use Rattle.tsdb_memory.specs.declared.logged_memory.LoggedMemory.{LoggedMemory}
+use Rattle.tsdb_memory.specs.StateOfMemory.{IsMemoryOf}
 use Rattle.tsdb_memory.specs.Store.{FrozenPair}
 use Rattle.tsdb_memtable.specs.Pairs.{Pair}
 use Rattle.tsdb_outside.specs.declared.disk.Disk as disk
 use Rattle.tsdb_outside.specs.declared.faults.Counted as counted
 use Rattle.tsdb_state.specs.Jobs.{KeepsRoom, drawn_numbers}
 use Rattle.tsdb_state.specs.Plans.{ClaimLate, IsSequenceFree}
-use Rattle.tsdb_state.specs.State.{Compaction, EngineState, File, FlushState, Room}
+use Rattle.tsdb_state.specs.State.{Compaction, EngineState, File, FlushState, Room, StoreState}
 
 -- the number is one, and above those of all kept files
 pub record IsAboveNumbers (next : ℕ) (files : KeptFiles) : Type 0 where
@@ -39,6 +41,11 @@ module _ {J F S R P : Type 0} {means : disk.Ghosts J} {counts : counted.Ghosts J
   -- the pair that rows are put into
   abbrev pub working_of : Core J F S R P means counts → Pair
   working_of core = (memory_of (logged_of core)).working
+
+  -- the working pair of each state has the counts of the one in memory
+  abbrev pub HasStateCounts : Core J F S R P means counts → Type 0
+  HasStateCounts core = (state : StoreState) → IsMemoryOf (memory_of (logged_of core)) state
+      → HasCounts (working_of core) state.working
 
   -- the files that are kept
   abbrev pub files_of : Core J F S R P means counts → KeptFiles

@@ -6,19 +6,18 @@ use Rattle.tsdb_core.specs.Core.{IsSeen, logged_of, working_of}
 use Rattle.tsdb_core.specs.Rows.{FitsCore}
 use Rattle.tsdb_core.specs.declared.engine.Core.{Core}
 use Rattle.tsdb_log.specs.declared.record.CellRecord.{CellRecord}
-use Rattle.tsdb_memory.specs.LogState.{Outside, memory_of}
+use Rattle.tsdb_memory.specs.LogState.{Outside}
 use Rattle.tsdb_base.specs.Limits.{max_names}
 use Rattle.tsdb_model.specs.declared.command.Cell.{Cell}
 use Rattle.tsdb_model.specs.declared.command.Row.{Row}
 use Rattle.tsdb_model.specs.declared.command.Schema.{Schema}
-use Rattle.tsdb_memory.specs.StateOfMemory.{IsMemoryOf, series_entry}
+use Rattle.tsdb_memory.specs.StateOfMemory.{series_entry}
 use Rattle.tsdb_outside.specs.declared.disk.Disk as disk
 use Rattle.tsdb_outside.specs.declared.faults.Counted as counted
-use Rattle.tsdb_memory.specs.Fits.{HasCounts}
 use Rattle.tsdb_memory.specs.RowReading.{AreOfDifferentSeries, AreOfDevice}
 use Rattle.tsdb_state.specs.Commands.{AreCells}
 use Rattle.tsdb_state.specs.Records.{CanFreeze}
-use Rattle.tsdb_state.specs.State.{EngineState, StoreState}
+use Rattle.tsdb_state.specs.State.{EngineState}
 
 -- the cells of the row as its record has them, of different series of the device
 pub record AreReadCells (series : List Schema) (device : List ℕ) (row : List Cell) (cells : List CellRecord)
@@ -39,11 +38,6 @@ IsUnchangedAnswer Memory = Unit {0}
 IsUnchangedAnswer (Full counter) = Unit {0}
 
 module _ {J F S R P : Type 0} {means : disk.Ghosts J} {counts : counted.Ghosts J} where
-  -- the working pair of each state has the counts of the one in memory
-  abbrev pub HasStateCounts : Core J F S R P means counts → Type 0
-  HasStateCounts core = (state : StoreState) → IsMemoryOf (memory_of (logged_of core)) state
-      → HasCounts (working_of core) state.working
-
   -- where the row does not fit, the working pair of each state can be frozen
   abbrev pub CanFreezeFor : Row → Core J F S R P means counts → Type 0
   CanFreezeFor row core = (outside : Outside) (state : EngineState) → IsSeen core outside state → ¬ FitsCore row core

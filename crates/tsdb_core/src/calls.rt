@@ -20,8 +20,7 @@ use tsdb_path::Path;
 
 impl<J: Journal, F: Files> Core<J, F> {
     ghost use Rattle.tsdb_core.specs.Commands.{DeletesPoints, IsCoreCommand, KeepsFiles};
-    ghost use Rattle.tsdb_core.specs.Core.{files_of, logged_of, working_of};
-    ghost use Rattle.tsdb_core.specs.RowSteps.{HasStateCounts};
+    ghost use Rattle.tsdb_core.specs.Core.{HasStateCounts, files_of, logged_of, working_of};
     ghost use Rattle.tsdb_core.specs.Rows.{CanFreezeNow};
     ghost use Rattle.tsdb_core.specs.Sweeps.{IsSwept};
     ghost use Rattle.tsdb_core.specs.Worlds.{CoreFollowsMap, CoreKeepsWorld};
@@ -118,9 +117,11 @@ impl<J: Journal, F: Files> Core<J, F> {
             (F.at_rest files.new) }
         ensures rising { AreNumbersRising (files_of self).places }
         ensures kept { AreKept (files_of self) }
+        ensures counts { HasStateCounts self }
         ensures same_store { F.store files.new ≡ F.store files.old }
         ensures faults { F.faults files.new ≡ F.faults files.old }
     {
+        self.tell_counts();
         let Core {
             alloc: _,
             logged,

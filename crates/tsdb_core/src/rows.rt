@@ -27,10 +27,10 @@ const LAST_STAMP: u64 = END_OF_NUMBERS;
 
 impl<J: Journal, F: Files> Core<J, F> {
     ghost use Rattle.tsdb_core.specs.Commands.{KeepsFiles};
-    ghost use Rattle.tsdb_core.specs.Core.{limit_of, logged_of};
+    ghost use Rattle.tsdb_core.specs.Core.{HasStateCounts, limit_of, logged_of};
     ghost use Rattle.tsdb_core.specs.Rows.{CountsRow, FitsCore, HasRowPlace, IsFrozenFor, IsRowCommand, LeavesRow};
     ghost use Rattle.tsdb_core.specs.Rows.{NeedsFlush};
-    ghost use Rattle.tsdb_core.specs.RowSteps.{CanFreezeFor, HasStateCounts};
+    ghost use Rattle.tsdb_core.specs.RowSteps.{CanFreezeFor};
     ghost use Rattle.tsdb_core.specs.Worlds.{CoreFollowsMap, IsWorldOf};
     ghost use Rattle.tsdb_memory.specs.LogState.{log_of, memory_of};
 

@@ -2,17 +2,18 @@
 use Rattle.std.proofs.Common.{◌≡◌, ◌⊎◌, inl, inr, ℕ, ◌-◌, ◌<◌, ◌≤◌, ◌==◌, true, cond, List, [], ◌∷◌, ◌++◌}
 use Rattle.std.proofs.Common.{length, map, Option, Some, None, refl, sym, ap, subst, ◌∙◌, arith}
 use Rattle.std.proofs.lemmas.List.{map-append}
-use Rattle.std.specs.List.{AllByRecursion as Each}
+use Rattle.std.specs.List.{AllByRecursion as Each, AllZip}
 use Rattle.std.specs.Option.{IsSomeAnd}
 use Rattle.std.specs.Prelude.{IfSome}
 use Rattle.tsdb_querying.proofs.CoreJobs.{is_there}
-use Rattle.tsdb_querying.specs.Core.{files_of, logged_of}
+use Rattle.tsdb_querying.specs.Core.{HasStateCounts, files_of, logged_of, working_of}
 use Rattle.tsdb_querying.specs.Listings.{TellsStore}
 use Rattle.tsdb_querying.specs.CoreType.{Core}
 use Rattle.tsdb_fileset.specs.StateOfFiles.{AreFilesOf, listed, outgoing_file}
 use Rattle.tsdb_fileset.proofs.StoredPlaces.{IsToldAt, at_place, differing, each_stored, few, found, named, stored_at}
 use Rattle.tsdb_history.specs.Closing.{IsCoreClosed}
-use Rattle.tsdb_history.specs.Listings.{IsListingOf}
+use Rattle.tsdb_history.specs.Listings.{IsAllInFiles, IsListingOf}
+use Rattle.tsdb_history.specs.Serves.{HasFlushed}
 use Rattle.tsdb_state.proofs.ImageLemmas.Kept.{holds_found, kept_by_number}
 use Rattle.tsdb_state.proofs.ImageLemmas.Storing.{others_kept}
 use Rattle.tsdb_state.specs.StoredEngine.{LeadsTo, LeavesOneOf, kept_bytes}
@@ -23,8 +24,11 @@ use Rattle.tsdb_fileset.specs.declared.files.Outgoing.{Outgoing}
 use Rattle.tsdb_base.proofs.Lists.{each_from_among, each_left, among_map}
 use Rattle.tsdb_base.specs.Lists.{Among, count, if_some}
 use Rattle.tsdb_log.specs.declared.record.LogRecord.{LogRecord}
+use Rattle.tsdb_memory.proofs.RowLemmas.Counts.{empty_pair}
 use Rattle.tsdb_memory.specs.Closing as logged
-use Rattle.tsdb_memory.specs.LogState.{IsSoundLogged, Outside}
+use Rattle.tsdb_memory.specs.LogState.{IsSoundLogged, Outside, memory_of}
+use Rattle.tsdb_memory.specs.StateOfMemory.{IsFrozenOf, IsMemoryOf}
+use Rattle.tsdb_memory.specs.Store.{MemoryState}
 use Rattle.tsdb_model.specs.State as plain
 use Rattle.tsdb_model.specs.declared.reply.Listing.{Listing}
 use Rattle.tsdb_base.specs.Causes.{Rose}
@@ -42,7 +46,20 @@ use Rattle.tsdb_querying.specs.Flushing.{faults_under}
 use Rattle.tsdb_querying.specs.Serving.{AreHeldWith, IsServing, disk_under, slot_under}
 use Rattle.tsdb_state.specs.Order.{all_files as state_files}
 use Rattle.tsdb_state.specs.Records.{numbers_of as state_numbers}
-use Rattle.tsdb_state.specs.State.{EngineState, KnownFiles, File}
+use Rattle.tsdb_state.specs.Replays.{IsReplayOf}
+use Rattle.tsdb_state.specs.State as state
+use Rattle.tsdb_state.specs.State.{EngineState, KnownFiles, File, StoreState}
+
+-- ---- the working pair and the frozen ones
+
+-- where no pair is frozen in memory, none is in its state
+none_frozen : (memory : MemoryState) (shown : StoreState) → IsMemoryOf memory shown → memory.frozen ≡ [] → shown.frozen ≡ []
+none_frozen memory shown is none =
+    by shown.frozen (subst (λ frozen. AllZip (IsFrozenOf memory.series) frozen shown.frozen) none is.frozen)
+  where
+    by : (frozen : List state.FrozenContent) → AllZip (IsFrozenOf memory.series) [] frozen → frozen ≡ []
+    by [] all = refl
+    by (pair ∷ frozen) all = absurd all
 
 -- ---- the numbers of files
 
@@ -80,8 +97,8 @@ some_of None none = absurd (omega (arith, none))
 some_of (Some x) one = (x, refl)
 
 module _ {J F S R P : Type 0} {means : disk.Ghosts J} {counts : counted.Ghosts J} (core : Core J F S R P means counts)
-    (are_kept : AreKept (files_of core)) (rising : AreNumbersRising (files_of core).places) (put : List StoredFile)
-    (at : plain.State) (next : Option plain.State) (serving : IsServing core put at next) where
+    (are_kept : AreKept (files_of core)) (rising : AreNumbersRising (files_of core).places) (pair_counts : HasStateCounts core)
+    (put : List StoredFile) (at : plain.State) (next : Option plain.State) (serving : IsServing core put at next) where
   abbrev kept : List StoredFile
   kept = serving.outside.kept
 
@@ -210,6 +227,7 @@ module _ {J F S R P : Type 0} {means : disk.Ghosts J} {counts : counted.Ghosts J
         (laws.counts_now (disk_under core).moment image moments.passes.later left);
     sound = λ sure. is_sound (calm sure);
     listed = λ sure listing tells image left. lists (calm sure) listing tells image left;
+    flushed = λ sure all image left. in_files (calm sure) all image left;
   }
     where
       moments : LeavesOnly (disk_under core) new (LeavesOneOf stored (slot_under core) at next)
@@ -226,17 +244,32 @@ module _ {J F S R P : Type 0} {means : disk.Ghosts J} {counts : counted.Ghosts J
       is_sound (inr none) = closes.undoubted outside serving.state at (kept_bytes stored) none sound serving.stands
           stored_found
 
+      replayed : (¬ Rose (faults_under core) faults) ⊎ (serving.state.doubt ≡ None) → (image : Image)
+          → new.may_leave image → IsReplayOf store.store_steps (in_slot (slot_under core) image)
+          (record { named = sound.stored.named; store = serving.state.store })
+      replayed sure image left = record {
+        items = serving.outside.items;
+        good = sound.stored.good;
+        records = closes.records outside serving.state sound sure image left;
+        replayed = sound.stored.replayed;
+      }
+
+      in_files : (¬ Rose (faults_under core) faults) ⊎ (serving.state.doubt ≡ None) → HasFlushed core → (image : Image)
+          → new.may_leave image → IsAllInFiles (in_slot (slot_under core) image)
+      in_files sure all image left = record {
+        recorded = record { named = sound.stored.named; store = serving.state.store };
+        replayed = replayed sure image left;
+        frozen = none_frozen (memory_of (logged_of core)) serving.state.store serving.seen.sound.memory all.0;
+        working = (empty_pair (working_of core) serving.state.store.working
+            (pair_counts serving.state.store serving.seen.sound.memory)).0 all.1;
+      }
+
       lists : (¬ Rose (faults_under core) faults) ⊎ (serving.state.doubt ≡ None) → (listing : Listing)
           → TellsStore core listing → (image : Image) → new.may_leave image
           → IsListingOf (kept_bytes stored) (in_slot (slot_under core) image) listing
       lists sure listing tells image left = record {
         recorded = record { named = sound.stored.named; store = serving.state.store };
-        replayed = record {
-          items = serving.outside.items;
-          good = sound.stored.good;
-          records = closes.records outside serving.state sound sure image left;
-          replayed = sound.stored.replayed;
-        };
+        replayed = replayed sure image left;
         told = serving.outside.told;
         whole = each_left (IsWhole (kept_bytes stored) serving.outside.told)
             (serving.state.store.sequence ++ serving.state.store.unsequence) serving.state.outgoing sound.stored.whole;

@@ -4,7 +4,7 @@ use Rattle.std.proofs.lemmas.List.{length-append}
 use Rattle.std.proofs.lemmas.List.Elements.{All-from_recursion, recursion_from_All}
 use Rattle.std.specs.List.{AllByRecursion as Each}
 use Rattle.tsdb_history.proofs.Entries.{heads}
-use Rattle.tsdb_history.specs.Prefixes.{EndsDone, EndsListed, IsDoneChange, IsQuery}
+use Rattle.tsdb_history.specs.Prefixes.{LastIs, EndsListed}
 use Rattle.tsdb_base.proofs.Lists.{each_left, each_right}
 use Rattle.tsdb_model.specs.History.{Entry}
 use Rattle.tsdb_model.specs.declared.command.Command.{Command}
@@ -33,35 +33,39 @@ ends_in (y ∷ xs) = by (ends_in xs)
     by (inl none) = inr ([], y, ap (λ l. y ∷ l) none)
     by (inr found) = inr (y ∷ found.0, found.1, ap (λ l. y ∷ l) found.2)
 
--- what ends in a change that was done does so in its last entry, or the last is a query and those before it do so
-pub last_ends : (entries : List Entry) (entry : Entry) → EndsDone (entries ++ entry ∷ [])
-    → IsDoneChange entry ⊎ (EndsDone entries × IsQuery entry.command)
-last_ends entries entry ends = by (ends_in ends.later)
+-- what ends in such an entry does so in its last one, or the last one passes and those before it end so
+pub last_ends : (Is Passes : Entry → Type 0) (entries : List Entry) (entry : Entry)
+    → LastIs Is Passes (entries ++ entry ∷ []) → Is entry ⊎ (LastIs Is Passes entries × Passes entry)
+last_ends Is Passes entries entry ends = by (ends_in ends.later)
   where
     by : (ends.later ≡ []) ⊎ ((front : List Entry) × (x : Entry) × (ends.later ≡ front ++ x ∷ []))
-        → IsDoneChange entry ⊎ (EndsDone entries × IsQuery entry.command)
-    by (inl none) = inl (subst IsDoneChange (sym (same_end entries ends.before entry ends.last
-        (ends.split ∙ ap (λ l. ends.before ++ (ends.last ∷ l)) none)).1) ends.done)
+        → Is entry ⊎ (LastIs Is Passes entries × Passes entry)
+    by (inl none) = inl (subst Is (sym (same_end entries ends.before entry ends.last
+        (ends.split ∙ ap (λ l. ends.before ++ (ends.last ∷ l)) none)).1) ends.such)
     by (inr found) =
         let same = same_end entries (ends.before ++ (ends.last ∷ found.0)) entry found.1
         (ends.split ∙ ap (λ l. ends.before ++ (ends.last ∷ l)) found.2
         ∙ sym (append_assoc ends.before (ends.last ∷ found.0) (found.1 ∷ []))) in
-        let each : Each (λ (e : Entry). IsQuery e.command) (found.0 ++ found.1 ∷ []) =
-        subst (Each (λ (e : Entry). IsQuery e.command)) found.2
-        (recursion_from_All (λ (e : Entry). IsQuery e.command) ends.later ends.since) in
+        let each : Each Passes (found.0 ++ found.1 ∷ []) =
+        subst (Each Passes) found.2 (recursion_from_All Passes ends.later ends.since) in
         inr (
           record {
             before = ends.before;
             last = ends.last;
             later = found.0;
             split = same.0;
-            done = ends.done;
-            since = All-from_recursion (λ (e : Entry). IsQuery e.command) found.0
-                (each_left (λ (e : Entry). IsQuery e.command) found.0 (found.1 ∷ []) each);
+            such = ends.such;
+            since = All-from_recursion Passes found.0 (each_left Passes found.0 (found.1 ∷ []) each);
           },
-          subst (λ (e : Entry). IsQuery e.command) (sym same.1)
-              (each_right (λ (e : Entry). IsQuery e.command) found.0 (found.1 ∷ []) each).0,
+          subst Passes (sym same.1) (each_right Passes found.0 (found.1 ∷ []) each).0,
         )
+
+-- where there are no entries none is the last
+pub none_ends : (Is Passes : Entry → Type 0) → ¬ LastIs Is Passes []
+none_ends Is Passes ends =
+    let e = ap length ends.split in
+    let l = length-append ends.before (ends.last ∷ ends.later) in
+    omega (arith, e, l)
 
 -- no entries end in a listing where there are none
 pub none_listed : (listing : Listing) → ¬ EndsListed [] listing

@@ -6,20 +6,20 @@ use Rattle.tsdb_querying.specs.Core.{logged_of, next_of}
 use Rattle.tsdb_querying.specs.Listings.{TellsStore}
 use Rattle.tsdb_querying.specs.CoreType.{Core}
 use Rattle.tsdb_frames.proofs.MomentLemmas.{leaves_on, weaker}
-use Rattle.tsdb_history.proofs.Ends.{last_ends, last_listed, none_listed}
+use Rattle.tsdb_history.proofs.Ends.{last_ends, last_listed, none_ends, none_listed}
 use Rattle.tsdb_history.proofs.Prefixes.{done_or_not, entry_of, is_change, is_reply, last_doubt, legal_more, may_stay}
 use Rattle.tsdb_history.proofs.Prefixes.{no_change, prefix_stays, stands_after, state_stays, whole_prefix}
-use Rattle.tsdb_history.specs.Prefixes.{EndsDone, IsDoneChange, IsQuery, StandsAfter, StandsAfterPrefix}
+use Rattle.tsdb_history.specs.Prefixes.{EndsDone, EndsFlushed, IsDoneChange, IsFlushDone, IsQuery, StandsAfter, StandsAfterPrefix}
 use Rattle.tsdb_history.proofs.Reach.{all_further, within_more}
 use Rattle.tsdb_history.specs.Reach.{AreFullWithin, IsFullWithin}
-use Rattle.tsdb_history.specs.Serves.{HasServed, LeavesPrefix, MayDoubtAfter}
+use Rattle.tsdb_history.specs.Serves.{HasFlushed, HasServed, LeavesPrefix, MayDoubtAfter}
 use Rattle.tsdb_base.proofs.Lists.{each_append, each_left, each_weaker}
 use Rattle.tsdb_memory.specs.LogState.{memory_of}
 use Rattle.tsdb_model.specs.Apply.{reply_of}
 use Rattle.tsdb_model.specs.History.{Entry, IsChange, IsLegal, state_after}
 use Rattle.tsdb_model.specs.State as plain
 use Rattle.tsdb_model.specs.declared.command.Command.{Command}
-use Rattle.tsdb_model.specs.declared.command.Command.TheVariants.{ShowFiles}
+use Rattle.tsdb_model.specs.declared.command.Command.TheVariants.{Flush, ShowFiles}
 use Rattle.tsdb_model.specs.declared.reply.Listing.{Listing}
 use Rattle.tsdb_model.specs.declared.reply.Reply.{Reply}
 use Rattle.tsdb_model.specs.declared.reply.Reply.TheVariants.{Plain, Files}
@@ -69,13 +69,15 @@ module _ {J F S R P : Type 0} {means : disk.Ghosts J} {counts : counted.Ghosts J
         (λ image left there holds. whole_prefix (StoreStandsFor there (in_slot (slot_under core) image)) start start [] refl
         (inl (image_left laws core files start None image is left there (each_left (Held there) files [] holds))));
     listed = λ listing ends. absurd (none_listed listing ends);
+    flushed = λ ends. absurd (none_ends IsFlushDone (λ e. e.command ≡ ShowFiles) ends);
   }
 
   module _ (first mid new : Core J F S R P means counts) (files : List StoredFile) (start : plain.State)
       (entries : List Entry) (command : Command) (reply : Reply) (so_far : HasServed first mid files start entries)
       (place : StaysInPlace first mid) (stays : StaysInPlace mid new) (full : HasFullCause new reply)
       (answers : ServesCommand mid new command reply)
-      (shows : (listing : Listing) → command ≡ ShowFiles → reply ≡ Files listing → TellsStore new listing) where
+      (shows : (listing : Listing) → command ≡ ShowFiles → reply ≡ Files listing → TellsStore new listing)
+      (flushes : command ≡ Flush → reply ≡ Plain answer.Done → HasFlushed new) (shown : command ≡ ShowFiles → new ≡ mid) where
     abbrev at : plain.State
     at = so_far.after
 
@@ -171,6 +173,12 @@ module _ {J F S R P : Type 0} {means : disk.Ghosts J} {counts : counted.Ghosts J
       reached_all = within_more (next_of new) start at entries command reply so_far.legal
           (all_further (next_of mid) (next_of new) start entries stays.next so_far.reached) last_within
 
+      all_flushed : EndsFlushed all → HasFlushed new
+      all_flushed ends = ⊎_elim (λ is. flushes is.0 is.1)
+          (λ rest. subst (λ (core : Core J F S R P means counts). HasFlushed core) (sym (shown rest.1))
+          (so_far.flushed rest.0))
+          (last_ends IsFlushDone (λ e. e.command ≡ ShowFiles) entries entry ends)
+
       led : MayDoubtAfter all now served.doubt → (EndsDone all → served.doubt ≡ None) → HasServed first new files start all
       led may settled = record {
         after = now;
@@ -197,6 +205,7 @@ module _ {J F S R P : Type 0} {means : disk.Ghosts J} {counts : counted.Ghosts J
         listed = λ listing ended.
             let is = last_listed entries command reply listing ended in
             shows listing is.0 is.1;
+        flushed = all_flushed;
       }
 
     -- ---- a command whose record may have been written, or that has none
@@ -238,7 +247,7 @@ module _ {J F S R P : Type 0} {means : disk.Ghosts J} {counts : counted.Ghosts J
     query_doubt doubt query none (inr (inr (inr failed))) = absurd (query.0 failed.change)
 
     settled_then : EndsDone all → answered.served.doubt ≡ None
-    settled_then ends = by (last_ends entries entry ends)
+    settled_then ends = by (last_ends IsDoneChange (λ e. IsQuery e.command) entries entry ends)
       where
         by : IsDoneChange entry ⊎ (EndsDone entries × IsQuery entry.command) → answered.served.doubt ≡ None
         by (inl done) = answered.settled done.0 done.1
@@ -278,7 +287,7 @@ module _ {J F S R P : Type 0} {means : disk.Ghosts J} {counts : counted.Ghosts J
       kept_doubt doubt (inr (inr (inr same))) = inr (inl same)
 
       no_end : EndsDone all → kept.doubt ≡ None
-      no_end ends = by (last_ends entries entry ends)
+      no_end ends = by (last_ends IsDoneChange (λ e. IsQuery e.command) entries entry ends)
         where
           by : IsDoneChange entry ⊎ (EndsDone entries × IsQuery entry.command) → kept.doubt ≡ None
           by (inl done) = absurd (other done)

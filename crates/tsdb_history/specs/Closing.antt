@@ -3,7 +3,8 @@ use Rattle.std.specs.Prelude.{◌≡◌, ◌≢◌, ◌⊎◌, List, Option, Non
 use Rattle.std.specs.List.{AllByRecursion as Each}
 use Rattle.tsdb_querying.specs.Listings.{TellsStore}
 use Rattle.tsdb_querying.specs.CoreType.{Core}
-use Rattle.tsdb_history.specs.Listings.{IsListingOf}
+use Rattle.tsdb_history.specs.Listings.{IsAllInFiles, IsListingOf}
+use Rattle.tsdb_history.specs.Serves.{HasFlushed}
 use Rattle.tsdb_state.specs.StoredEngine.{LeavesOneOf, kept_bytes}
 use Rattle.tsdb_base.specs.Lists.{EachPair}
 use Rattle.tsdb_model.specs.State as plain
@@ -20,8 +21,8 @@ module _ {J F S R P : Type 0} {means : disk.Ghosts J} {counts : counted.Ghosts J
   -- A core was closed that is in the state; these files are stored then, of different numbers that files may have. `rose`
   -- says that the journal failed meanwhile.
   -- A stop at any moment left the state, or the one in doubt. What is left stands with the stored files for the state, or
-  -- for the one in doubt. Unless the journal failed, and wherever nothing is in doubt, it is a sound store, and a listing
-  -- of the core is the store's.
+  -- for the one in doubt. Unless the journal failed, and wherever nothing is in doubt, it is a sound store, a listing of
+  -- the core is the store's, and where all points of the core are in files so are those of the store.
   pub record IsCoreClosed (core : Core J F S R P means counts) (new : DiskState) (stored : List StoredFile)
       (rose : Type 0)
       (files : List StoredFile) (at : plain.State) (next : Option plain.State)
@@ -34,3 +35,5 @@ module _ {J F S R P : Type 0} {means : disk.Ghosts J} {counts : counted.Ghosts J
     pub sound : (¬ rose) ⊎ (next ≡ None) → IsSound (slot_under core) new (kept_bytes stored) at
     pub listed : (¬ rose) ⊎ (next ≡ None) → (listing : Listing) → TellsStore core listing → (image : Image)
         → new.may_leave image → IsListingOf (kept_bytes stored) (in_slot (slot_under core) image) listing
+    pub flushed : (¬ rose) ⊎ (next ≡ None) → HasFlushed core → (image : Image) → new.may_leave image
+        → IsAllInFiles (in_slot (slot_under core) image)

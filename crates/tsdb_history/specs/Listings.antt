@@ -1,8 +1,9 @@
--- The store that a listing lists.
-use Rattle.std.specs.Prelude.{ℕ, List, ◌++◌}
+-- The store that a listing lists, and one whose points are all in files.
+use Rattle.std.specs.Prelude.{◌≡◌, ℕ, List, [], ◌++◌}
 use Rattle.std.specs.List.{AllByRecursion as Each}
 use Rattle.tsdb_querying.specs.Listings.{ListsStore}
 use Rattle.tsdb_model.specs.declared.reply.Listing.{Listing}
+use Rattle.tsdb_state.specs.Limit.{IsEmptyPair}
 use Rattle.tsdb_state.specs.Replays.{IsReplayOf}
 use Rattle.tsdb_state.specs.Stores.{BytesByNumber, IsWhole, Recorded, store_steps}
 use Rattle.tsdb_state.specs.State.{ToldContents}
@@ -15,3 +16,11 @@ pub record IsListingOf (files : BytesByNumber) (bytes : List ℕ) (listing : Lis
   pub told : ToldContents
   pub whole : Each (IsWhole files told) (recorded.store.sequence ++ recorded.store.unsequence)
   pub lists : ListsStore told recorded.store listing
+
+-- The log in these bytes of a slot has a replay, and all points of its store are in files: no pair is frozen, and the
+-- working pair is empty.
+pub record IsAllInFiles (bytes : List ℕ) : Type 0 where
+  pub recorded : Recorded
+  pub replayed : IsReplayOf store_steps bytes recorded
+  pub frozen : recorded.store.frozen ≡ []
+  pub working : IsEmptyPair recorded.store.working

@@ -6,7 +6,7 @@ use Rattle.tsdb_model.specs.Apply.{reply_of}
 use Rattle.tsdb_model.specs.History.{DrawsNumbers, Entry, IsChange, IsLegal, state_after}
 use Rattle.tsdb_model.specs.State as plain
 use Rattle.tsdb_model.specs.declared.command.Command.{Command}
-use Rattle.tsdb_model.specs.declared.command.Command.TheVariants.{ShowFiles}
+use Rattle.tsdb_model.specs.declared.command.Command.TheVariants.{Flush, ShowFiles}
 use Rattle.tsdb_model.specs.declared.reply.Listing.{Listing}
 use Rattle.tsdb_model.specs.declared.reply.Reply.TheVariants.{Plain, Files}
 
@@ -42,14 +42,26 @@ pub record StandsAfterPrefix (Stands : plain.State → Type 0) (start : plain.St
 abbrev pub IsQuery : Command → Type 0
 IsQuery command = (¬ IsChange command) × (¬ DrawsNumbers command)
 
--- the last of these entries that is no query is a change that was done
-pub record EndsDone (entries : List Entry) : Type 0 where
+-- the last of these entries that does not pass is such a one
+pub record LastIs (Is Passes : Entry → Type 0) (entries : List Entry) : Type 0 where
   pub before : List Entry
   pub last : Entry
   pub later : List Entry
   pub split : entries ≡ before ++ (last ∷ later)
-  pub done : IsDoneChange last
-  pub since : All (λ entry. IsQuery entry.command) later
+  pub such : Is last
+  pub since : All Passes later
+
+-- the last of these entries that is no query is a change that was done
+abbrev pub EndsDone : List Entry → Type 0
+EndsDone = LastIs IsDoneChange (λ entry. IsQuery entry.command)
+
+-- a flush that was done
+abbrev pub IsFlushDone : Entry → Type 0
+IsFlushDone entry = (entry.command ≡ Flush) × (entry.reply ≡ Plain answer.Done)
+
+-- the last of these entries that is not `show files` is a flush that was done
+abbrev pub EndsFlushed : List Entry → Type 0
+EndsFlushed = LastIs IsFlushDone (λ entry. entry.command ≡ ShowFiles)
 
 -- the last of these entries is `show files`, answered with this listing
 abbrev pub EndsListed : List Entry → Listing → Type 0

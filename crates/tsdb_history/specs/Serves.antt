@@ -8,7 +8,7 @@ use Rattle.tsdb_querying.specs.Core.{next_of, working_of}
 use Rattle.tsdb_querying.specs.Listings.{TellsStore}
 use Rattle.tsdb_querying.specs.CoreType.{Core}
 use Rattle.tsdb_history.specs.History.{IsHistory, IsInLineOrder}
-use Rattle.tsdb_history.specs.Prefixes.{EndsDone, EndsListed, IsInDoubt, StandsAfterPrefix}
+use Rattle.tsdb_history.specs.Prefixes.{EndsDone, EndsFlushed, EndsListed, IsInDoubt, StandsAfterPrefix}
 use Rattle.tsdb_history.specs.Reach.{AreFullWithin}
 use Rattle.tsdb_history.specs.declared.told.Told.{Told}
 use Rattle.tsdb_base.specs.Lists.{EachPair}
@@ -62,7 +62,7 @@ module _ {J F S R P : Type 0} {means : disk.Ghosts J} {counts : counted.Ghosts J
 
   -- These entries were served, beside the files that were there. The files that were put have different numbers, which
   -- were drawn meanwhile. A stop at any moment left the state after a prefix of the entries. A listing that was
-  -- answered last is that of the core.
+  -- answered last is that of the core; after a flush that was done last all points are in files.
   pub record HasServed (old new : Core J F S R P means counts) (files : List StoredFile) (start : plain.State)
       (entries : List Entry)
       : Type 0 where
@@ -79,6 +79,7 @@ module _ {J F S R P : Type 0} {means : disk.Ghosts J} {counts : counted.Ghosts J
     pub moments : LeavesOnly (disk_under old) (disk_under new)
         (LeavesPrefix (files ++ put) (slot_under old) start entries)
     pub listed : (listing : Listing) → EndsListed entries listing → TellsStore new listing
+    pub flushed : EndsFlushed entries → HasFlushed new
 
   -- The commands of a script were executed, in the order of its lines. Where the store tells what its files hold, they
   -- were served from each state that the core may have been in.

@@ -48,6 +48,7 @@ pub fn serve<J: Journal, F: Files>(
     ensures compacted { result ≡ ReplyOf.Plain AnswerOf.Done → HasCompacted command.now core.old core.new }
     ensures listed { (listing : Listing) → command.now ≡ CommandOf.ShowFiles → result ≡ ReplyOf.Files listing
         → TellsStore core.new listing }
+    ensures shown { command.now ≡ CommandOf.ShowFiles → core.new ≡ core.old }
 {
     match command {
         Command::Create(schema) => Reply::Plain(create(core, schema)),

@@ -10,7 +10,7 @@ use Rattle.tsdb_frames.proofs.MomentLemmas.{leaves_on, weaker}
 use Rattle.std.proofs.lemmas.Option.{same_Some}
 use Rattle.tsdb_history.proofs.Prefixes.{after_wider, no_prefix, stands_after, whole_prefix}
 use Rattle.tsdb_history.specs.Closing.{IsCoreClosed}
-use Rattle.tsdb_history.specs.Listings.{IsListingOf}
+use Rattle.tsdb_history.specs.Listings.{IsAllInFiles, IsListingOf}
 use Rattle.tsdb_history.specs.Prefixes.{StandsAfter, StandsAfterPrefix}
 use Rattle.tsdb_history.specs.Serves.{HasServed, LeavesPrefix}
 use Rattle.tsdb_state.specs.StoredEngine.{LeavesOneOf, kept_bytes}
@@ -137,6 +137,8 @@ module _ {J F S R P : Type 0} {means : disk.Ghosts J} {counts : counted.Ghosts J
         subst (λ l. IsListingOf (kept_bytes l) image.a listing) (same_Some stored files (sym told ∙ there))
         (subst (λ (s : Slot). IsListingOf (kept_bytes stored) (in_slot s image) listing) in_a
         (closed.listed (by calm) listing (served.listed listing ends) image left));
+    flushed = λ calm ends image left. subst (λ (s : Slot). IsAllInFiles (in_slot s image)) in_a
+        (closed.flushed (by calm) (served.flushed ends) image left);
   }
     where
       are_stored : AreStored stored
@@ -208,6 +210,7 @@ module _ (files : List StoredFile) (start : plain.State) (entries : List Entry) 
     sound = λ calm. run.sound (calmer more wider calm);
     alone = λ calm. run.alone (calmer more wider calm);
     listed = λ calm. run.listed (calmer more wider calm);
+    flushed = λ calm. run.flushed (calmer more wider calm);
   }
 
   -- a call that writes nothing put the store down
@@ -235,6 +238,7 @@ module _ (files : List StoredFile) (start : plain.State) (entries : List Entry) 
     alone = λ calm image left. run.alone (calmer more wider calm) image (keeps.crash image left);
     listed = λ calm listing ends stored image there left.
         run.listed (calmer more wider calm) listing ends stored image (sym same ∙ there) (keeps.crash image left);
+    flushed = λ calm ends image left. run.flushed (calmer more wider calm) ends image (keeps.crash image left);
   }
 
 -- the script was executed on the store of a journal, which a place handed out and took back

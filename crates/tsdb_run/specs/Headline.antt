@@ -6,7 +6,7 @@ use Rattle.std.specs.Io.KnownBytes.{Appends, Keeps as KeepsBytes}
 use Rattle.std.specs.List.{AllByRecursion as Each}
 use Rattle.tsdb_base.specs.Causes.{Rose}
 use Rattle.tsdb_history.specs.History.{IsHistory, IsInLineOrder, told_device}
-use Rattle.tsdb_history.specs.Prefixes.{EndsDone, EndsListed, StandsAfter, StandsAfterPrefix}
+use Rattle.tsdb_history.specs.Prefixes.{EndsDone, EndsFlushed, EndsListed, StandsAfter, StandsAfterPrefix}
 use Rattle.tsdb_history.specs.Reach.{AreFullWithin, max_drawn}
 use Rattle.tsdb_history.specs.declared.told.Told.{Told}
 use Rattle.tsdb_model.specs.Commands.{AreDifferent}
@@ -17,7 +17,8 @@ use Rattle.tsdb_outside.specs.Disk.{Image, DiskState}
 use Rattle.tsdb_outside.specs.Files.{StoredFile}
 use Rattle.tsdb_outside.specs.Moments.{LeavesOnly}
 use Rattle.tsdb_run.specs.Output.{AppendsPrefix, output_text}
-use Rattle.tsdb_run.specs.Store.{Contents, IsPlaceDamaged, IsLeftAlone, IsListed, IsNextNumberOfPlace, IsSoundPlace}
+use Rattle.tsdb_run.specs.Store.{Contents, HasAllInFiles, IsPlaceDamaged, IsLeftAlone, IsListed, IsNextNumberOfPlace}
+use Rattle.tsdb_run.specs.Store.{IsSoundPlace}
 use Rattle.tsdb_run.specs.Store.{SlotsStandFor, Stores}
 use Rattle.tsdb_run.specs.declared.status.Status.{Status}
 use Rattle.tsdb_run.specs.declared.status.Status.TheVariants.{Done, Memory, Words, Script, Source, Sink, Device}
@@ -82,8 +83,10 @@ pub record HasRun (files : List StoredFile) (start : plain.State) (entries : Lis
   -- whatever a stop leaves of it stands for that state alone,
   pub alone : EndsSettled unanswered entries → (image : Image) → new.disk.may_leave image
       → SlotsStandFor stored image after
-  -- and a listing that is the last reply is that of this store
+  -- a listing that is the last reply is that of this store,
   pub listed : EndsSettled unanswered entries → (listing : Listing) → EndsListed entries listing → IsListed new listing
+  -- and a flush that was done last has left all points in files
+  pub flushed : EndsSettled unanswered entries → EndsFlushed entries → HasAllInFiles new
 
 -- A reply is `full` only where the stamp at its place can rise no further, or with a counter up to the number that the
 -- commands of the script can have drawn, from the next number of the store on.

@@ -1,8 +1,14 @@
 //! Stores in memory, as tables have them. Depends on `runs`.
+ghost use Rattle.std.specs.Prelude.{IfOk};
+ghost use Rattle.mem_outside.specs.Place.{place_state, place_stored};
+ghost use Rattle.mem_outside.specs.Steady.{inner_place};
+ghost use Rattle.tsdb_run.specs.Store.{IsSoundPlace, contents, new_state};
+
 use super::runs::NO_CALL;
-use mem_outside::{Fails, MemPlace};
+use mem_outside::{Fails, MemPlace, SteadyPlace};
 use std::alloc::Global;
 use tsdb_base::{FileNumber, Memory};
+use tsdb_run::a_new_place_is_sound;
 
 /// A store before the first run on it.
 #[derive(Clone, Copy)]
@@ -50,4 +56,16 @@ pub fn place_of(alloc: Global, store: &Store) -> Result<MemPlace, Memory> {
     let files = files_of(alloc, store.file)?;
     let slots = [Vec::from_slice(alloc, store.slot)?, vec![in alloc; 0]?];
     MemPlace::new(alloc, slots, files, fails)
+}
+
+/// A new store that never fails. It is sound, so all that is said of runs on sound stores is said of runs on it.
+pub fn new_place(alloc: Global) -> Result<SteadyPlace, Memory>
+    ensures sound { IfOk result (λ place. IsSoundPlace (contents (place_state (inner_place place))
+        (place_stored (inner_place place))) new_state) }
+{
+    let first = vec![in alloc; 0]?;
+    let second = vec![in alloc; 0]?;
+    let place = SteadyPlace::new(alloc, [first, second], Vec::new(alloc))?;
+    a_new_place_is_sound(&place);
+    Ok(place)
 }

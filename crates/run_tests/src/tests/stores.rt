@@ -1,8 +1,8 @@
 //! Stores that are opened again: what a run left, what a stop left at any moment, and damaged logs.
 use super::courses::{Course, Stops, expect, expect_kept, moments_behind, rows_in};
-use super::places::{NEW, Store, failing, place_of};
+use super::places::{NEW, Store, failing, new_place, place_of};
 use super::runs::{
-    Left, NO_CALL, Run, SELECT, SILENT, Script, is_done, left_by, put_order, script_of,
+    Left, NO_CALL, Run, SELECT, SILENT, Script, is_done, is_right, left_by, put_order, script_of,
 };
 use super::text::Text;
 use std::alloc::Global;
@@ -201,4 +201,18 @@ static NOT_OPENED: [Course<'static>; 2] = [
 #[test]
 fn stores_that_are_not_opened(rt: HostRuntime) {
     expect(&rt, rt.alloc(), &NOT_OPENED);
+}
+
+/// Whether a run on a new store that never fails leaves what it should.
+fn is_right_on_new(alloc: Global, run: &Run) -> bool {
+    match new_place(alloc) {
+        Ok(mut place) => is_right(alloc, &mut place, run),
+        Err(_) => false,
+    }
+}
+
+/// What the laws begin with: a new store, which is sound.
+#[test]
+fn a_new_store(rt: HostRuntime) {
+    assert!(rt; is_right_on_new(rt.alloc(), &FIRST));
 }

@@ -101,7 +101,8 @@ loop-numbered-preserved g c =
       served = λ tells files start serving. one_more_served g.J.Disk.lawful first mid core files start entries
           numbered.command told.reply (c.loop-numbered.invariant.served tells files start serving)
           c.loop-numbered.invariant.stays c.serve-reply.ensures.stays c.serve-reply.ensures.full
-          (c.serve-reply.ensures.answers (ap (λ s. s.tells) same_store ∙ tells)) c.serve-reply.ensures.listed;
+          (c.serve-reply.ensures.answers (ap (λ s. s.tells) same_store ∙ tells)) c.serve-reply.ensures.listed
+          c.serve-reply.ensures.flushed c.serve-reply.ensures.shown;
       sure = λ sure. sure_still store mid core numbered.command told.reply
           (λ tells. c.serve-reply.ensures.answers (ap (λ s. s.tells) same_store ∙ tells))
           (c.loop-numbered.invariant.sure sure);

@@ -1,4 +1,4 @@
-use Rattle.std.proofs.Common.{◌∙◌, subst, sym}
+use Rattle.std.proofs.Common.{◌∙◌, refl, subst, sym}
 use Rattle.tsdb_model.specs.declared.command.Command.TheVariants.{Select}
 use Rattle.tsdb_model.specs.declared.reply.Reply.TheVariants.{Plain}
 use Rattle.tsdb_querying.specs.Serving.{ServesCommand}
@@ -83,3 +83,27 @@ returns-in-CompactCross-clause-listed g c = λ listing asked is.
 
 pub returns-in-ShowFiles-clause-listed : goal.returns-in-ShowFiles-clause-listed
 returns-in-ShowFiles-clause-listed g c = λ listing asked is. c.serve_show.ensures.listed listing is
+
+pub returns-in-Create-clause-shown : goal.returns-in-Create-clause-shown
+returns-in-Create-clause-shown g c = λ asked. absurd (let same = sym asked ∙ c.in-Create.is in cc)
+
+pub returns-in-Insert-clause-shown : goal.returns-in-Insert-clause-shown
+returns-in-Insert-clause-shown g c = λ asked. absurd (let same = sym asked ∙ c.in-Insert.is in cc)
+
+pub returns-in-Delete-clause-shown : goal.returns-in-Delete-clause-shown
+returns-in-Delete-clause-shown g c = λ asked. absurd (let same = sym asked ∙ c.in-Delete.is in cc)
+
+pub returns-in-Select-clause-shown : goal.returns-in-Select-clause-shown
+returns-in-Select-clause-shown g c = λ asked. absurd (let same = sym asked ∙ c.in-Select.is in cc)
+
+pub returns-in-Flush-clause-shown : goal.returns-in-Flush-clause-shown
+returns-in-Flush-clause-shown g c = λ asked. absurd (let same = sym asked ∙ c.in-Flush.is in cc)
+
+pub returns-in-CompactInner-clause-shown : goal.returns-in-CompactInner-clause-shown
+returns-in-CompactInner-clause-shown g c = λ asked. absurd (let same = sym asked ∙ c.in-CompactInner.is in cc)
+
+pub returns-in-CompactCross-clause-shown : goal.returns-in-CompactCross-clause-shown
+returns-in-CompactCross-clause-shown g c = λ asked. absurd (let same = sym asked ∙ c.in-CompactCross.is in cc)
+
+pub returns-in-ShowFiles-clause-shown : goal.returns-in-ShowFiles-clause-shown
+returns-in-ShowFiles-clause-shown g c = λ asked. refl
