@@ -1,7 +1,7 @@
 -- What a core leaves that is closed.
 use Rattle.std.proofs.Common.{◌≡◌, ◌⊎◌, inl, inr, ℕ, ◌-◌, ◌<◌, ◌≤◌, ◌==◌, true, cond, List, [], ◌∷◌, ◌++◌}
 use Rattle.std.proofs.Common.{length, map, Option, Some, None, refl, sym, ap, subst, ◌∙◌, arith}
-use Rattle.std.proofs.lemmas.List.{map-append}
+use Rattle.std.proofs.lemmas.List.{append-nil, map-append}
 use Rattle.std.specs.List.{AllByRecursion as Each, AllZip}
 use Rattle.std.specs.Option.{IsSomeAnd}
 use Rattle.std.specs.Prelude.{IfSome}
@@ -12,7 +12,7 @@ use Rattle.tsdb_querying.specs.CoreType.{Core}
 use Rattle.tsdb_fileset.specs.StateOfFiles.{AreFilesOf, listed, outgoing_file}
 use Rattle.tsdb_fileset.proofs.StoredPlaces.{IsToldAt, at_place, differing, each_stored, few, found, named, stored_at}
 use Rattle.tsdb_history.specs.Closing.{IsCoreClosed}
-use Rattle.tsdb_history.specs.Listings.{IsAllInFiles, IsListingOf}
+use Rattle.tsdb_history.specs.Listings.{AreAllListed, IsAllInFiles, IsListingOf}
 use Rattle.tsdb_history.specs.Serves.{HasFlushed}
 use Rattle.tsdb_state.proofs.ImageLemmas.Kept.{holds_found, kept_by_number}
 use Rattle.tsdb_state.proofs.ImageLemmas.Storing.{others_kept}
@@ -119,6 +119,7 @@ module _ {J F S R P : Type 0} {means : disk.Ghosts J} {counts : counted.Ghosts J
     pub told : file.name.bytes ≡ Some bytes
     pub from : 1 ≤ n
     pub to : n < 9223372036854775808
+    pub in_files : Among n (state_numbers (state_files serving.state))
 
   known : (n : ℕ) (file : KeptFile) → kept_file n (files_of core) ≡ Some file → Known n file
   known n file is =
@@ -137,6 +138,7 @@ module _ {J F S R P : Type 0} {means : disk.Ghosts J} {counts : counted.Ghosts J
         told = tells.1 ∙ whole.there;
         from = range.0;
         to = omega (arith, range, end);
+        in_files = in_state n file is;
       }
 
   -- so of each place
@@ -206,6 +208,17 @@ module _ {J F S R P : Type 0} {means : disk.Ghosts J} {counts : counted.Ghosts J
       (each_place (λ n file. (bytes : List ℕ) → file.name.bytes ≡ Some bytes → IsFileNumber n)
       (λ n file is bytes told. record { low = is.from; high = is.to }))
 
+  abbrev both_lists : List File
+  both_lists = serving.state.store.sequence ++ serving.state.store.unsequence
+
+  -- where no file is on its way out each file that is stored is listed
+  listed_now : (files_of core).outgoing ≡ [] → Each (λ (file : StoredFile). Among file.number (state_numbers both_lists)) stored
+  listed_now none = each_stored (λ (file : StoredFile). Among file.number (state_numbers both_lists)) (files_of core).places
+      (each_place (λ n file. (bytes : List ℕ) → file.name.bytes ≡ Some bytes → Among n (state_numbers both_lists))
+      (λ n file is bytes told. subst (λ (all : List File). Among n (state_numbers all))
+      (ap (λ (out : List File). both_lists ++ out) (sym serving.seen.files.outgoing ∙ ap (map outgoing_file) none) ∙ append-nil both_lists)
+      is.in_files))
+
   no_doubt : next ≡ None → serving.state.doubt ≡ None
   no_doubt none = by serving.state.doubt
       (subst (LeadsTo serving.outside.told serving.state.store serving.state.doubt) none serving.doubt)
@@ -228,6 +241,7 @@ module _ {J F S R P : Type 0} {means : disk.Ghosts J} {counts : counted.Ghosts J
     sound = λ sure. is_sound (calm sure);
     listed = λ sure listing tells image left. lists (calm sure) listing tells image left;
     flushed = λ sure all image left. in_files (calm sure) all image left;
+    swept = λ sure none image left. all_listed (calm sure) none image left;
   }
     where
       moments : LeavesOnly (disk_under core) new (LeavesOneOf stored (slot_under core) at next)
@@ -262,6 +276,14 @@ module _ {J F S R P : Type 0} {means : disk.Ghosts J} {counts : counted.Ghosts J
         frozen = none_frozen (memory_of (logged_of core)) serving.state.store serving.seen.sound.memory all.0;
         working = (empty_pair (working_of core) serving.state.store.working
             (pair_counts serving.state.store serving.seen.sound.memory)).0 all.1;
+      }
+
+      all_listed : (¬ Rose (faults_under core) faults) ⊎ (serving.state.doubt ≡ None) → (files_of core).outgoing ≡ []
+          → (image : Image) → new.may_leave image → AreAllListed (in_slot (slot_under core) image) stored
+      all_listed sure none image left = record {
+        recorded = record { named = sound.stored.named; store = serving.state.store };
+        replayed = replayed sure image left;
+        listed = listed_now none;
       }
 
       lists : (¬ Rose (faults_under core) faults) ⊎ (serving.state.doubt ≡ None) → (listing : Listing)

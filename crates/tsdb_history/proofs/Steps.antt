@@ -1,6 +1,7 @@
 -- One more command is served.
-use Rattle.std.proofs.Common.{◌≡◌, ◌≢◌, ◌⊎◌, ℕ, List, [], ◌∷◌, ◌++◌, Option, None, Some, inl, inr, ⊎_elim, refl, sym, ap}
+use Rattle.std.proofs.Common.{◌≡◌, ◌≢◌, ◌⊎◌, ℕ, ◌≤◌, List, [], ◌∷◌, ◌++◌, Option, None, Some, inl, inr, ⊎_elim, refl, sym, ap}
 use Rattle.std.proofs.Common.{append_assoc, arith, subst, ◌∙◌}
+use Rattle.tsdb_base.specs.Causes.{Rose}
 use Rattle.tsdb_base.specs.declared.answers.Answer.TheVariants as answer
 use Rattle.tsdb_querying.specs.Core.{logged_of, next_of}
 use Rattle.tsdb_querying.specs.Listings.{TellsStore}
@@ -33,6 +34,8 @@ use Rattle.tsdb_querying.proofs.Differing.{differ_on, drawn_apart}
 use Rattle.tsdb_querying.proofs.Parts.{more_files}
 use Rattle.tsdb_querying.proofs.Steps.{idle, image_left}
 use Rattle.tsdb_querying.proofs.ServingAnswered.{stamp_is}
+use Rattle.tsdb_querying.specs.Flushing.{faults_under}
+use Rattle.tsdb_querying.specs.Sweeping.{StaysEmpty}
 use Rattle.tsdb_querying.specs.Serving as serving
 use Rattle.tsdb_querying.specs.Serving.{ServesCommand, HasFullCause, IsAnsweredBy, IsDrawn, IsServedBy, IsServing, MayBeWritten}
 use Rattle.tsdb_querying.specs.Serving.{LeavesDoubt, LeavesEither, StaysInPlace, disk_under, slot_under}
@@ -47,6 +50,20 @@ module _ {J F S R P : Type 0} {means : disk.Ghosts J} {counts : counted.Ghosts J
       → StaysInPlace first new
   stays_on first mid new before after = let drawn = before.next in let next = after.next in
       record { slot = after.slot ∙ before.slot; next = omega (arith, drawn, next) }
+
+  -- where no file was on its way out none is behind one step and then another
+  pub empty_on : (first mid new : Core J F S R P means counts) (before between now : ℕ) → before ≤ between → between ≤ now
+      → faults_under mid ≤ faults_under new → StaysEmpty before between first mid → StaysEmpty between now mid new
+      → StaysEmpty before now first new
+  empty_on first mid new before between now earlier later under one two = λ empty calm none.
+      two (one empty (λ rose. calm (still before between now rose later)) (omega (arith, none, under)))
+      (λ rose. calm (since before between now earlier rose)) none
+    where
+      still : (a b c : ℕ) → Rose a b → b ≤ c → Rose a c
+      still a b c rose later = omega (arith, later, rose)
+
+      since : (a b c : ℕ) → a ≤ b → Rose b c → Rose a c
+      since a b c earlier rose = omega (arith, earlier, rose)
 
 module _ {J F S R P : Type 0} {means : disk.Ghosts J} {counts : counted.Ghosts J}
     (laws : (journal : J) → IsLawful (means.state journal)) where

@@ -8,6 +8,7 @@ ghost use Rattle.tsdb_history.specs.Serves.{HasExecuted};
 ghost use Rattle.tsdb_base.specs.Limits.{max_commands};
 ghost use Rattle.tsdb_querying.specs.Flushing.{IsReady, faults_under};
 ghost use Rattle.tsdb_querying.specs.Serving.{IsSure, StaysInPlace};
+ghost use Rattle.tsdb_querying.specs.Sweeping.{StaysEmpty};
 
 use crate::room::ReplyRoom;
 use crate::serving::serve;
@@ -39,6 +40,7 @@ pub fn execute<J: Journal, F: Files>(
         ≤ faults_under core.new + F.Port.faults port.new }
     ensures later { (faults_under core.old ≤ faults_under core.new)
         × (F.Port.faults port.old ≤ F.Port.faults port.new) }
+    ensures swept { StaysEmpty (F.Port.faults port.old) (F.Port.faults port.new) core.old core.new }
 {
     let ReplyRoom {
         mut counts,

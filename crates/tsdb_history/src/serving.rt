@@ -15,6 +15,7 @@ ghost use Rattle.tsdb_base.specs.Causes.{Rose};
 ghost use Rattle.tsdb_rewriting.specs.Rewriting.{IsCompacted};
 ghost use Rattle.tsdb_querying.specs.Flushing.{IsReady, faults_under};
 ghost use Rattle.tsdb_querying.specs.Serving.{ServesCommand, HasFullCause, IsSure, StaysInPlace};
+ghost use Rattle.tsdb_querying.specs.Sweeping.{LeavesNothing, StaysEmpty};
 
 use std::alloc::Global;
 use tsdb_base::{Answer, Range, Space};
@@ -49,6 +50,7 @@ pub fn serve<J: Journal, F: Files>(
     ensures listed { (listing : Listing) → command.now ≡ CommandOf.ShowFiles → result ≡ ReplyOf.Files listing
         → TellsStore core.new listing }
     ensures shown { command.now ≡ CommandOf.ShowFiles → core.new ≡ core.old }
+    ensures swept { StaysEmpty (F.Port.faults port.old) (F.Port.faults port.new) core.old core.new }
 {
     match command {
         Command::Create(schema) => Reply::Plain(create(core, schema)),
@@ -86,6 +88,7 @@ fn query<J: Journal, F: Files>(
         → Rose (F.Port.faults port.old) (F.Port.faults port.new) }
     ensures faults { faults_under core.new ≡ faults_under core.old }
     ensures later { F.Port.faults port.old ≤ F.Port.faults port.new }
+    ensures swept { LeavesNothing (F.Port.faults port.old) (F.Port.faults port.new) core.new }
 {
     if ask_aggregates(items) {
         return select_aggregates(alloc, core, port, device, items, range);
@@ -112,6 +115,7 @@ fn serve_flush<J: Journal, F: Files>(
     ensures later { (faults_under core.old ≤ faults_under core.new)
         × (F.Port.faults port.old ≤ F.Port.faults port.new) }
     ensures flushed { result ≡ AnswerOf.Done → HasFlushed core.new }
+    ensures swept { LeavesNothing (F.Port.faults port.old) (F.Port.faults port.new) core.new }
 {
     match flush(alloc, core, port) {
         Ok(()) => Answer::Done,
@@ -140,6 +144,7 @@ fn serve_inner<J: Journal, F: Files>(
     ensures later { (faults_under core.old ≤ faults_under core.new)
         × (F.Port.faults port.old ≤ F.Port.faults port.new) }
     ensures compacted { result ≡ AnswerOf.Done → IsCompacted (IsInnerRuns space core.old) space core.old core.new }
+    ensures swept { LeavesNothing (F.Port.faults port.old) (F.Port.faults port.new) core.new }
 {
     match compact_inner(alloc, core, port, space) {
         Ok(()) => Answer::Done,
@@ -167,6 +172,7 @@ fn serve_cross<J: Journal, F: Files>(
     ensures later { (faults_under core.old ≤ faults_under core.new)
         × (F.Port.faults port.old ≤ F.Port.faults port.new) }
     ensures compacted { result ≡ AnswerOf.Done → IsCompacted (IsCrossRuns core.old) SequenceSpace core.old core.new }
+    ensures swept { LeavesNothing (F.Port.faults port.old) (F.Port.faults port.new) core.new }
 {
     match compact_cross(alloc, core, port) {
         Ok(()) => Answer::Done,

@@ -2,6 +2,7 @@
 pub mod Answers
 pub use Rattle.tsdb_serving.specs.Flushing
 pub use Rattle.tsdb_serving.specs.Serving
+pub use Rattle.tsdb_serving.specs.Sweeping
 pub use Rattle.tsdb_serving.specs.Core
 pub use Rattle.tsdb_serving.specs.Beginnings
 pub use Rattle.tsdb_serving.specs.Listings

@@ -4,13 +4,13 @@ use Rattle.std.proofs.Common.{Result, Ok, Err, zero, suc, ap, refl, subst, sym, 
 use Rattle.std.specs.Prelude.{◌-◌, ◌^◌, min, slice_get, IfOk}
 use Rattle.std.specs.List.{AllByRecursion as Each}
 use Rattle.std.specs.Option.{IsSomeAnd}
-use Rattle.tsdb_recover.specs.Core.{next_of}
+use Rattle.tsdb_recover.specs.Core.{files_of, next_of}
 use Rattle.tsdb_recover.specs.CoreType.{Core}
 use Rattle.tsdb_frames.proofs.MomentLemmas.{leaves_on, weaker}
 use Rattle.std.proofs.lemmas.Option.{same_Some}
 use Rattle.tsdb_history.proofs.Prefixes.{after_wider, no_prefix, stands_after, whole_prefix}
 use Rattle.tsdb_history.specs.Closing.{IsCoreClosed}
-use Rattle.tsdb_history.specs.Listings.{IsAllInFiles, IsListingOf}
+use Rattle.tsdb_history.specs.Listings.{AreAllListed, IsAllInFiles, IsListingOf}
 use Rattle.tsdb_history.specs.Prefixes.{StandsAfter, StandsAfterPrefix}
 use Rattle.tsdb_history.specs.Serves.{HasServed, LeavesPrefix}
 use Rattle.tsdb_state.specs.StoredEngine.{LeavesOneOf, kept_bytes}
@@ -36,7 +36,7 @@ use Rattle.tsdb_history.specs.declared.told.Told.{Told}
 use Rattle.tsdb_run.proofs.Standing.{all_stand, one_prefix, stands_with, stands_with_put}
 use Rattle.tsdb_run.proofs.Whole.{sound_after, sound_left}
 use Rattle.tsdb_run.specs.Steps.{IsNewerThan, IsRunOn}
-use Rattle.tsdb_run.specs.Store.{IsSoundOrSilent, SlotsStandFor, contents}
+use Rattle.tsdb_run.specs.Store.{HasNoStrays, IsSoundOrSilent, SlotsStandFor, contents}
 use Rattle.tsdb_script.specs.declared.numbered.Numbered.{Numbered}
 use Rattle.tsdb_history.specs.Serving.{IsDrawn, disk_under, slot_under}
 
@@ -151,6 +151,13 @@ module _ {J F S R P : Type 0} {means : disk.Ghosts J} {counts : counted.Ghosts J
       is_sound : EndsSettled more entries → stores.IsSound A new (kept_bytes stored) served.after
       is_sound calm = subst (λ (s : Slot). stores.IsSound s new (kept_bytes stored) served.after) in_a (closed.sound (by calm))
 
+  -- where the journal did not fail, and no file was on its way out, the log lists each file that is stored
+  pub no_strays : (now : Option (List StoredFile)) → now ≡ Some stored → ¬ rose → (files_of last).outgoing ≡ []
+      → HasNoStrays (contents new now)
+  no_strays now told calm none = λ files image there left.
+      subst (AreAllListed image.a) (same_Some stored files (sym told ∙ there))
+      (subst (λ (s : Slot). AreAllListed (in_slot s image) stored) in_a (closed.swept (inl calm) none image left))
+
 pub some_and : {X : Type 0} (P : X → Type 0) (o : Option X) → IsSomeAnd o P → (x : X) × (o ≡ Some x) × P x
 some_and P None is = absurd is
 some_and P (Some x) is = (x, refl, is)
@@ -171,6 +178,19 @@ more_down old mid new journal files count later counts rose = omega (arith, late
 pub counted_down : (old mid new journal files count : ℕ) → old ≤ mid → min (mid + journal + files) (2 ^ 64 - 1) ≤ new
     → min count (2 ^ 64 - 1) ≤ journal + files → min (old + count) (2 ^ 64 - 1) ≤ new
 counted_down old mid new journal files count later counts answered = omega (arith, later, counts, answered)
+
+-- a count that is 0 has not risen
+pub not_rose : (before now : ℕ) → now ≡ 0 → ¬ Rose before now
+not_rose before now none = λ rose. omega (arith, none, rose)
+
+-- where the files have counted no fault, their port has counted none
+pub quiet_port : (old port files : ℕ) → min (old + port) (2 ^ 64 - 1) ≤ files → files ≡ 0 → port ≡ 0
+quiet_port old port files counts none = omega (arith, counts, none)
+
+-- where a place has counted no fault, neither of its parts has
+pub quiet_parts : (mid new journal files : ℕ) → min (mid + journal + files) (2 ^ 64 - 1) ≤ new → new ≡ 0
+    → journal + files ≡ 0
+quiet_parts mid new journal files counts none = omega (arith, counts, none)
 
 pub sure_before : (old new : DiskState) (stored now : Option (List StoredFile)) → Keeps old new → now ≡ stored
     → IsSoundOrSilent (contents old stored) → IsSoundOrSilent (contents new now)
@@ -243,11 +263,13 @@ module _ (files : List StoredFile) (start : plain.State) (entries : List Entry) 
 
 -- the script was executed on the store of a journal, which a place handed out and took back
 pub placed : (script : List Numbered) (history : List Told) (old journal last new : DiskState)
-    (stored at_rest rest now : Option (List StoredFile)) (rose more : Type 0) → IsLawful old → IsLawful journal
+    (stored at_rest rest now : Option (List StoredFile)) (rose more : Type 0) (faults counted : ℕ) → IsLawful old → IsLawful journal
     → IsLawful last → IsLawful new → Keeps old journal → at_rest ≡ stored → Keeps last new → now ≡ rest → (rose → more)
-    → IsRunOn script history (contents journal at_rest) (contents last rest) rose
-    → IsRunOn script history (contents old stored) (contents new now) more
-placed script history old journal last new stored at_rest rest now rose more one two three four takes same puts told wider run =
+    → (counted ≡ 0 → faults ≡ 0)
+    → IsRunOn script history (contents journal at_rest) (contents last rest) rose faults
+    → IsRunOn script history (contents old stored) (contents new now) more counted
+placed script history old journal last new stored at_rest rest now rose more faults counted one two three four takes same puts told
+    wider none run =
     record {
       entries = run.entries;
       history_of = run.history_of;
@@ -257,6 +279,9 @@ placed script history old journal last new stored at_rest rest now rose more one
           run_behind sound.files start run.entries old last new rest rose one three four now more puts told wider
           (run_before sound.files start run.entries old journal last rest rose one two three rose takes
           (λ image left. sound_left old stored start image sound left) (λ is. is) (run.served start inside));
+      swept = λ start sound zero. λ files image there left.
+          run.swept start (sound_after old journal stored at_rest start takes same sound) (none zero) files image
+          (sym told ∙ there) (puts.crash image left);
       within = λ start sound next is. run.within start (sound_after old journal stored at_rest start takes same sound) next
           (record {
             image = is.image;

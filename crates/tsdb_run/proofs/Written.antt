@@ -25,7 +25,7 @@ small_sessions bytes script is = λ k numbered lt.
 -- a script that was executed, and what was written of its output
 module _ (run : WholeRun) (script : List Numbered) (asked : Asked) (words : AreWords run.words asked)
     (directory : run.directory ≡ Some asked.directory) (read : IfSome run.left (λ bytes. IsScript bytes script))
-    (done : IsRunOn script run.history run.old run.new (HasUnanswered run)) where
+    (done : IsRunOn script run.history run.old run.new (HasUnanswered run) run.faults_after) where
   executed : (puts : List ℕ → Type 0) → puts (output_text script run.history) → IsExecuted run puts
   executed puts printed = record {
     taken_up = (asked, words, directory);
@@ -34,6 +34,7 @@ module _ (run : WholeRun) (script : List Numbered) (asked : Asked) (words : AreW
     entries = done.entries;
     history_of = done.history_of;
     served = done.served;
+    swept = done.swept;
     within = done.within;
     printed = printed;
   }

@@ -17,9 +17,8 @@ use Rattle.tsdb_outside.specs.Disk.{Image, DiskState}
 use Rattle.tsdb_outside.specs.Files.{StoredFile}
 use Rattle.tsdb_outside.specs.Moments.{LeavesOnly}
 use Rattle.tsdb_run.specs.Output.{AppendsPrefix, output_text}
-use Rattle.tsdb_run.specs.Store.{Contents, HasAllInFiles, IsPlaceDamaged, IsLeftAlone, IsListed, IsNextNumberOfPlace}
-use Rattle.tsdb_run.specs.Store.{IsSoundPlace}
-use Rattle.tsdb_run.specs.Store.{SlotsStandFor, Stores}
+use Rattle.tsdb_run.specs.Store.{Contents, HasAllInFiles, HasNoStrays, IsPlaceDamaged, IsLeftAlone, IsListed}
+use Rattle.tsdb_run.specs.Store.{IsNextNumberOfPlace, IsSoundPlace, SlotsStandFor, Stores}
 use Rattle.tsdb_run.specs.declared.status.Status.{Status}
 use Rattle.tsdb_run.specs.declared.status.Status.TheVariants.{Done, Memory, Words, Script, Source, Sink, Device}
 use Rattle.tsdb_run.specs.declared.status.Status.TheVariants.{Damaged}
@@ -109,6 +108,8 @@ pub record IsExecuted (run : WholeRun) (puts : List ℕ → Type 0) : Type 0 whe
   -- from a state for which the store stood
   pub served : (start : plain.State) (sound : IsSoundPlace run.old start)
       → HasRun sound.files start entries run.old.disk run.new (HasUnanswered run)
+  -- where nothing of the place has failed, no file is left that the log does not list
+  pub swept : (start : plain.State) → IsSoundPlace run.old start → run.faults_after ≡ 0 → HasNoStrays run.new
   -- and none is `full` before a counter is at its end, or the numbers of files can have come so far in this run
   pub within : HaveReach run.old script entries
   pub printed : puts (output_text script run.history)

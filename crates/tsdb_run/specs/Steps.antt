@@ -3,7 +3,7 @@ use Rattle.std.specs.Prelude.{◌≡◌, ◌==◌, ℕ, ◌+◌, ◌*◌, ◌<�
 use Rattle.std.specs.Prelude.{IfSome}
 use Rattle.std.specs.List.{AllByRecursion as Each, list_any}
 use Rattle.std.specs.Io.KnownBytes.{Appends}
-use Rattle.tsdb_recover.specs.Core.{next_of}
+use Rattle.tsdb_recover.specs.Core.{files_of, next_of}
 use Rattle.tsdb_recover.specs.CoreType.{Core}
 use Rattle.tsdb_history.specs.History.{IsHistory, IsInLineOrder}
 use Rattle.tsdb_history.specs.Reach.{AreFullWithin, max_drawn}
@@ -22,7 +22,7 @@ use Rattle.tsdb_run.specs.Causes.{AreGoodWords}
 use Rattle.tsdb_run.specs.Headline.{HasRun, HaveReach, WholeRun}
 use Rattle.tsdb_run.specs.Input.{TakesScript}
 use Rattle.tsdb_run.specs.Output.{AppendsPrefix}
-use Rattle.tsdb_run.specs.Store.{Contents, IsPlaceDamaged, IsLeftAlone, IsSoundPlace}
+use Rattle.tsdb_run.specs.Store.{Contents, HasNoStrays, IsPlaceDamaged, IsLeftAlone, IsSoundPlace}
 use Rattle.tsdb_run.specs.declared.status.Status.{Status}
 use Rattle.tsdb_run.specs.declared.status.Status.TheVariants.{Done, Memory, Words, Script, Source, Sink, Device}
 use Rattle.tsdb_run.specs.declared.status.Status.TheVariants.{Damaged}
@@ -55,14 +55,15 @@ pub record IsAnswered (script : List Numbered) (history : List Told) : Type 0 wh
   pub in_line_order : IsInLineOrder script history
 
 -- The script was executed on the store of a place. `unanswered` says that more of its faults were counted than commands
--- were answered `device`.
-pub record IsRunOn (script : List Numbered) (history : List Told) (old new : Contents) (unanswered : Type 0)
+-- were answered `device`; so many faults were counted at the end.
+pub record IsRunOn (script : List Numbered) (history : List Told) (old new : Contents) (unanswered : Type 0) (faults : ℕ)
     : Type 0 where
   pub entries : List Entry
   pub history_of : IsHistory script history entries
   pub in_line_order : IsInLineOrder script history
   pub served : (start : plain.State) (sound : IsSoundPlace old start)
       → HasRun sound.files start entries old.disk new unanswered
+  pub swept : (start : plain.State) → IsSoundPlace old start → faults ≡ 0 → HasNoStrays new
   pub within : HaveReach old script entries
 
 module _ {J F S R P : Type 0} {means : disk.Ghosts J} {counts : counted.Ghosts J} where
@@ -71,15 +72,17 @@ module _ {J F S R P : Type 0} {means : disk.Ghosts J} {counts : counted.Ghosts J
   IsNewerThan files core = Each (λ (file : StoredFile). file.number < next_of core) files
 
   -- The script was executed on a core, which was closed, with no other file at rest. `unanswered` says that more faults
-  -- were counted meanwhile than commands were answered `device`.
+  -- were counted meanwhile than commands were answered `device`; so many faults were counted at the end.
   pub record IsServedFrom (script : List Numbered) (history : List Told) (at_rest : Option (List StoredFile))
-      (core : Core J F S R P means counts) (new : Contents) (unanswered : Type 0) : Type 0 where
+      (core : Core J F S R P means counts) (new : Contents) (unanswered : Type 0) (faults : ℕ) : Type 0 where
     pub entries : List Entry
     pub history_of : IsHistory script history entries
     pub in_line_order : IsInLineOrder script history
     pub served : at_rest ≡ Some [] → (files : List StoredFile) (start : plain.State)
         → IsServing core files start None → IsNewerThan files core
         → HasRun files start entries (disk_under core) new unanswered
+    pub swept : at_rest ≡ Some [] → (files : List StoredFile) (start : plain.State) → IsServing core files start None
+        → (files_of core).outgoing ≡ [] → faults ≡ 0 → HasNoStrays new
     pub within : at_rest ≡ Some [] → (files : List StoredFile) (start : plain.State)
         → IsServing core files start None → AreFullWithin (next_of core + max_drawn * length script) start entries
 

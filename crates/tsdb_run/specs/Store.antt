@@ -4,7 +4,7 @@
 use Rattle.std.specs.Prelude.{◌≡◌, ◌⊎◌, ℕ, List, Option, None, Some}
 use Rattle.std.specs.FinMap.{empty}
 use Rattle.std.specs.Option.{IsSomeAnd}
-use Rattle.tsdb_history.specs.Listings.{IsAllInFiles, IsListingOf}
+use Rattle.tsdb_history.specs.Listings.{AreAllListed, IsAllInFiles, IsListingOf}
 use Rattle.tsdb_state.specs.StoredEngine.{kept_bytes}
 use Rattle.tsdb_model.specs.State as plain
 use Rattle.tsdb_model.specs.declared.reply.Listing.{Listing}
@@ -101,6 +101,11 @@ IsListed place listing = (stored : List StoredFile) (image : Image) → place.st
 -- all points of the place's store are in files, whatever a stop leaves of its slots
 abbrev pub HasAllInFiles : Contents → Type 0
 HasAllInFiles place = (image : Image) → place.disk.may_leave image → IsAllInFiles image.a
+
+-- the log lists each file that the place stores, whatever a stop leaves of its slots
+abbrev pub HasNoStrays : Contents → Type 0
+HasNoStrays place = (stored : List StoredFile) (image : Image) → place.stored ≡ Some stored
+    → place.disk.may_leave image → AreAllListed image.a stored
 
 -- each of these files is stored as it was, or it is gone, and the log in slot A does not list it
 abbrev pub KeepsAllListed : Image → List StoredFile → Contents → Type 0

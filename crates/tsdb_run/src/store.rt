@@ -36,7 +36,7 @@ pub fn run_commands<P: Place>(
     requires script { CanExecute script.now }
     ensures executed { IfOk result (λ history. IsRunOn script.now history
         (contents (P.state place.old) (P.stored place.old)) (contents (P.state place.new) (P.stored place.new))
-        (Rose (P.faults place.old + count_by told_device history) (P.faults place.new))) }
+        (Rose (P.faults place.old + count_by told_device history) (P.faults place.new)) (P.faults place.new)) }
     ensures directory { OnOk result (P.asked place.new ≡ Some asked.now.directory) }
     ensures devices { IfOk result (λ history. IsSoundOrSilent (contents (P.state place.old) (P.stored place.old))
         → min (P.faults place.old + count_by told_device history) (2 ^ 64 - 1) ≤ P.faults place.new) }
@@ -80,7 +80,8 @@ fn run_on<J: Journal, F: Files>(
     requires no_faults { (J.faults journal ≡ 0) × (F.faults files.old ≡ 0) }
     ensures executed { IfOk result.1 (λ history. IsRunOn script.now history (contents (J.state journal)
         (F.at_rest files.old)) (contents (J.state result.0) (F.at_rest files.new))
-        (Rose (count_by told_device history) (J.faults result.0 + F.faults files.new))) }
+        (Rose (count_by told_device history) (J.faults result.0 + F.faults files.new))
+        (J.faults result.0 + F.faults files.new)) }
     ensures devices { IfOk result.1 (λ history. IsSoundOrSilent (contents (J.state journal) (F.at_rest files.old))
         → min (count_by told_device history) (2 ^ 64 - 1) ≤ J.faults result.0 + F.faults files.new) }
     ensures refused { IfErr result.1 (IsOpeningRefused (contents (J.state journal) (F.at_rest files.old))
@@ -126,7 +127,8 @@ fn serve_script<J: Journal, F: Files>(
     requires slot { slot_under core ≡ slots.A }
     ensures served { IsServedFrom script.now result.1 (F.at_rest files.old) core
         (contents (J.state result.0) (F.at_rest files.new))
-        (Rose (count_by told_device result.1) (J.faults result.0 + F.faults files.new)) }
+        (Rose (count_by told_device result.1) (J.faults result.0 + F.faults files.new))
+        (J.faults result.0 + F.faults files.new) }
     ensures devices { IsSure (F.store files.old) core
         → min (count_by told_device result.1) (2 ^ 64 - 1) ≤ J.faults result.0 + F.faults files.new }
 {

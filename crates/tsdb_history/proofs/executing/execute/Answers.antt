@@ -6,7 +6,7 @@ use Rattle.std.proofs.Math.Seq.{take-length, take-suc}
 use Rattle.std.proofs.lemmas.List.{length-set}
 use Rattle.tsdb_history.proofs.Replies.{sure_still}
 use Rattle.tsdb_history.proofs.SoFar.{SoFar, devices_more, few_of, nothing_so_far, one_more, whole_slice}
-use Rattle.tsdb_history.proofs.Steps.{none_served, one_more_served, stays_on}
+use Rattle.tsdb_history.proofs.Steps.{empty_on, none_served, one_more_served, stays_on}
 use Rattle.tsdb_history.specs.History.{IsHistory, IsInLineOrder, told_device, session_numbers}
 use Rattle.tsdb_querying.specs.Serving.{IsSure}
 use Rattle.tsdb_history.specs.declared.told.Told.{Told}
@@ -44,6 +44,7 @@ loop-numbered-init g c = record {
   sure = λ sure. sure;
   devices = λ sure. rw c.requires.room.none (omega arith);
   later = (omega arith, omega arith);
+  swept = λ empty calm none. empty;
 }
 
 pub loop-numbered-preserved : goal.loop-numbered-preserved
@@ -113,6 +114,9 @@ loop-numbered-preserved g c =
           c.loop-numbered.history.items told (c.loop-numbered.invariant.devices sure) later.0 later.1
           (c.serve-reply.ensures.cause (subst (λ s. IsSure s mid) (sym same_store) (c.loop-numbered.invariant.sure sure))));
       later = (omega (arith, later.0, sofar_later.0), omega (arith, later.1, sofar_later.1));
+      swept = empty_on first mid core (g.F.Port.Counted.faults c.args.port.now) (g.F.Port.Counted.faults c.loop-numbered.port)
+          (g.F.Port.Counted.faults c.serve-reply.new.port) sofar_later.1 later.1 later.0 c.loop-numbered.invariant.swept
+          c.serve-reply.ensures.swept;
     }
 
 pub returns-clause-executed : goal.returns-clause-executed

@@ -11,6 +11,7 @@ use Rattle.tsdb_model.specs.State as plain
 use Rattle.tsdb_outside.specs.Files.{StoredFile}
 use Rattle.tsdb_querying.specs.Flushing.{IsReady, faults_under}
 use Rattle.tsdb_querying.specs.Serving.{IsServing, IsSure, StaysInPlace}
+use Rattle.tsdb_querying.specs.Sweeping.{StaysEmpty}
 use Rattle.tsdb_history.proofs.executing.execute.Given as goal
 
 abbrev pub invariant-loop-numbered : goal.invariant-loop-numbered
@@ -32,4 +33,5 @@ invariant-loop-numbered g l = record {
       ≤ faults_under l.core + g.F.Port.Counted.faults l.port;
   later : (faults_under l.fn.core ≤ faults_under l.core)
       × (g.F.Port.Counted.faults l.fn.port ≤ g.F.Port.Counted.faults l.port);
+  swept : StaysEmpty (g.F.Port.Counted.faults l.fn.port) (g.F.Port.Counted.faults l.port) l.fn.core l.core;
 }

@@ -1,8 +1,10 @@
-use Rattle.std.proofs.Common.{◌∙◌, refl, subst, sym}
+use Rattle.std.proofs.Common.{◌∙◌, ap, refl, subst, sym}
 use Rattle.tsdb_model.specs.declared.command.Command.TheVariants.{Select}
 use Rattle.tsdb_model.specs.declared.reply.Reply.TheVariants.{Plain}
 use Rattle.tsdb_querying.specs.Serving.{ServesCommand}
+use Rattle.tsdb_fileset.specs.Files.{KeptFiles}
 use Rattle.tsdb_querying.proofs.ServingFull.{no_full}
+use Rattle.tsdb_querying.proofs.Swept.{empty_without_faults}
 use Rattle.tsdb_history.proofs.serving.serve.Goals as goal
 
 pub returns-in-Create-clause-answers : goal.returns-in-Create-clause-answers
@@ -107,3 +109,31 @@ returns-in-CompactCross-clause-shown g c = λ asked. absurd (let same = sym aske
 
 pub returns-in-ShowFiles-clause-shown : goal.returns-in-ShowFiles-clause-shown
 returns-in-ShowFiles-clause-shown g c = λ asked. refl
+
+pub returns-in-Create-clause-swept : goal.returns-in-Create-clause-swept
+returns-in-Create-clause-swept g c = λ empty calm none. ap (λ (files : KeptFiles). files.outgoing) c.create.ensures.files ∙ empty
+
+pub returns-in-Delete-clause-swept : goal.returns-in-Delete-clause-swept
+returns-in-Delete-clause-swept g c = λ empty calm none. ap (λ (files : KeptFiles). files.outgoing) c.delete.ensures.files ∙ empty
+
+pub returns-in-Insert-clause-swept : goal.returns-in-Insert-clause-swept
+returns-in-Insert-clause-swept g c = c.insert.ensures.swept
+
+pub returns-in-ShowFiles-clause-swept : goal.returns-in-ShowFiles-clause-swept
+returns-in-ShowFiles-clause-swept g c = λ empty calm none. empty
+
+pub returns-in-Select-clause-swept : goal.returns-in-Select-clause-swept
+returns-in-Select-clause-swept g c = λ empty. empty_without_faults c.query.new.core (g.F.Port.Counted.faults c.args.port.now)
+    (g.F.Port.Counted.faults c.query.new.port) c.query.ensures.swept
+
+pub returns-in-Flush-clause-swept : goal.returns-in-Flush-clause-swept
+returns-in-Flush-clause-swept g c = λ empty. empty_without_faults c.serve_flush.new.core (g.F.Port.Counted.faults c.args.port.now)
+    (g.F.Port.Counted.faults c.serve_flush.new.port) c.serve_flush.ensures.swept
+
+pub returns-in-CompactInner-clause-swept : goal.returns-in-CompactInner-clause-swept
+returns-in-CompactInner-clause-swept g c = λ empty. empty_without_faults c.serve_inner.new.core (g.F.Port.Counted.faults c.args.port.now)
+    (g.F.Port.Counted.faults c.serve_inner.new.port) c.serve_inner.ensures.swept
+
+pub returns-in-CompactCross-clause-swept : goal.returns-in-CompactCross-clause-swept
+returns-in-CompactCross-clause-swept g c = λ empty. empty_without_faults c.serve_cross.new.core (g.F.Port.Counted.faults c.args.port.now)
+    (g.F.Port.Counted.faults c.serve_cross.new.port) c.serve_cross.ensures.swept

@@ -2,7 +2,7 @@ use Rattle.std.proofs.Common.{◌∙◌, ◌+◌, Err, Some, ap, inl, inr, refl,
 use Rattle.std.specs.Prelude.{count_by}
 use Rattle.tsdb_history.specs.History.{told_device}
 use Rattle.tsdb_base.specs.Causes.{Rose}
-use Rattle.tsdb_run.proofs.Executed.{counted_down, if_ok, more_down, placed, sure_before}
+use Rattle.tsdb_run.proofs.Executed.{counted_down, if_ok, more_down, placed, quiet_parts, sure_before}
 use Rattle.tsdb_run.proofs.Ends.{device_down, device_failed, device_memory}
 use Rattle.tsdb_run.proofs.PutLemmas.{memory_is_no_failure, same_error}
 use Rattle.tsdb_outside.proofs.DiskLemmas.{Keeps-same}
@@ -23,11 +23,14 @@ returns-in-Ok-take_up-clause-executed g c =
     (Rose (count_by told_device history)
     (g.P.Journal.Counted.faults last + g.P.Files.Counted.faults c.run_on-journal.new.files))
     (Rose (g.P.Counted.faults old + count_by told_device history) (g.P.Counted.faults new))
+    (g.P.Journal.Counted.faults last + g.P.Files.Counted.faults c.run_on-journal.new.files) (g.P.Counted.faults new)
     (g.P.Disk.lawful old) (g.P.Journal.Disk.lawful journal) (g.P.Journal.Disk.lawful last) (g.P.Disk.lawful new)
     c.in-Ok-take_up.ensures.keeps c.in-Ok-take_up.ensures.at_rest c.put_down.ensures.keeps c.put_down.ensures.stored
     (more_down (g.P.Counted.faults old) (g.P.Counted.faults c.take_up.new.self) (g.P.Counted.faults new)
     (g.P.Journal.Counted.faults last) (g.P.Files.Counted.faults c.run_on-journal.new.files) (count_by told_device history)
-    c.take_up.ensures.cause.later c.put_down.ensures.faults) run)
+    c.take_up.ensures.cause.later c.put_down.ensures.faults)
+    (quiet_parts (g.P.Counted.faults c.take_up.new.self) (g.P.Counted.faults new) (g.P.Journal.Counted.faults last)
+    (g.P.Files.Counted.faults c.run_on-journal.new.files) c.put_down.ensures.faults) run)
     c.run_on-journal.ensures.executed
 
 pub returns-in-Ok-take_up-clause-devices : goal.returns-in-Ok-take_up-clause-devices

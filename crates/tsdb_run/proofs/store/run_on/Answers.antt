@@ -50,6 +50,13 @@ returns-in-Ok-recover-clause-executed g c =
           (λ image left. sound_left state stored start image sound left) (λ is. is)
           (served.served none sound.files start serving
           (above_stored core sound.files recovered.recorded.named next));
+      swept = λ start sound quiet.
+          let recovered = opened core state stored now start sound same c.in-Ok-recover.ensures.seen in
+          let serving = c.a_recovered_core_serves.ensures (image core state stored now start sound same).a sound.files start
+          recovered in
+          let none = gone core state stored now start sound same (g.F.Files.at_rest c.recover.new.files)
+          c.in-Ok-recover.ensures.strays in
+          served.swept none sound.files start serving c.in-Ok-recover.ensures.none_leaving quiet;
       within = λ start sound next is.
           let recovered = opened core state stored now start sound same c.in-Ok-recover.ensures.seen in
           let serving = c.a_recovered_core_serves.ensures (image core state stored now start sound same).a sound.files start

@@ -1,4 +1,4 @@
-use Rattle.std.proofs.Common.{◌∙◌, ◌+◌, ◌++◌, ◌≤◌, None, ap, inr, length, sym, subst}
+use Rattle.std.proofs.Common.{arith, ◌≡◌, ◌∙◌, ◌+◌, ◌++◌, ◌≤◌, None, ap, inr, length, sym, subst}
 use Rattle.std.specs.Prelude.{◌*◌, ◌-◌, ◌^◌, count_by, min}
 use Rattle.tsdb_history.specs.History.{told_device}
 use Rattle.tsdb_recover.specs.Core.{next_of}
@@ -7,7 +7,7 @@ use Rattle.tsdb_history.specs.Reach.{max_drawn}
 use Rattle.std.specs.Prelude.{is_some}
 use Rattle.tsdb_base.specs.Causes.{Rose}
 use Rattle.tsdb_outside.specs.Files.{Store}
-use Rattle.tsdb_run.proofs.Executed.{has_run, one_more_fault, some_and}
+use Rattle.tsdb_run.proofs.Executed.{has_run, no_strays, not_rose, one_more_fault, quiet_port, some_and}
 use Rattle.tsdb_history.specs.Flushing.{faults_under}
 use Rattle.tsdb_run.proofs.store.serve_script.Goals as goal
 
@@ -39,6 +39,25 @@ returns-clause-served g c =
           (c.execute-history.ensures.devices (inr (files, start, None, serving)))
           (subst (λ n. min (g.F.Counted.faults c.args.files.now + g.F.Port.Counted.faults c.execute-history.new.port)
           (2 ^ 64 - 1) ≤ n) (sym c.close.ensures.faults) c.end_port.ensures.faults));
+      swept = λ none files start serving empty quiet.
+          let tells = ap (λ (s : Store). s.tells) c.requires.port ∙ g.F.Files.tells c.args.files.now ∙ ap is_some none in
+          let served = executed.served tells files start serving in
+          let closed = some_and _ left (c.close.ensures.closed (c.end_port.ensures.same ∙ none) (files ++ served.put)
+          served.after served.doubt served.serving) in
+          let no_fault : g.J.Counted.faults journal ≡ 0 = omega (arith, quiet) in
+          let no_file_fault : g.F.Counted.faults c.close.new.files ≡ 0 = omega (arith, quiet) in
+          let under : faults_under last ≡ 0 = (let later = c.close.ensures.later in omega (arith, later, no_fault)) in
+          let port : g.F.Port.Counted.faults c.execute-history.new.port ≡ 0 =
+          quiet_port (g.F.Counted.faults c.args.files.now) (g.F.Port.Counted.faults c.execute-history.new.port)
+          (g.F.Counted.faults c.close.new.files)
+          (subst (λ n. min (g.F.Counted.faults c.args.files.now + g.F.Port.Counted.faults c.execute-history.new.port)
+          (2 ^ 64 - 1) ≤ n) (sym c.close.ensures.faults) c.end_port.ensures.faults) no_file_fault in
+          no_strays core last files start executed.entries served c.requires.slot c.execute-history.ensures.stays.slot
+          (g.J.Disk.state journal) (g.J.Disk.lawful journal) closed.0
+          (Rose (faults_under last) (g.J.Counted.faults journal)) closed.2 left closed.1
+          (not_rose (faults_under last) (g.J.Counted.faults journal) no_fault)
+          (c.execute-history.ensures.swept empty (not_rose (g.F.Port.Counted.faults c.args.port)
+          (g.F.Port.Counted.faults c.execute-history.new.port) port) under);
       within = λ none files start serving.
           let tells = ap (λ (s : Store). s.tells) c.requires.port ∙ g.F.Files.tells c.args.files.now ∙ ap is_some none in
           let served = executed.served tells files start serving in
