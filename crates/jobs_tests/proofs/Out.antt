@@ -16,7 +16,7 @@ use Rattle.tsdb_compactions.specs.Outputs.{IsOutputOf}
 use Rattle.tsdb_compactions.specs.declared.job.Input.{Input}
 use Rattle.tsdb_compactions.specs.declared.job.Job.{Job}
 use Rattle.tsdb_core.proofs.LoansOut.{none_lent, nothing_lent}
-use Rattle.tsdb_core.proofs.Out.{first_job, behind_job, flush_can_end, flush_joins, flush_leaves, job_can_end, job_joins}
+use Rattle.tsdb_core.proofs.Out.{first_job, flush_can_end, flush_joins, flush_leaves, job_can_end, job_joins}
 use Rattle.tsdb_core.proofs.Out.{job_leaves, no_flush, no_job, pin_is_held, pin_joins, pin_leaves}
 use Rattle.tsdb_core.proofs.Out.{no_pin as not_pinned}
 use Rattle.tsdb_core.specs.Out.{nothing_out, with_job, with_pin}
@@ -239,39 +239,6 @@ module _ {J F S R P : Type 0} {means : disk.Ghosts J} {counts : counted.Ghosts J
         → IsHandedOn store a b → EndsJob name other b c job → EndsJob name store a c job
     then_ends store other a b c job same hands ended others all is kept =
         subst (λ (s : Store). EndsJob name s b c job) same ended others all is (hands all kept)
-
-    -- ---- a second compaction that begins while the first one is out, and ends behind it
-
-    pub has_beside : (store : Store) (a b : Core J F S R P means counts) (job second : Job F S R P)
-        → BeginsJob name a b (Some second) → HasJob name store a job → HasJob name store b job
-    has_beside store a b job second begins has = (
-      has.0,
-      with_job name second has.1,
-      with_job name second has.2,
-      behind_job name job second has.1 has.2 has.3,
-      (begins store has.2 has.4).1,
-    )
-
-    pub is_left : (store other : Store) (a b c : Core J F S R P means counts) (job second : Job F S R P) → other ≡ store
-        → BeginsJob name a b (Some second) → EndsJob name store b c job → HasJob name store a job
-        → HasJob name other c second
-    is_left store other a b c job second same begins ended has =
-        let both = begins store has.2 has.4 in subst (λ (s : Store). HasJob name s c second) (sym same) (
-          both.0,
-          has.1,
-          with_job name second has.1,
-          first_job name second has.1,
-          ended (with_job name second has.1) (with_job name second has.2)
-              (behind_job name job second has.1 has.2 has.3) both.1,
-        )
-
-    pub both_ended : (store other : Store) (a b c d : Core J F S R P means counts) (job second : Job F S R P)
-        → other ≡ store → BeginsJob name a b (Some second) → EndsJob name store b c job
-        → EndsJob name other c d second → EndsJob name store a d job
-    both_ended store other a b c d job second same begins first last others all is kept =
-        subst (λ (s : Store). EndsJob name s c d second) same last others (with_job name second others)
-        (first_job name second others) (first (with_job name second others) (with_job name second all)
-        (behind_job name job second others all is) (begins store all kept).1)
 
     -- ---- pins
 

@@ -20,6 +20,3 @@ module _ {J F S R P : Type 0} {means : disk.Ghosts J} {counts : counted.Ghosts J
     unread = subst (λ (files : KeptFiles). AreUnread files.places) (sym none) (λ n. tt);
     of_store = subst (λ (files : KeptFiles). AreOfStore store files.places) (sym none) (λ n. tt);
   }
-
-  pub ready_in : (core : Core J F S R P means counts) (old new : Store) → new ≡ old → IsReady old core → IsReady new core
-  ready_in core old new same ready = subst (λ store. IsReady store core) (sym same) ready

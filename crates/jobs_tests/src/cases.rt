@@ -20,7 +20,6 @@ const COURSE: Course<'static> = Course {
     before: &[Create, Put(1, 1), Flush, Put(2, 2), Flush],
     kind: INNER,
     meanwhile: &[],
-    second: None,
     written: &[],
     commits: true,
     behind: &[],
@@ -41,62 +40,8 @@ const SEEN: Seen = Seen {
 const TWO_FILES: &str =
     "sequence 1 born 2 points 1 from 1 to 1\nsequence 2 born 3 points 1 from 2 to 2\nfrozen 0\nworking 0 0\nmarks 0\n";
 
-const NO_ROWS: Option<Rows> = Some(Rows([None; 3], 0));
-
-/// A cross job has the one late file, 2, whose time lies before all sequence files. Then 4 and 5 are flushed, and the
-/// late job has these. File 7 is flushed while both are out.
-///
-/// The end of the job that began first moves the inputs of the second one in the late list. Behind them stands a file
-/// that was flushed while both were out, with another value at a time of theirs. An output at the old place would stand
-/// behind that file, and its value would win.
-const CROSS_FIRST: Course<'static> = Course {
-    before: &[Create, Put(10, 1), Flush, Put(5, 2), Flush],
-    kind: Kind::Cross,
-    meanwhile: &[Put(6, 3), Flush, Put(7, 4), Flush],
-    second: Some(LATE),
-    written: &[Put(7, 5), Flush],
-    times: [5, 7, 10],
-    ..COURSE
-};
-
 /// Each of these runs on a store of its own.
-const CASES: [Case<'static>; 6] = [
-    // A deletion while a compaction is out: the output is as old as its beginning, so the mark of the deletion covers
-    // it. The late file lies before all sequence files, so the run of these is empty.
-    Case {
-        course: Course {
-            before: &[Create, Put(10, 1), Flush, Put(5, 2), Flush],
-            kind: Kind::Cross,
-            meanwhile: &[Delete(5, 5)],
-            times: [5, 10, 0],
-            ..COURSE
-        },
-        seen: Seen {
-            compacted: Compacted(Job(3, [2, 0, 0, 0], 3), Some(1), COMMITTED),
-            pinned: Some(Rows([Some(2), Some(1), None], 2)),
-            swept: [Ok(0), Ok(1)],
-            rows: Some(Rows([None, Some(1), None], 1)),
-        },
-        listing: "sequence 3 born 3 points 1 from 5 to 5\nsequence 1 born 2 points 1 from 10 to 10\n\
-            frozen 0\nworking 0 0\nmarks 1\n",
-    },
-    // A pin stays over a compaction, a row and a sweep, and its files stay with it.
-    Case {
-        course: Course {
-            before: &[Create, Put(10, 1), Flush, Put(10, 2), Flush],
-            kind: Kind::Cross,
-            behind: &[Put(10, 3)],
-            times: [10, 0, 0],
-            ..COURSE
-        },
-        seen: Seen {
-            compacted: Compacted(Job(3, [1, 2, 0, 0], 3), Some(1), COMMITTED),
-            pinned: Some(Rows([Some(2), None, None], 1)),
-            swept: [Ok(0), Ok(2)],
-            rows: Some(Rows([Some(3), None, None], 1)),
-        },
-        listing: "sequence 3 born 3 points 1 from 10 to 10\nfrozen 0\nworking 0 1\nmarks 0\n",
-    },
+const CASES: [Case<'static>; 3] = [
     // A pin of two files, a frozen pair and a working one stays over each kind of step: its value at 10 is written
     // anew, a row freezes its pair, its points from 5 to 20 are deleted, its pairs are flushed, and its files go into a
     // cross compaction, whose output goes with two newer files into an inner one. That one drops what is deleted, and a
@@ -129,56 +74,18 @@ const CASES: [Case<'static>; 6] = [
         listing: "sequence 7 born 10 points 3 from 3 to 50\nunsequence 5 born 8 points 2 from 10 to 20\n\
             frozen 0\nworking 0 0\nmarks 1\n",
     },
-    // A job of sequence files has the whole list, so no other is planned of it. Late files that are not its inputs are
-    // compacted meanwhile. Given up, it leaves its files, and its output goes.
+    // The late file, 2, lies before all sequence files, so the run of these is empty. The late files 4 and 5 become one
+    // while the cross job is out, and a file is flushed once its output is written. The late list is 2, 4, 5, then 2, 6,
+    // 7, and then 6, 7. The pin still has file 2.
     Case {
         course: Course {
-            before: &[
-                Create,
-                Put(10, 1),
-                Flush,
-                Put(20, 2),
-                Flush,
-                Put(5, 3),
-                Flush,
-            ],
-            meanwhile: &[
-                Compact(Kind::Cross),
-                Compact(INNER),
-                Put(6, 4),
-                Flush,
-                Compact(LATE),
-            ],
-            commits: false,
-            times: [5, 10, 20],
+            before: &[Create, Put(10, 1), Flush, Put(5, 2), Flush],
+            kind: Kind::Cross,
+            meanwhile: &[Put(6, 3), Flush, Put(7, 4), Flush, Compact(LATE)],
+            written: &[Put(7, 5), Flush],
+            times: [5, 7, 10],
             ..COURSE
         },
-        seen: Seen {
-            compacted: Compacted(Job(4, [1, 2, 0, 0], 4), Some(2), None),
-            pinned: Some(Rows([Some(3), Some(1), Some(2)], 3)),
-            swept: [Ok(2), Ok(1)],
-            rows: Some(Rows([Some(3), Some(1), Some(2)], 4)),
-        },
-        listing: "sequence 1 born 2 points 1 from 10 to 10\nsequence 2 born 3 points 1 from 20 to 20\n\
-            unsequence 6 born 5 points 2 from 5 to 6\nfrozen 0\nworking 0 0\nmarks 0\n",
-    },
-    // No point survives, so there is no output. The marks go with the last file.
-    Case {
-        course: Course {
-            before: &[Create, Put(1, 1), Flush, Put(2, 2), Flush, Delete(1, 2)],
-            ..COURSE
-        },
-        seen: Seen {
-            compacted: Compacted(Job(4, [1, 2, 0, 0], 3), Some(0), COMMITTED),
-            pinned: NO_ROWS,
-            rows: NO_ROWS,
-            ..SEEN
-        },
-        listing: "frozen 0\nworking 0 0\nmarks 0\n",
-    },
-    // The late list is 2, 4, 5, 7, then 4, 5, 7, and then 6, 7. The pin still has file 2.
-    Case {
-        course: CROSS_FIRST,
         seen: Seen {
             compacted: Compacted(Job(3, [2, 0, 0, 0], 3), Some(1), COMMITTED),
             pinned: Some(Rows([Some(2), None, Some(1)], 2)),
@@ -188,6 +95,21 @@ const CASES: [Case<'static>; 6] = [
         listing: "sequence 3 born 3 points 1 from 5 to 5\nsequence 1 born 2 points 1 from 10 to 10\n\
             unsequence 6 born 5 points 2 from 6 to 7\nunsequence 7 born 6 points 1 from 7 to 7\n\
             frozen 0\nworking 0 0\nmarks 0\n",
+    },
+    // A job of sequence files has the whole list, so no other is planned of it. Given up, it leaves its files, and its
+    // output goes.
+    Case {
+        course: Course {
+            meanwhile: &[Compact(INNER)],
+            commits: false,
+            ..COURSE
+        },
+        seen: Seen {
+            compacted: Compacted(Job(3, [1, 2, 0, 0], 3), Some(2), None),
+            swept: [Ok(1), Ok(0)],
+            ..SEEN
+        },
+        listing: TWO_FILES,
     },
 ];
 
@@ -210,40 +132,23 @@ fn compactions_under_pins(rt: HostRuntime) -> Result<(), Fail> {
 /// The last number that a file can have.
 const LAST_NUMBER: u64 = 0x7fff_ffff_ffff_ffff;
 
-const LAST_FILES: &str = "sequence 9223372036854775805 born 2 points 1 from 1 to 1\n\
-    sequence 9223372036854775806 born 3 points 1 from 2 to 2\nfrozen 0\nworking 0 0\nmarks 0\n";
-
-/// No two numbers are left. A list without a plan is not full.
-const FULL: [Case<'static>; 2] = [
-    Case {
-        course: COURSE,
-        seen: Seen {
-            compacted: Compacted(
-                Not(CoreFault::Full {
-                    counter: LAST_NUMBER,
-                }),
-                None,
-                None,
-            ),
-            swept: [Ok(0), Ok(0)],
-            ..SEEN
-        },
-        listing: LAST_FILES,
+/// No two numbers are left.
+const FULL: [Case<'static>; 1] = [Case {
+    course: COURSE,
+    seen: Seen {
+        compacted: Compacted(
+            Not(CoreFault::Full {
+                counter: LAST_NUMBER,
+            }),
+            None,
+            None,
+        ),
+        swept: [Ok(0), Ok(0)],
+        ..SEEN
     },
-    Case {
-        course: Course {
-            before: &[],
-            kind: LATE,
-            ..COURSE
-        },
-        seen: Seen {
-            compacted: Compacted(NoPlan, None, None),
-            swept: [Ok(0), Ok(0)],
-            ..SEEN
-        },
-        listing: LAST_FILES,
-    },
-];
+    listing: "sequence 9223372036854775805 born 2 points 1 from 1 to 1\n\
+        sequence 9223372036854775806 born 3 points 1 from 2 to 2\nfrozen 0\nworking 0 0\nmarks 0\n",
+}];
 
 /// The last number that may be drawn is left.
 const LAST: [Case<'static>; 1] = [Case {
@@ -339,55 +244,24 @@ const NOT_WRITTEN: [Case<'static>; 2] = [
     AGAIN,
 ];
 
-/// Which calls fail.
-#[derive(Clone, Copy, PartialEq, Eq)]
-enum Failing {
-    Journal,
-    Files,
-}
-
-/// The first call, of those from one to before another, at whose failure the cases are not as they say.
-fn first_call(
-    alloc: Global,
-    cases: &[Case<'_>],
-    failing: Failing,
-    from: u64,
-    to: u64,
-) -> Result<Option<u64>, Fail> {
-    for call in from..to {
-        let other = match failing {
-            Failing::Journal => first_wrong(alloc, 1, cases, &[call], &[]),
-            Failing::Files => first_wrong(alloc, 1, cases, &[], &[call]),
-        };
-        if other?.is_some() {
-            return Ok(Some(call));
-        }
-    }
-    Ok(None)
-}
-
 // The seven records before it are 28 calls, and its own are four, of which the two that open its gate leave it in
 // doubt.
 #[test]
 fn journal_that_fails_at_a_commit(rt: HostRuntime) -> Result<(), Fail> {
-    let alloc = rt.alloc();
-    assert_eq!(rt;
-        first_call(alloc, &RETRIED, Failing::Journal, 29, 31)?,
-        None
-    );
-    assert_eq!(rt;
-        first_call(alloc, &DOUBTED, Failing::Journal, 31, 33)?,
-        None
-    );
+    for call in 29..33 {
+        let cases = if call < 31 { &RETRIED } else { &DOUBTED };
+        let other = first_wrong(rt.alloc(), 1, cases, &[call], &[])?;
+        assert_eq!(rt; other, None, "call {call}");
+    }
     Ok(())
 }
 
 // The two files before it are two calls; the run reads both and puts its output by fifteen.
 #[test]
 fn files_that_fail_at_a_run(rt: HostRuntime) -> Result<(), Fail> {
-    assert_eq!(rt;
-        first_call(rt.alloc(), &NOT_WRITTEN, Failing::Files, 3, 18)?,
-        None
-    );
+    for call in 3..18 {
+        let other = first_wrong(rt.alloc(), 1, &NOT_WRITTEN, &[], &[call])?;
+        assert_eq!(rt; other, None, "call {call}");
+    }
     Ok(())
 }

@@ -45,14 +45,12 @@ pub enum Step {
     Compact(Kind),
 }
 
-/// Steps; a pin of `s`; a compaction that begins, steps, its run, steps, and its end; steps; and what the pin reads. A
-/// second compaction, if there is one, begins before the run of the first one, and runs behind its end.
+/// Steps; a pin of `s`; a compaction that begins, steps, its run, steps, and its end; steps; and what the pin reads.
 #[derive(Clone, Copy)]
 pub struct Course<'a> {
     pub before: &'a [Step],
     pub kind: Kind,
     pub meanwhile: &'a [Step],
-    pub second: Option<Kind>,
     pub written: &'a [Step],
     pub commits: bool,
     pub behind: &'a [Step],
@@ -236,51 +234,6 @@ fn write<J: Journal, F: Files>(
     }
 }
 
-/// Begins a second compaction while a job is out, and ends both, the job first. None where one of them, or a step, did
-/// not go well.
-fn write_beside<J: Journal, F: Files>(
-    alloc: Global,
-    core: &mut Core<J, F>,
-    port: &mut F::Port,
-    kind: Kind,
-    began: Began,
-    job: Job<F>,
-    course: Course<'_>,
-) -> Option<Compacted>
-    requires { HasJob F.Right.file (F.Port.store port.old) core.old job }
-    ensures ends { EndsJob F.Right.file (F.Port.store port.old) core.old core.new job }
-    ensures same_store { F.Port.store port.new ≡ F.Port.store port.old }
-{
-    let (_, second) = begin(core, kind);
-    match second {
-        Some(second) => {
-            let compacted = write::<J, F>(alloc, core, port, began, job, course);
-            let done = rewrite::<J, F>(alloc, core, port, kind, second);
-            if done { compacted } else { None }
-        }
-        None => write::<J, F>(alloc, core, port, began, job, course),
-    }
-}
-
-/// Ends a job, and the second compaction of its course, if there is one.
-fn write_all<J: Journal, F: Files>(
-    alloc: Global,
-    core: &mut Core<J, F>,
-    port: &mut F::Port,
-    began: Began,
-    job: Job<F>,
-    course: Course<'_>,
-) -> Option<Compacted>
-    requires { HasJob F.Right.file (F.Port.store port.old) core.old job }
-    ensures ends { EndsJob F.Right.file (F.Port.store port.old) core.old core.new job }
-    ensures same_store { F.Port.store port.new ≡ F.Port.store port.old }
-{
-    match course.second {
-        Some(kind) => write_beside::<J, F>(alloc, core, port, kind, began, job, course),
-        None => write::<J, F>(alloc, core, port, began, job, course),
-    }
-}
-
 /// Takes steps while a job is out, and then runs and ends it. None where a step did not go well.
 fn during<J: Journal, F: Files>(
     alloc: Global,
@@ -295,7 +248,7 @@ fn during<J: Journal, F: Files>(
     ensures same_store { F.Port.store port.new ≡ F.Port.store port.old }
 {
     let done = take_steps::<J, F>(alloc, core, port, course.meanwhile);
-    let compacted = write_all::<J, F>(alloc, core, port, began, job, course);
+    let compacted = write::<J, F>(alloc, core, port, began, job, course);
     if done { compacted } else { None }
 }
 

@@ -2,10 +2,10 @@
 //! commands that are served on one thread: worked examples, calls that fail, numbers at their end, bytes that are read.
 //! Depends on the crates that it tests.
 //!
-//! A course is a compaction under a pin, with steps before it, while it is out, and behind it, and maybe a second
-//! compaction that begins while it is out and ends behind it. `calls` and `jobs` are the calls of a core, `course`
-//! leads a core through a course, and `cases` has the courses. `served` is a core that serves commands, `served_cases`
-//! asks it, and `stored` looks which files are stored.
+//! A course is a compaction under a pin, with steps before it, while it is out, and behind it, of which one may be
+//! another compaction. `calls` and `jobs` are the calls of a core, `course` leads a core through a course, and `cases`
+//! has the courses. `served` is a core that serves commands, `served_cases` counts the bytes that it reads, and `stored`
+//! looks which files are stored.
 #![tactic(auto)]
 
 #[cfg(test)]

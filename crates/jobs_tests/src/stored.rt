@@ -35,7 +35,7 @@ const STEPS: &[(&str, &[u64])] = &[
 ];
 
 /// The reply to the last of the commands.
-fn serve_all<'a>(
+pub fn serve_all<'a>(
     alloc: Global,
     served: &mut Served<MemJournal, MemFiles>,
     lines: &[&'a str],
@@ -106,7 +106,7 @@ fn are_listed(alloc: Global, call: u64) -> Result<bool, Fail> {
         "show files",
     ];
     let (last, stored) = stored_behind(alloc, &[call], &lines)?;
-    Ok(match last {
+    Ok(match &last {
         Some(Reply::Files(listing)) => {
             let files = listing.files.items();
             files.len() == stored.len() && files.iter().all(|file| stored.contains(&file.number))
