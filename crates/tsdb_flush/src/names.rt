@@ -13,8 +13,6 @@ pub(crate) fn device_of(path: &Path) -> Result<Path, Memory>
     ensures device { OnOk result (IsPath (device_in path.now)) }
     ensures measurement { OnOk result (IsName (measurement_in path.now)) }
 {
-    let _name = path.measurement();
-    let device = path.device()?;
-    let _bytes = device.bytes();
-    Ok(device)
+    path.sound();
+    path.device()
 }

@@ -48,7 +48,7 @@ impl Catalog {
     pub fn get(&self, device: &Path, name: &Name) -> Option<&Series>
         ensures { option_copied result ≡ series_of self.now device.now name.now }
     {
-        let _ = name.bytes();
+        name.sound();
         self.devices.get(device)?.get(name)
     }
 
@@ -64,7 +64,7 @@ impl Catalog {
         ensures created { OnOk result (self.new ≡ map.insert self.old (child_of device name) (new_series data_type)) }
         ensures memory { OnErr result (self.new ≡ self.old) }
     {
-        let _ = name.bytes();
+        name.sound();
         let series = Series::new(alloc, data_type);
         if let Some(names) = self.devices.get_mut(&device) {
             names.insert(name, series)?;
@@ -80,7 +80,7 @@ impl Catalog {
     pub fn remove(&mut self, device: &Path, name: &Name)
         ensures { self.new ≡ map.remove self.old (child_of device.now name.now) }
     {
-        let _ = name.bytes();
+        name.sound();
         let Some(names) = self.devices.get_mut(device) else {
             return;
         };
@@ -102,7 +102,7 @@ impl Catalog {
         ensures memory { OnErr result (self.new ≡ self.old) }
         ensures fits { IsNone value ⊎ IsSome (value_at self.old (child_of device.now name.now) time) → IsOk result }
     {
-        let _ = name.bytes();
+        name.sound();
         let Some(names) = self.devices.get_mut(device) else {
             return Ok(None);
         };
@@ -117,7 +117,7 @@ impl Catalog {
         requires { IsSome (series_of self.old device.now name.now) }
         ensures { self.new ≡ change self.old (child_of device.now name.now) (cut range.now) }
     {
-        let _ = name.bytes();
+        name.sound();
         let Some(names) = self.devices.get_mut(device) else {
             return;
         };

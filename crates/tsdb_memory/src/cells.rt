@@ -64,8 +64,7 @@ fn cell_of(memory: &MemoryStore, device: &Path, cell: &Cell) -> Result<CellFound
     requires { IsSoundMemory memory.now }
     ensures { IfOk result (IsCellFound memory.now.series device.now cell.now) }
 {
-    // (a call of the name tells that it is one)
-    let _ = cell.measurement.bytes();
+    cell.measurement.sound();
     let path = match device.child(&cell.measurement) {
         Ok(path) => path,
         Err(fault) => {

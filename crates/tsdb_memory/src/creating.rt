@@ -32,8 +32,7 @@ impl MemoryStore {
         ensures effect { (state : StoreState) → IsMemoryOf self.old state → IsMemoryOf self.new (created schema state) }
         ensures made { HasCreated schema self.old self.new }
     {
-        // (a call of the path tells that it is one)
-        let _ = schema.path.bytes();
+        schema.path.sound();
         let _ = self
             .series
             .insert(schema.path, (schema.data_type, schema.encoding));

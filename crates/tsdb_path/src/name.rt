@@ -57,4 +57,12 @@ impl Name {
     {
         self.bytes.as_slice()
     }
+
+    /// It does nothing, and tells what always holds of a name.
+    pub fn sound(&self)
+        ensures { IsName self.now }
+    {
+        // (a type's invariant is at hand where a field is used)
+        let _ = &self.bytes;
+    }
 }

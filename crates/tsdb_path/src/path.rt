@@ -67,6 +67,14 @@ impl Path {
         self.bytes.as_slice()
     }
 
+    /// It does nothing, and tells what always holds of a path.
+    pub fn sound(&self)
+        ensures { IsPath self.now }
+    {
+        // (a type's invariant is at hand where a field is used)
+        let _ = &self.bytes;
+    }
+
     /// How many nodes the path has.
     pub fn nodes(&self) -> u64
         ensures value { result ≡ node_count self.now }

@@ -79,7 +79,7 @@ impl OpenSeries {
         ensures points { IfOk result (λ series. series.points.items ≡ []) }
         ensures good { OnOk result (IsPath path.now) }
     {
-        let _path = path.bytes();
+        path.sound();
         Ok(OpenSeries {
             path: path.copy()?,
             data_type,

@@ -21,7 +21,7 @@ pub returns-in-Some-2 : goal.returns-in-Some-2
 returns-in-Some-2 c =
     let found = c.in-Some.series in
     item_of c.args.memory.now.series c.args.device.now c.in-Ok.path c.args.cell.now found.id.0 found.data_type
-    found.encoding c.in-Some-2.value c.in-Ok.ensures.ok c.bytes.ensures.name
+    found.encoding c.in-Some-2.value c.in-Ok.ensures.ok c.sound.ensures
     (sym (some_first (λ (series : NumberedSeries). series.id.0) c.series.result found _ c.series.ensures.number
     c.in-Some.is))
     c.in-Some.ensures.schema (sym c.in_ok-value.ensures ∙ c.in-Some-2.is)

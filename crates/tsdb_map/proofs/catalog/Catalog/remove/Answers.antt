@@ -11,7 +11,7 @@ use Rattle.tsdb_map.proofs.catalog.Catalog.remove.Goals as goal
 
 pub returns-in_default : goal.returns-in_default
 returns-in_default c =
-    let none = get-world c.self.inside.devices _ c.self.invariant c.self.view_is c.args.device.now c.args.name.now (IsDotless-name _ c.bytes.ensures.name)
+    let none = get-world c.self.inside.devices _ c.self.invariant c.self.view_is c.args.device.now c.args.name.now (IsDotless-name _ c.sound.ensures)
     ∙ ap (λ o. in_names o c.args.name.now) (sym c.get_mut.ensures.value ∙ ap option_copied_mut c.in_default.is) in
     ap (λ (m : BTreeMap (List ℕ) Names). world_of m.entries) c.get_mut.follows.holds-at-none ∙ c.self.view_is
     ∙ sym (remove-absent c.args.self.now (child_of c.args.device.now c.args.name.now) none)
@@ -25,7 +25,7 @@ invariant_of-self-2 c =
 
 pub returns : goal.returns
 returns c =
-    let dotless = IsDotless-name _ c.bytes.ensures.name in
+    let dotless = IsDotless-name _ c.sound.ensures in
     let found = sym c.get_mut.ensures.value ∙ ap option_copied_mut c.in-Some.is in
     let outer = c.get_mut.follows.holds c.remove.new.self in
     let after = kept-set c.self.inside.devices (c.get_mut.follows.lender c.remove.new.self) c.self.invariant c.args.device.now c.remove.new.self outer.0 outer.4

@@ -13,20 +13,20 @@ use Rattle.tsdb_map.proofs.catalog.Catalog.set.Goals as goal
 pub returns-in_default : goal.returns-in_default
 returns-in_default c =
     nothing _ c.requires
-    (get-world c.self.inside.devices _ c.self.invariant c.self.view_is c.args.device.now c.args.name.now (IsDotless-name _ c.bytes.ensures.name)
+    (get-world c.self.inside.devices _ c.self.invariant c.self.view_is c.args.device.now c.args.name.now (IsDotless-name _ c.sound.ensures)
     ∙ ap (λ o. in_names o c.args.name.now) (sym c.get_mut.ensures.value ∙ ap option_copied_mut c.in_default.is))
 
 pub invariant_of-self-in_default-get_mut : goal.invariant_of-self-in_default-get_mut
 invariant_of-self-in_default-get_mut c =
     nothing _ c.requires
-    (get-world c.self.inside.devices _ c.self.invariant c.self.view_is c.args.device.now c.args.name.now (IsDotless-name _ c.bytes.ensures.name)
+    (get-world c.self.inside.devices _ c.self.invariant c.self.view_is c.args.device.now c.args.name.now (IsDotless-name _ c.sound.ensures)
     ∙ ap (λ o. in_names o c.args.name.now) (sym c.get_mut.ensures.value ∙ ap option_copied_mut c.in-Some.is)
     ∙ (sym c.get_mut-2.ensures.value ∙ ap option_copied_mut c.in_default-get_mut.is))
 
 pub returns-in_default-get_mut : goal.returns-in_default-get_mut
 returns-in_default-get_mut c =
     nothing _ c.requires
-    (get-world c.self.inside.devices _ c.self.invariant c.self.view_is c.args.device.now c.args.name.now (IsDotless-name _ c.bytes.ensures.name)
+    (get-world c.self.inside.devices _ c.self.invariant c.self.view_is c.args.device.now c.args.name.now (IsDotless-name _ c.sound.ensures)
     ∙ ap (λ o. in_names o c.args.name.now) (sym c.get_mut.ensures.value ∙ ap option_copied_mut c.in-Some.is)
     ∙ (sym c.get_mut-2.ensures.value ∙ ap option_copied_mut c.in_default-get_mut.is))
 
@@ -42,7 +42,7 @@ pub returns : goal.returns
 returns c =
     let world = c.args.self.now in
     let path = child_of c.args.device.now c.args.name.now in
-    let dotless = IsDotless-name _ c.bytes.ensures.name in
+    let dotless = IsDotless-name _ c.sound.ensures in
     let found = sym c.get_mut.ensures.value ∙ ap option_copied_mut c.in-Some.is in
     let series = sym c.get_mut-2.ensures.value ∙ ap option_copied_mut c.in-Some-get_mut.is in
     let there : get world path ≡ Some c.in-Some-get_mut.series.now =

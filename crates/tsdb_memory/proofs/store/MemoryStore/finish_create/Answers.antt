@@ -55,5 +55,5 @@ invariant_of-self c =
     subst (λ (s : MemoryState). s.stamp < end_of_numbers) (sym c.self.view_is) c.requires.stamp in
     created_sound (memory_view old) (map schema_of c.insert.new.self.entries) (memory_view new).places schema
     (joined old.series c.insert.new.self schema c.insert.result free (c.insert.ensures.succeeds place)
-    c.insert.ensures.entries) (record { suits = c.requires.formed; path = c.bytes.ensures.path }) free stamp
+    c.insert.ensures.entries) (record { suits = c.requires.formed; path = c.sound.ensures }) free stamp
     c.self.invariant
