@@ -83,14 +83,13 @@ impl<J: Journal, F: Files> Core<J, F> {
         working.points(Space::Sequence) == 0 && working.points(Space::Unsequence) == 0
     }
 
-    /// Tells that the working pair of each state counts what the one in memory does.
+    /// It does nothing, and tells that the working pair of each state counts what the one in memory does.
     pub(crate) fn tell_counts(&self)
         ensures { HasStateCounts self.now }
     {
         let memory = self.logged.memory();
         memory.sound();
-        // (a call of the pair tells that its series rise)
-        let _ = memory.working().points(Space::Sequence);
+        memory.working().sound();
     }
 
     /// Removes from the store each file on its way out of which no right is out, and that no record in doubt names, in

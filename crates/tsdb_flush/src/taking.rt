@@ -44,8 +44,7 @@ pub fn take(memory: &MemoryStore, next: u64) -> Result<FlushJob, Memory>
     memory.sound();
     let oldest = oldest(memory);
     let in_order = series_in_order(memory, oldest.pair())?;
-    // (a call of the pair tells that its series rise)
-    let _ = oldest.pair().points(Space::Sequence);
+    oldest.pair().sound();
     let alloc = *in_order.allocator();
     let all = in_order.as_slice();
     let series = numbers_of(alloc, all)?;

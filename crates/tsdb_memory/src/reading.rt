@@ -31,6 +31,7 @@ impl MemoryStore {
     pub fn sound(&self)
         ensures { IsSoundMemory self.now }
     {
+        // (a type's invariant is at hand where a field is used)
         let _ = &self.series;
     }
 

@@ -7,7 +7,7 @@ use Rattle.tsdb_memtable.specs.declared.pair.Pair.TheInside.{Inside}
 use Rattle.tsdb_memtable.specs.declared.series.Totals.{Totals}
 use Rattle.tsdb_base.specs.Limits.{max_point_bytes}
 use Rattle.tsdb_memtable.specs.Limits.{max_bytes}
-use Rattle.tsdb_memtable.specs.Pairs.{Pair, byte_count, space_count}
+use Rattle.tsdb_memtable.specs.Pairs.{HasRisingSeries, Pair, byte_count, space_count}
 
 -- for how many points there is room in all
 abbrev pub spare_count : Pair → ℕ
@@ -51,3 +51,4 @@ pub record AreTotals (pair : Pair) (totals : Totals) : Type 0 where
 pub record IsPairKept (inside : Inside) : Type 0 where
   pub totals : AreTotals inside.series.entries inside.totals
   pub most : most_of inside.totals ≤ max_bytes
+  pub rising : HasRisingSeries inside.series.entries

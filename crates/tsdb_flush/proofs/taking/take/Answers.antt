@@ -56,7 +56,7 @@ returns-in-Some c =
       job = is;
       taken = taken;
       some = some_drawn store.series (arc_value job.pair) job.schemas job.series
-          (subst HasRisingSeries (c.pair-2.ensures ∙ sym has.pair) c.points.ensures.rising)
+          (subst HasRisingSeries (c.pair-2.ensures ∙ sym has.pair) c.sound-2.ensures)
           (subst (λ (p : Pair). ¬ HasNoPairPoint p) (sym has.pair) filled) taken.of job.sequence job.unsequence
           is.sequence_drawn is.unsequence_drawn;
     }

@@ -6,4 +6,4 @@ use Rattle.tsdb_core.proofs.engine.Core.tell_counts.Goals as goal
 
 pub returns : goal.returns
 returns g c = counts_told c.memory-memory.result.now (memory_of c.args.self.now.logged) c.memory-memory.ensures
-    c.sound.ensures (subst HasRisingSeries c.working.ensures c.points.ensures.rising)
+    c.sound.ensures (subst HasRisingSeries c.working.ensures c.sound-2.ensures)

@@ -26,4 +26,5 @@ invariant_of-self-2 c =
       totals = swapped c.self.inside.series.entries (c.get_mut.follows.lender c.erase.new.self).entries c.args.series.0 c.in-Some.points.now c.erase.new.self c.self.inside.totals _ _ c.swap-self-inside.result
           (sym c.in-Some.ensures.value) c.self.invariant.totals c.totals-before.ensures c.totals.ensures c.swap-self-inside.ensures (c.get_mut.follows.holds c.erase.new.self).0;
       most = swapped-most c.in-Some.points.now c.erase.new.self c.self.inside.totals _ _ c.swap-self-inside.result c.totals-before.ensures c.totals.ensures c.swap-self-inside.ensures most;
+      rising = (c.get_mut.follows.holds c.erase.new.self).4;
     }

@@ -23,6 +23,7 @@ invariant_of-self c =
       totals = swapped c.self.inside.series.entries (c.get_mut.follows.lender c.provide-outcome.new.self).entries c.args.series.0 c.in-Some.points.now c.provide-outcome.new.self c.self.inside.totals _ _ c.swap-self-inside.result
           (sym c.in-Some.ensures.value) c.self.invariant.totals c.totals-before.ensures c.totals.ensures c.swap-self-inside.ensures (c.get_mut.follows.holds c.provide-outcome.new.self).0;
       most = swapped-most c.in-Some.points.now c.provide-outcome.new.self c.self.inside.totals _ _ c.swap-self-inside.result c.totals-before.ensures c.totals.ensures c.swap-self-inside.ensures most;
+      rising = (c.get_mut.follows.holds c.provide-outcome.new.self).4;
     }
 
 pub returns-in-Some-clause-points : goal.returns-in-Some-clause-points

@@ -25,4 +25,5 @@ invariant_of-self c =
       totals = swapped c.self.inside.series.entries (c.get_mut.follows.lender c.put.new.self).entries c.args.series.0 c.in-Some.points.now c.put.new.self c.self.inside.totals _ _ c.swap-self-inside.result
           (sym c.in-Some.ensures.value) c.self.invariant.totals c.totals-before.ensures c.totals.ensures c.swap-self-inside.ensures (c.get_mut.follows.holds c.put.new.self).0;
       most = swapped-most c.in-Some.points.now c.put.new.self c.self.inside.totals _ _ c.swap-self-inside.result c.totals-before.ensures c.totals.ensures c.swap-self-inside.ensures most;
+      rising = (c.get_mut.follows.holds c.put.new.self).4;
     }

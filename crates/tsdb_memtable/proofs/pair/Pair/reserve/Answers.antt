@@ -18,7 +18,11 @@ invariant_of-self c =
     let test = is_series c.args.series.0 in
     let same = (c.get_mut.follows.holds c.reserve.new.self).0 ∙ ap (set_value test c.self.inside.series.entries) c.in_err-reserve-in-Some.ensures.memory
     ∙ set_value_same test c.self.inside.series.entries c.in-Some.points.now (sym c.in-Some.ensures.value) in
-    record { totals = subst (λ (pair : Pair). AreTotals pair c.self.inside.totals) (sym same) c.self.invariant.totals; most = c.self.invariant.most }
+    record {
+      totals = subst (λ (pair : Pair). AreTotals pair c.self.inside.totals) (sym same) c.self.invariant.totals;
+      most = c.self.invariant.most;
+      rising = (c.get_mut.follows.holds c.reserve.new.self).4;
+    }
 
 pub returns-in_err-reserve-in-Some-clause-tables : goal.returns-in_err-reserve-in-Some-clause-tables
 returns-in_err-reserve-in-Some-clause-tables c =
@@ -51,6 +55,7 @@ invariant_of-self-in-Some c =
       totals = swapped c.self.inside.series.entries (c.get_mut.follows.lender c.reserve.new.self).entries c.args.series.0 c.in-Some.points.now c.reserve.new.self c.self.inside.totals _ _ c.swap-self-inside.result
           (sym c.in-Some.ensures.value) c.self.invariant.totals c.totals-before.ensures c.totals.ensures c.swap-self-inside.ensures (c.get_mut.follows.holds c.reserve.new.self).0;
       most = swapped-most c.in-Some.points.now c.reserve.new.self c.self.inside.totals _ _ c.swap-self-inside.result c.totals-before.ensures c.totals.ensures c.swap-self-inside.ensures most;
+      rising = (c.get_mut.follows.holds c.reserve.new.self).4;
     }
 
 pub returns-in_ok-reserve-in-Some-clause-tables : goal.returns-in_ok-reserve-in-Some-clause-tables
@@ -92,6 +97,7 @@ invariant_of-self-in-None c =
       totals = added c.get_mut.follows.lender-at-none.entries c.insert.new.self.entries c.args.series.0 w c.self.inside.totals _ _ c.swap-self-inside-in-None.result
           c.insert.ensures.was_ordered (subst Absent (sym same) (sym c.in-None.ensures.value)) are before c.totals-after.ensures c.swap-self-inside-in-None.ensures c.in_ok-insert-in-None.ensures.entries;
       most = swapped-most blank w c.self.inside.totals _ _ c.swap-self-inside-in-None.result before c.totals-after.ensures c.swap-self-inside-in-None.ensures most;
+      rising = c.insert.ensures.ordered;
     }
 
 pub returns-in_ok-insert-in-None-clause-tables : goal.returns-in_ok-insert-in-None-clause-tables
