@@ -109,4 +109,11 @@ impl<J: Journal, F: Files> Core<J, F> {
     {
         self.files.outgoing()
     }
+
+    /// It does nothing, and tells what always holds of the kept files.
+    pub fn sound(&self)
+        ensures { AreKept (files_of self.now) }
+    {
+        self.files.sound();
+    }
 }

@@ -22,7 +22,6 @@ impl<J: Journal, F: Files> Core<J, F> {
     ghost use Rattle.tsdb_core.specs.Compactions.{IsJobOut};
     ghost use Rattle.tsdb_core.specs.Core.{files_of, is_sequence_claimed, logged_of};
     ghost use Rattle.tsdb_core.specs.Replacements.{AppendsEnd, IsJobAbandoned, IsJobCommit};
-    ghost use Rattle.tsdb_fileset.specs.Files.{AreKept};
 
     /// Ends an inner compaction that is out: its output stands in the place of its inputs, and these are on their way
     /// out. Where the log could not be written the job is given up. It takes no memory.
@@ -52,7 +51,7 @@ impl<J: Journal, F: Files> Core<J, F> {
         requires output { IfSome output (IsOutputNumbered F.Sealed.rights job) }
         ensures { IsJobAbandoned self.old self.new job (option_map (file_built F.Sealed.file) output) }
     {
-        self.tell_kept();
+        self.files.sound();
         self.free_sequence(job.space);
         give_up(&mut self.files, job, output);
     }
@@ -63,7 +62,7 @@ impl<J: Journal, F: Files> Core<J, F> {
         requires output { IsOutputOf F.Right.file F.Sealed.file F.Sealed.rights job output }
         ensures { IsJobCommit F.Right.file self.old self.new job (option_map (file_built F.Sealed.file) output) result }
     {
-        self.tell_kept();
+        self.files.sound();
         let runs = runs_of(&self.files, &job);
         let (job, outcome) = self.log_end(job, runs, &output);
         self.free_sequence(job.space);
@@ -138,13 +137,6 @@ impl<J: Journal, F: Files> Core<J, F> {
             Space::Sequence => self.sequence_claimed = false,
             Space::Unsequence => (),
         }
-    }
-
-    /// Tells that each kept file is at one place.
-    fn tell_kept(&self)
-        ensures { AreKept (files_of self.now) }
-    {
-        let _ = self.files.outgoing();
     }
 }
 

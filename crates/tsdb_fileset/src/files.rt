@@ -328,6 +328,14 @@ impl<F: Files> KeptFiles<F> {
         &self.outgoing
     }
 
+    /// It does nothing, and tells what always holds of the kept files.
+    pub fn sound(&self)
+        ensures { AreKept self.now }
+    {
+        // (a type's invariant is at hand where a field is used)
+        let _ = &self.outgoing;
+    }
+
     /// Removes from the store each outgoing file of which no right is out, and that is none of those in doubt, in their
     /// order, and returns how many. After `Ok` no removal has failed. After `Failed` the file that could not be removed is
     /// spent too, and those behind it were not tried.

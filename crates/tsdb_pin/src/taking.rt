@@ -11,7 +11,7 @@ use crate::items::{AskedSeries, read_items};
 use crate::pin::{Pin, PinFault};
 use crate::returning::give_back_columns;
 use std::alloc::Global;
-use tsdb_base::{List, Memory, Range, Space, Stamp};
+use tsdb_base::{List, Memory, Range, Stamp};
 use tsdb_fileset::{KeptFiles, MemoryStore};
 use tsdb_marks::Marks;
 use tsdb_model::Item;
@@ -49,7 +49,7 @@ pub fn take_pin<F: Files>(
     ensures state { IfOk result (IsPinOfState files.old files.new memory.now) }
 {
     // (these tell that each listed file is kept, and what holds of the series)
-    let _ = files.entries(Space::Sequence);
+    files.sound();
     memory.sound();
     match read_items(alloc, memory, device, items) {
         Ok(Ok(all)) => match take_all(alloc, files, memory, all, range) {

@@ -99,13 +99,6 @@ impl<F: Files> Adopting<F> {
         self.opening.files(space).get(kept).copied()
     }
 
-    /// It does nothing, and tells what always holds of the kept files.
-    pub(crate) fn tell_kept(&self)
-        ensures { AreKept (adopting_files self.now) }
-    {
-        let _ = self.files.entries(Space::Sequence);
-    }
-
     /// It does nothing, and tells what always holds of what is in memory.
     fn tell_memory(&self)
         ensures { (recorded : Recorded) → IsOpeningOf (opening_of self.now) recorded

@@ -46,7 +46,7 @@ impl<F: Files> Adopting<F> {
             → wanted_file (adopting_files self.now) recorded.store ≡ None
             → IsTrue result ↔ Among number.0 (numbers_of (recorded.store.sequence ++ recorded.store.unsequence)) }
     {
-        self.tell_kept();
+        self.files.sound();
         self.files.series(number).is_some()
     }
 
@@ -80,7 +80,7 @@ impl<F: Files> Adopting<F> {
             → IsSeen result (record { items = items; kept = kept; told = told; known = known_of (adopting_files self) })
             (opened (next_of result) recorded.store) }
     {
-        self.tell_kept();
+        self.files.sound();
         let next_file = self.opening.next_file(stored);
         let Adopting {
             alloc,

@@ -168,7 +168,7 @@ fn rewrite<J: Journal, F: Files>(
     ensures full { IfErr result (λ fault. (counter : ℕ) → fault ≢ FaultOf.Full counter) }
     ensures later { F.Port.faults port.old ≤ F.Port.faults port.new }
 {
-    tell_kept(core);
+    core.sound();
     match run(alloc, kind, &job, port) {
         Ok(output) => commit(core, job, output),
         Err(fault) => {
@@ -176,13 +176,6 @@ fn rewrite<J: Journal, F: Files>(
             Err(FlushFault::of_file(fault))
         }
     }
-}
-
-/// Tells that each kept file is at one place.
-fn tell_kept<J: Journal, F: Files>(core: &Core<J, F>)
-    ensures { AreKept (files_of core.now) }
-{
-    let _ = core.outgoing();
 }
 
 /// Writes the output of a job, by the call of its kind.
