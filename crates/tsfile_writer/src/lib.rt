@@ -14,3 +14,4 @@ pub use builder::Builder;
 pub use fault::BuildFault;
 pub use laws::one_file_of_series;
 pub use tree::write_tree;
+pub use tree_facts::trees_are_made;

@@ -1,13 +1,12 @@
-//! Writing the file of a tree. Depends on `layout` and `tree_facts`.
+//! Writing the file of a tree. Depends on `layout`.
 ghost use Rattle.std.specs.Prelude.{◌≡◌, List, [], ◌∷◌, ◌++◌, true, IfOk, OnOk};
 ghost use Rattle.tsdb_pages.specs.declared.tree.Chunk.{Chunk as ChunkOf};
 ghost use Rattle.tsdb_pages.specs.declared.tree.Group.{Group as GroupOf};
 ghost use Rattle.tsdb_pages.specs.File.{IsFile};
-ghost use Rattle.tsdb_pages.specs.Trees.{IsChunk, IsGroup, IsMade, IsTree};
+ghost use Rattle.tsdb_pages.specs.Trees.{IsChunk, IsGroup, IsTree};
 ghost use Rattle.tsfile_writer.specs.Steps.{AreChunks, AreGroupsWritten};
 
 use crate::layout::{append_chunk, append_end, append_group_start};
-use crate::tree_facts::tell_tree;
 use std::alloc::Global;
 use tsdb_base::Memory;
 use tsdb_index::IndexEntry;
@@ -73,9 +72,7 @@ fn write_group(
 pub fn write_tree(alloc: Global, tree: &Tree) -> Result<Vec<u8>, Memory>
     requires { IsTree tree.now }
     ensures file { IfOk result (λ bytes. IsFile tree.now bytes.items) }
-    ensures made { IsMade tree.now }
 {
-    tell_tree(tree);
     let mut entries = Vec::new(alloc);
     let mut bytes = Vec::from_slice(alloc, &HEAD)?;
     for group in tree.groups.items() {

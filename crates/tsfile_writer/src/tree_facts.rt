@@ -1,5 +1,6 @@
-//! What the types of a tree's parts say by themselves, told to proofs. Nothing here is of use to a run. Depends on
-//! tsdb_base, tsdb_path and tsdb_pages.
+//! The law of what the types of a tree's parts say by themselves. It reads each part, since what stands behind a
+//! reference is known to be in range once it is read: so no other call makes this walk. Depends on tsdb_base,
+//! tsdb_path and tsdb_pages.
 ghost use Rattle.std.specs.Prelude.{All};
 ghost use Rattle.tsdb_pages.specs.Pages.{IsInRange};
 ghost use Rattle.tsdb_pages.specs.Trees.{HasParts, IsMade};
@@ -40,7 +41,7 @@ fn tell_points(points: &[Point])
 fn tell_chunk(chunk: &Chunk)
     ensures { HasParts chunk.now }
 {
-    let _name = chunk.measurement.bytes();
+    chunk.measurement.sound();
     for page in chunk.pages.items() {
         tell_points(page.points.items());
     }
@@ -51,14 +52,14 @@ fn tell_group(group: &Group)
     ensures device { IsPath group.now.device }
     ensures chunks { All HasParts group.now.chunks }
 {
-    let _path = group.device.bytes();
+    group.device.sound();
     for chunk in group.chunks.items() {
         tell_chunk(chunk);
     }
 }
 
-/// The tree is made of such groups.
-pub(crate) fn tell_tree(tree: &Tree)
+/// Each tree is made of such groups.
+pub fn trees_are_made(tree: &Tree)
     ensures { IsMade tree.now }
 {
     for group in tree.groups.items() {

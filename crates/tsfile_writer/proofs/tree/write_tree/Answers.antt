@@ -27,5 +27,4 @@ returns c =
       file = if_ok_then _ _ c.append_end.result
           (λ file made. file_made c.args.tree.now c.loop-group.bytes.items file.items made.0 made.1 c.loop-group.entries.items layout made.2 made.3)
           c.append_end.ensures;
-      made = c.tell_tree.ensures;
     }

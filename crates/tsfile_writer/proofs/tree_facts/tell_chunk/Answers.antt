@@ -17,6 +17,6 @@ loop-page-preserved c =
 
 pub returns : goal.returns
 returns c = record {
-  measurement = c.bytes-name.ensures.name;
+  measurement = c.sound.ensures;
   points = all_in_range c.args.chunk.now.pages (all_of_taken (λ (page : Page). All IsInRange page.points) c.args.chunk.now.pages c.loop-page.page-index (search rules) c.loop-page.invariant);
 }

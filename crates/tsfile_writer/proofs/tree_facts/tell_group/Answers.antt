@@ -12,6 +12,6 @@ loop-chunk-preserved c = one_more_of HasParts c.args.group.now.chunks c.items-ch
 
 pub returns : goal.returns
 returns c = record {
-  device = c.bytes-path.ensures.path;
+  device = c.sound.ensures;
   chunks = all_of_taken HasParts c.args.group.now.chunks c.loop-chunk.chunk-index (search rules) c.loop-chunk.invariant;
 }

@@ -1,7 +1,7 @@
 use Rattle.std.proofs.Common.{rules}
 use Rattle.std.proofs.lemmas.List.Elements.{All-nil}
 use Rattle.tsfile_writer.proofs.Made.{IsMadeGroup, all_of_taken, groups_made, one_more_of}
-use Rattle.tsfile_writer.proofs.tree_facts.tell_tree.Goals as goal
+use Rattle.tsfile_writer.proofs.tree_facts.trees_are_made.Goals as goal
 
 pub loop-group-init : goal.loop-group-init
 loop-group-init c = All-nil IsMadeGroup
