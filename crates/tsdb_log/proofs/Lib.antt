@@ -3,5 +3,6 @@ pub mod Parts
 pub mod Bodies
 pub mod Exits
 pub mod Wholes
+pub mod ShortFields
 pub mod Sizes
 pub mod SnapshotExits

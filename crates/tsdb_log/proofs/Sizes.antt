@@ -32,19 +32,19 @@ rows_length row Is most short [] all = omega arith
 rows_length row Is most short (x ∷ xs) all =
     omega (arith, short x all.0, rows_length row Is most short xs all.1, bytes_length (row x) (flat_map row xs), mul-suc most (length xs))
 
-type_length : (t : DataType) → length (type_field t) ≡ 1
+pub type_length : (t : DataType) → length (type_field t) ≡ 1
 type_length Boolean = omega arith
 type_length Int32 = omega arith
 type_length Int64 = omega arith
 type_length Text = omega arith
 
-encoding_length : (e : Encoding) → length (encoding_field e) ≡ 1
+pub encoding_length : (e : Encoding) → length (encoding_field e) ≡ 1
 encoding_length Plain = omega arith
 encoding_length Dictionary = omega arith
 encoding_length Rle = omega arith
 encoding_length Ts2diff = omega arith
 
-space_length : (s : Space) → length (space_field s) ≡ 1
+pub space_length : (s : Space) → length (space_field s) ≡ 1
 space_length Sequence = omega arith
 space_length Unsequence = omega arith
 
@@ -52,7 +52,7 @@ bool_length : (b : Bool) → length (plain_bool b) ≡ 1
 bool_length true = omega arith
 bool_length false = omega arith
 
-value_length : (v : Value) → IsValue v → length (value_field v) ≤ 65537
+pub value_length : (v : Value) → IsValue v → length (value_field v) ≤ 65537
 value_length (value.Bool b) is = omega (arith, bool_length b)
 value_length (value.I32 n) is = omega arith
 value_length (value.I64 n) is = omega arith
@@ -84,7 +84,7 @@ files_length : (files : List FileNumber) → length files ≤ 100000000 → AreF
 files_length files few are =
     omega (arith, rows_length file_fields IsFileField 8 file_length files (recursion_from_All IsFileField files are.1), mul-le 8 (length files) 8 100000000 (omega arith) few)
 
-path_length : (path : List ℕ) → IsPath path → length (plain_text path) ≤ 257
+pub path_length : (path : List ℕ) → IsPath path → length (plain_text path) ≤ 257
 path_length path is = let short = is.1.short in omega arith
 
 pub short_records : (item : LogRecord) → IsRecord item → FitsFrame item → length (spelling item) < 2 ^ 32

@@ -1,5 +1,5 @@
 -- How far bytes are those of fields.
-use Rattle.std.specs.Prelude.{◌≡◌, ℕ, ◌≤◌, List, ◌++◌, length, Result, Ok, Err}
+use Rattle.std.specs.Prelude.{◌≡◌, ℕ, ◌+◌, ◌<◌, ◌≤◌, List, ◌++◌, length, Result, Ok, Err}
 use Rattle.tsdb_log.specs.declared.fault.LogFault.{LogFault}
 use Rattle.tsdb_log.specs.declared.fault.LogFault.TheVariants.{Memory}
 use Rattle.tsdb_log.specs.declared.record.LogRecord.{LogRecord}
@@ -31,6 +31,18 @@ SpellNoRecord bytes = (item : LogRecord) → IsRecord item → bytes ≡ spellin
 pub record IsBadRecord (bytes : List ℕ) (at : ℕ) : Type 0 where
   pub none : SpellNoRecord bytes
   pub place : IsFurthest fields IsRecord bytes at
+
+-- no record begins with these bytes
+abbrev pub BeginNoRecord : List ℕ → Type 0
+BeginNoRecord bytes = (item : LogRecord) (behind : List ℕ) → IsRecord item → bytes ++ behind ≡ spelling item → ⊥
+
+-- the most bytes of a field: those of a text, and of its length before it
+abbrev pub most_field_bytes : ℕ
+most_field_bytes = 65537
+
+-- the bytes are fields of a record up to a place from which on they may be a field that is cut
+abbrev pub AreFieldsNearTheirEnd : List ℕ → Type 0
+AreFieldsNearTheirEnd bytes = (at : ℕ) → IsFurthest fields IsRecord bytes at → length bytes < at + most_field_bytes
 
 -- the record was read, or memory ran out
 abbrev pub IsReadAs : LogRecord → Result LogRecord LogFault → Type 0

@@ -34,7 +34,7 @@ mod writing;
 
 pub use fault::LogFault;
 pub use laws::{one_spelling, spelling_fits_frame};
-pub use reading::read_record;
+pub use reading::{may_begin, read_record};
 pub use record::{CellRecord, LogRecord, MAX_CELLS};
 pub use snapshot::{
     FileRecord, MAX_PAIRS, MarkRecord, PairRecord, SchemaRecord, Snapshot, TableRecord,

@@ -1,7 +1,7 @@
 //! Reading a record. Depends on `record`, `part`, `snapshot_parts`, `kind` and `fault`.
-ghost use Rattle.std.specs.Prelude.{◌≡◌, ℕ, ◌∷◌, Err, IfOk};
+ghost use Rattle.std.specs.Prelude.{◌≡◌, ℕ, ◌∷◌, true, false, Err, IfOk};
 ghost use Rattle.tsdb_log.specs.declared.record.LogRecord.{LogRecord};
-ghost use Rattle.tsdb_log.specs.Places.{IsBadRecord, IsReadAs};
+ghost use Rattle.tsdb_log.specs.Places.{AreFieldsNearTheirEnd, BeginNoRecord, IsBadRecord, IsReadAs};
 ghost use Rattle.tsdb_log.specs.Spelling.{files_fields, spelling, AreFiles, IsRecord};
 ghost use Rattle.tsdb_log.specs.Steps.{ReadsFields, ReadsRecord};
 
@@ -13,7 +13,7 @@ use crate::part::{read_part, read_parts};
 use crate::record::LogRecord;
 use crate::snapshot_parts::read_snapshot;
 use std::alloc::Global;
-use tsdb_base::{FileNumber, List, Range, Space, Stamp};
+use tsdb_base::{FileNumber, List, Memory, Range, Space, Stamp};
 use tsdb_fields::{FieldFault, Rest, read_field, read_path};
 
 /// The record that creates a series, whose kind stands before these bytes.
@@ -138,4 +138,27 @@ pub fn read_record(alloc: Global, payload: &[u8]) -> Result<LogRecord, LogFault>
         return Err(LogFault::Bad { at: rest.at });
     }
     Ok(item)
+}
+
+/// The most bytes of a field: those of a text, and of its length before it.
+const MAX_FIELD_BYTES: u64 = 65_537;
+
+/// Whether a record may begin with these bytes. It is false exactly where the first field that is none has so many bytes
+/// behind it that it is not only cut. It takes time and memory linear in the bytes.
+pub fn may_begin(alloc: Global, bytes: &[u8]) -> Result<bool, Memory>
+    ensures none { IfOk result (λ may. may ≡ false → BeginNoRecord bytes.now) }
+    ensures near { IfOk result (λ may. may ≡ true → AreFieldsNearTheirEnd bytes.now) }
+{
+    let size = bytes.len() as u64;
+    if size < MAX_FIELD_BYTES {
+        return Ok(true);
+    }
+    match read_record(alloc, bytes) {
+        Ok(item) => {
+            drop(item);
+            Ok(true)
+        }
+        Err(LogFault::Bad { at }) => Ok(size - MAX_FIELD_BYTES < at),
+        Err(LogFault::Memory) => Err(Memory),
+    }
 }

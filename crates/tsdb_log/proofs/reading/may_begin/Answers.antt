@@ -1,0 +1,18 @@
+use Rattle.std.proofs.Common.{◌≡◌, arith, rules, sym}
+use Rattle.std.proofs.lemmas.Bool.{false≢true}
+use Rattle.tsdb_log.proofs.ShortFields.{bad_near, no_beginning, whole_near}
+use Rattle.tsdb_log.proofs.reading.may_begin.Goals as goal
+
+pub returns-then-size-clause-near : goal.returns-then-size-clause-near
+returns-then-size-clause-near c = λ may at furthest. omega arith
+
+pub returns-in-Ok-clause-near : goal.returns-in-Ok-clause-near
+returns-in-Ok-clause-near c = λ may. whole_near c.args.bytes.now c.in-Ok.item c.in-Ok.ensures.record c.in-Ok.ensures.found
+
+pub returns-in-Err-Bad-clause-none : goal.returns-in-Err-Bad-clause-none
+returns-in-Err-Bad-clause-none c = λ may.
+    no_beginning c.args.bytes.now c.in-Err-Bad.at (c.in-Err-Bad.ensures.bad c.in-Err-Bad.at (search rules)).place (omega arith)
+
+pub returns-in-Err-Bad-clause-near : goal.returns-in-Err-Bad-clause-near
+returns-in-Err-Bad-clause-near c = λ may.
+    bad_near c.args.bytes.now c.in-Err-Bad.at (c.in-Err-Bad.ensures.bad c.in-Err-Bad.at (search rules)).place (omega arith)
