@@ -5,6 +5,7 @@ pub mod LogLemmas
 pub mod MomentLemmas
 mod StepLemmas
 pub mod FirstLemmas
+pub mod PartLemmas
 pub mod PieceLemmas
 pub mod ReaderLemmas
 pub mod RecordLemmas

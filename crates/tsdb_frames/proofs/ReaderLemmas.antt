@@ -107,9 +107,13 @@ frames_on frames made at n has bytes place fits =
     }
 
 -- what is said of a disk that was looked at before, and of what it is now
-both : (old now : Option Image) (P Q R : Image → Type 0) → now ≡ old → ((image : Image) → P image → Q image → R image) → IfSome old P → ForSome now Q → IfSome old R
+pub both : (old now : Option Image) (P Q R : Image → Type 0) → now ≡ old → ((image : Image) → P image → Q image → R image) → IfSome old P → ForSome now Q → IfSome old R
 both None now P Q R same step p q = tt
 both (Some image) now P Q R same step p q = step image p (q image same)
+
+-- a closed gate lies before the end
+pub shut_ends : (at end : ℕ) (left : List ℕ) → at + length left ≤ end → HasRecords [] left → at < end
+shut_ends at end left inside has = omega (arith, inside, ap (λ (l : List ℕ). length l) has.split)
 
 -- the records before a closed gate
 closed_here : (payloads : List (List ℕ)) (at : ℕ) (whole left : List ℕ) → All IsPayload payloads → take at whole ≡ open_records payloads
@@ -127,7 +131,7 @@ closed_here payloads at whole left fit told is has =
       closed = has.closed;
     }
 
-no_payloads : (payloads : List (List ℕ)) → 0 ≡ length (open_records payloads) → payloads ≡ []
+pub no_payloads : (payloads : List (List ℕ)) → 0 ≡ length (open_records payloads) → payloads ≡ []
 no_payloads [] none = refl
 no_payloads (payload ∷ payloads) none =
     absurd (omega (arith, none, length-append (1 ∷ with_length payload) (open_records payloads)))

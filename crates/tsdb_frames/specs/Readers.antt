@@ -1,5 +1,7 @@
 -- What a reader of a slot has read.
-use Rattle.std.specs.Prelude.{◌≡◌, ℕ, ◌-◌, ◌^◌, ◌<◌, ◌≤◌, List, [], ◌∷◌, ◌++◌, take, drop, IfSome}
+use Rattle.std.specs.Prelude.{◌≡◌, ℕ, ◌-◌, ◌^◌, ◌<◌, ◌≤◌, List, [], ◌∷◌, ◌++◌, length, take, drop, IfSome}
+use Rattle.tsdb_frames.specs.declared.reader.Next.{Next}
+use Rattle.tsdb_frames.specs.declared.reader.Next.TheVariants.{End, Whole, Part}
 use Rattle.tsdb_outside.specs.Disk.{Keeps, DiskState, in_slot}
 use Rattle.tsdb_outside.specs.declared.disk.Disk as disk
 use Rattle.tsdb_outside.specs.declared.disk.Slot.{Slot}
@@ -82,6 +84,28 @@ module _ {J : Type 0} {means : disk.Ghosts J} {counts : counted.Ghosts J} where
   -- the next gate is there
   abbrev pub HasNextGate : FrameReader J means counts → Type 0
   HasNextGate reader = reader.at < reader.end
+
+  -- the place of the next gate
+  abbrev pub gate_of : FrameReader J means counts → ℕ
+  gate_of reader = reader.at
+
+  -- how many bytes more the piece may have from the next gate on
+  abbrev pub unheld_of : FrameReader J means counts → ℕ
+  unheld_of reader = 2 ^ 63 - length (left_of reader)
+
+  -- the bytes of the piece behind the next gate and a length
+  abbrev pub begun_of : FrameReader J means counts → List ℕ
+  begun_of reader = drop 5 (left_of reader)
+
+  -- the piece has an open gate and no whole frame behind it, or nothing
+  abbrev pub IsTornPart : FrameReader J means counts → Type 0
+  IsTornPart reader = IsTorn 0 (left_of reader)
+
+  -- what stands behind the frames that were read: no frame, the next one, or none that is whole in the piece
+  abbrev pub IsNext : Next → FrameReader J means counts → FrameReader J means counts → Type 0
+  IsNext End old new = EndsReading old new × HasNextGate new
+  IsNext (Whole frame) old new = ReadsOne old new frame × (unread_of new < unread_of old)
+  IsNext Part old new = (new ≡ old) × IsTornPart new
 
   -- a call stays at the same gate, and writes nothing
   pub record StaysAt (old new : FrameReader J means counts) : Type 0 where

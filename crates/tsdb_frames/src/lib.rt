@@ -37,5 +37,5 @@ mod writing;
 pub use fault::ScanFault;
 pub use frames::{Frames, ScanRefused};
 pub use framing::{close_frame, frame};
-pub use reader::FrameReader;
+pub use reader::{FrameReader, Next};
 pub use record::Frame;

@@ -1,6 +1,6 @@
 //! A log that is read frame by frame. Depends on `record`, `reading` and `fault`.
-ghost use Rattle.std.specs.Prelude.{◌≡◌, ◌≢◌, ◌≤◌, ◌<◌, ℕ, true, false, length, [], drop, None, IfOk, IfErr, IfSome};
-ghost use Rattle.std.specs.Prelude.{IsErrOf, OnErr};
+ghost use Rattle.std.specs.Prelude.{◌≡◌, ◌≢◌, ◌+◌, ◌*◌, ◌≤◌, ◌<◌, ℕ, true, false, length, [], drop, None, IfOk, IfErr};
+ghost use Rattle.std.specs.Prelude.{IfSome, IsErrOf, OnErr, OnOk};
 ghost use Rattle.tsdb_frames.specs.Causes.{HasScanCause};
 ghost use Rattle.tsdb_frames.specs.Firsts.{HasFirst};
 ghost use Rattle.tsdb_frames.specs.Pieces.{HasPiece};
@@ -11,12 +11,26 @@ use crate::{Frame, ScanFault};
 use std::alloc::Global;
 use tsdb_outside::{Journal, Slot};
 
+// The bytes of a gate and of the length behind it.
+const LENGTH_END: usize = 5;
+
 // The bytes of the first frame of a log with its gate at this place, once a frame of so many bytes is added.
 pub(crate) fn first_after(first: u64, gate: u64, bytes: u64) -> u64
     ensures first { gate ≡ 0 → result ≡ bytes }
     ensures later { gate ≢ 0 → result ≡ first }
 {
     if gate == 0 { bytes } else { first }
+}
+
+/// What stands behind the frames that were read, as far as the piece tells.
+#[derive(Drop)]
+pub enum Next {
+    /// The next gate is closed.
+    End,
+    /// The next frame.
+    Whole(Frame),
+    /// An open gate, and no whole frame.
+    Part,
 }
 
 /// A slot of a journal whose frames are read one after another. It holds one piece of the slot, and no frame that it
@@ -42,7 +56,7 @@ impl<J: Journal> FrameReader<J> {
     ghost use Rattle.tsdb_frames.specs.Readers.{EndsReading, HasAllLeft, HasNextGate, IsReading, IsTornReading};
     ghost use Rattle.tsdb_frames.specs.Readers.{IsTornSlot};
     ghost use Rattle.tsdb_frames.specs.Readers.{KeepsJournal, ReadsAll, ReadsOne, StaysAt, StaysReading, faults_read};
-    ghost use Rattle.tsdb_frames.specs.Readers.{left_of, read_journal, unread_of};
+    ghost use Rattle.tsdb_frames.specs.Readers.{IsNext, IsTornPart, gate_of, left_of, begun_of, read_journal, unheld_of, unread_of};
 
     /// No frame is read yet. It reads nothing.
     pub fn new(alloc: Global, journal: J, slot: Slot) -> FrameReader<J>
@@ -70,15 +84,62 @@ impl<J: Journal> FrameReader<J> {
         ensures cause { HasScanCause (faults_read self.old) (faults_read self.new) result }
     {
         loop {
-            match self.start(alloc)? {
-                Start::Shut => return Ok(None),
-                Start::Whole(frame) => return Ok(Some(self.advance(frame))),
-                Start::Broken => {}
+            match self.next(alloc)? {
+                Next::End => return Ok(None),
+                Next::Whole(frame) => return Ok(Some(frame)),
+                Next::Part => {}
             }
-            if !self.fill(alloc)? {
-                return Err(ScanFault::Torn { at: self.at });
-            }
+            self.read_on(alloc)?;
         }
+    }
+
+    /// The next frame, or what stands in its place as far as the piece tells. It reads nothing.
+    pub fn next(&mut self, alloc: Global) -> Result<Next, ScanFault>
+        ensures next { IfOk result (λ next. IsNext next self.old self.new) }
+        ensures same { OnErr result (self.new ≡ self.old) }
+        ensures memory { IfErr result (λ fault. fault ≡ ScanFault.Memory) }
+        ensures faults { faults_read self.new ≡ faults_read self.old }
+    {
+        match self.start(alloc)? {
+            Start::Shut => Ok(Next::End),
+            Start::Whole(frame) => Ok(Next::Whole(self.advance(frame))),
+            Start::Broken => Ok(Next::Part),
+        }
+    }
+
+    /// The place of the next gate.
+    pub fn gate(&self) -> u64
+        ensures { result ≡ gate_of self.now }
+    {
+        self.at
+    }
+
+    /// The bytes of the piece behind the next gate and a length.
+    pub fn part(&self) -> &[u8]
+        ensures { result.now ≡ begun_of self.now }
+    {
+        let left = &self.piece[self.read..];
+        if left.len() < LENGTH_END {
+            return &[];
+        }
+        &left[LENGTH_END..]
+    }
+
+    /// Reads a piece from the next gate on, which is longer than what is left, and at most twice as long or of the
+    /// usual length. Torn where the slot has no more bytes.
+    pub fn read_on(&mut self, alloc: Global) -> Result<(), ScanFault>
+        ensures forward { OnOk result (unheld_of self.new < unheld_of self.old) }
+        ensures short { OnOk result (length (left_of self.new) ≤ 65536 + 2 * length (left_of self.old)) }
+        ensures torn { (at : ℕ) → IsErrOf result (ScanFault.Torn at) → IsTornPart self.old
+            → IsTornReading self.old at }
+        ensures stays { StaysReading self.old self.new }
+        ensures gate { gate_of self.new ≡ gate_of self.old }
+        ensures cause { HasScanCause (faults_read self.old) (faults_read self.new) result }
+    {
+        if !self.fill(alloc)? {
+            return Err(ScanFault::Torn { at: self.at });
+        }
+        Ok(())
     }
 
     /// Reads all frames of a slot, of which none is read yet.
@@ -137,6 +198,8 @@ impl<J: Journal> FrameReader<J> {
     fn fill(&mut self, alloc: Global) -> Result<bool, ScanFault>
         ensures stays { StaysAt self.old self.new }
         ensures longer { IfOk result (λ more. more ≡ true → length (left_of self.old) < length (left_of self.new)) }
+        ensures short { IfOk result (λ more. more ≡ true
+            → length (left_of self.new) ≤ 65536 + 2 * length (left_of self.old)) }
         ensures all { IfOk result (λ more. more ≡ false → HasAllLeft self.old) }
         ensures not_torn { (at : ℕ) → ¬ IsErrOf result (ScanFault.Torn at) }
         ensures cause { HasScanCause (faults_read self.old) (faults_read self.new) result }

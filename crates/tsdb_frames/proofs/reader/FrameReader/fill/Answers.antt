@@ -119,6 +119,9 @@ returns-then-end-self-clause-stays g c =
 pub returns-then-end-self-clause-longer : goal.returns-then-end-self-clause-longer
 returns-then-end-self-clause-longer g c = λ more. absurd (false≢true more)
 
+pub returns-then-end-self-clause-short : goal.returns-then-end-self-clause-short
+returns-then-end-self-clause-short g c = λ more. absurd (false≢true more)
+
 pub returns-then-end-self-clause-all : goal.returns-then-end-self-clause-all
 returns-then-end-self-clause-all g c = λ no_more.
     let self = c.args.self.now in
@@ -170,6 +173,11 @@ returns-clause-stays g c =
 
 pub returns-clause-longer : goal.returns-clause-longer
 returns-clause-longer g c = λ more.
+    let self = c.args.self.now in
+    omega (arith, self.piece.ok.0, length-drop self.read self.piece.items, c.in_ok-self.ensures.size)
+
+pub returns-clause-short : goal.returns-clause-short
+returns-clause-short g c = λ more.
     let self = c.args.self.now in
     omega (arith, self.piece.ok.0, length-drop self.read self.piece.items, c.in_ok-self.ensures.size)
 
