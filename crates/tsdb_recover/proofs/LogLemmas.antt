@@ -9,21 +9,25 @@ use Rattle.tsdb_outside.specs.Disk.{Image}
 use Rattle.tsdb_outside.specs.declared.disk.Disk as disk
 use Rattle.tsdb_outside.specs.declared.disk.Slot.TheVariants.{A}
 use Rattle.tsdb_outside.specs.declared.faults.Counted as counted
-use Rattle.tsdb_frames.specs.Readers.{IsReading}
+use Rattle.tsdb_frames.specs.Readers.{IsReading, IsTornPart, IsTornReading, gate_of, begun_of}
+use Rattle.tsdb_frames.specs.Steps.{HasFrames}
 use Rattle.tsdb_frames.specs.Slots.{ArePlaced, HasRecordsThenGate, HasRecords, IsPayload, IsTornBehind, open_records, payloads_of}
 use Rattle.tsdb_frames.specs.Slots.{with_length}
 use Rattle.tsdb_frames.specs.declared.fault.ScanFault.{ScanFault}
 use Rattle.tsdb_frames.specs.declared.fault.ScanFault.TheVariants as scan
 use Rattle.tsdb_frames.specs.declared.reader.FrameReader.{FrameReader}
 use Rattle.tsdb_frames.specs.declared.record.Frame.{Frame}
+use Rattle.tsdb_frames.proofs.PartLemmas.{HasPart, part_begun, with_payload}
 use Rattle.tsdb_frames.proofs.ReaderLemmas.{goes_on}
 use Rattle.tsdb_frames.proofs.RecordLemmas.{open_records_more}
+use Rattle.tsdb_log.specs.Places.{BeginNoRecord}
 use Rattle.tsdb_log.specs.Spelling.{IsRecord, spelling}
 use Rattle.tsdb_log.specs.declared.record.LogRecord.{LogRecord}
+use Rattle.tsdb_log.specs.declared.record.LogRecord.TheVariants.{Freeze}
 use Rattle.tsdb_redo.specs.Opening.{IsOpeningOf}
 use Rattle.tsdb_redo.specs.declared.opening.Opening.{Opening}
 use Rattle.tsdb_recover.specs.Causes.{AnswersDamage}
-use Rattle.tsdb_recover.specs.Replaying.{AreReplayedTo, IsFrameRedone, IsFrameRefused, IsReadFrom, IsReplaying, of_scan}
+use Rattle.tsdb_recover.specs.Replaying.{AreReplayedTo, IsFrameRedone, IsFrameRefused, IsPartRefused, IsReadFrom, IsReplaying, of_scan}
 use Rattle.tsdb_recover.specs.declared.fault.OpenFault.{OpenFault}
 use Rattle.tsdb_recover.specs.declared.fault.OpenFault.TheVariants.{Failed, Damaged, Memory}
 use Rattle.tsdb_recover.specs.declared.fault.Part.{Part}
@@ -124,6 +128,40 @@ torn_behind_damaged frames at opening bytes (inl torn) read =
     })
 torn_behind_damaged frames at opening bytes (inr empty) read = inr (empty.1, empty.2)
 
+-- bytes with which no record begins are some
+some_bytes : (part : List ℕ) → BeginNoRecord part → 1 ≤ length part
+some_bytes [] none = absurd (none Freeze (spelling Freeze) tt refl)
+some_bytes (byte ∷ part) none = omega arith
+
+-- so is one that goes on with a record of which no record has the first bytes
+part_damaged : (frames : List Frame) (at : ℕ) (opening : Opening) (part bytes : List ℕ) → HasFrames frames at
+    → HasPart (payloads_of frames) part bytes → BeginNoRecord part → IsReadFrom frames opening → IsDamaged store_steps at bytes
+part_damaged frames at opening part bytes has begun none read =
+    let same = read.replayed.payloads in
+    inl (record {
+      items = read.replayed.items;
+      state = read.recorded;
+      rest = 1 ∷ begun.behind;
+      good = read.replayed.good;
+      fit = subst (All IsPayload) same has.fit;
+      replayed = read.replayed.replayed;
+      split = begun.split ∙ ap (λ l. open_records l ++ (1 ∷ begun.behind)) same;
+      place = has.place ∙ ap (λ l. length (open_records l)) same;
+      broken = elim (with_payload begun.behind) [
+        | inl found ↦ inr (record {
+          behind = begun.behind;
+          payload = found.0;
+          after = found.1;
+          gate = refl;
+          whole = found.2;
+          none = λ item good bytes.
+              let begins = begun.begins found.0 found.1 found.2 in
+              absurd (none item begins.0 good (sym begins.1 ∙ bytes));
+        })
+        | inr broken ↦ inl (record { behind = begun.behind; gate = refl; broken = broken })
+      ];
+    })
+
 -- what follows where the disk tells
 pub if_told : (seen : Option Image) (P Q : Image → Type 0) → ((image : Image) → P image → Q image) → IfSome seen P
     → IfSome seen Q
@@ -177,6 +215,22 @@ module _ {J : Type 0} {means : disk.Ghosts J} {counts : counted.Ghosts J} where
     reading = reading;
     read = one_read so_far.frames frame old new so_far.read redone;
   }
+
+  -- the log is damaged where no record begins as this one does
+  pub part_refused : (reader : FrameReader J means counts) (part : List ℕ) (at : ℕ) → IsTornPart reader → part ≡ begun_of reader
+      → BeginNoRecord part → at ≡ gate_of reader → IsPartRefused reader at
+  part_refused reader part at torn is none place = λ journal frames opening reading read.
+      let here = subst BeginNoRecord is none in
+      if_told (means.state journal).seen _ _
+      (λ image begun. part_damaged frames at opening (begun_of reader) image.a
+      (subst (HasFrames frames) (sym place) reading.front) begun here read)
+      (part_begun reader torn (some_bytes (begun_of reader) here) journal A frames reading)
+
+  -- the log is damaged where it is torn behind the frames that were read
+  pub torn_refused : (reader : FrameReader J means counts) (at : ℕ) → IsTornReading reader at → IsPartRefused reader at
+  torn_refused reader at torn = λ journal frames opening reading read.
+      if_told (means.state journal).seen _ _ (λ image behind. torn_behind_damaged frames at opening image.a behind read)
+      (torn journal A frames reading)
 
   -- the log is damaged at a frame without a replay
   pub frame_damaged : (mid : FrameReader J means counts) (frame : Frame) (at : ℕ) (journal : J) (opening : Opening) (reader : FrameReader J means counts)

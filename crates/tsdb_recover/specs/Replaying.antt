@@ -70,6 +70,11 @@ module _ {J : Type 0} {means : disk.Ghosts J} {counts : counted.Ghosts J} where
   abbrev pub IsUnreadLog : J → FrameReader J means counts → Type 0
   IsUnreadLog journal reader = IsReading journal A reader []
 
+  -- where the records of the frames that were read have a replay, the log is damaged at this place
+  abbrev pub IsPartRefused : FrameReader J means counts → ℕ → Type 0
+  IsPartRefused old at = (journal : J) (frames : List Frame) (opening : Opening) → IsReading journal A old frames
+      → IsReadFrom frames opening → IfSome (means.state journal).seen (λ image. IsDamaged store_steps at image.a)
+
   -- the log is damaged at this place
   abbrev pub IsDamagedLog : FrameReader J means counts → ℕ → Type 0
   IsDamagedLog old at = (journal : J) → IsUnreadLog journal old

@@ -1,12 +1,14 @@
 //! The log of a store, read and replayed. Depends on `fault`.
-ghost use Rattle.std.specs.Prelude.{◌≡◌, ◌≤◌, ℕ, IfErr, IfOk, IfSome, IsErrAnd, IsErrOf, OnErr, OnOk};
-ghost use Rattle.tsdb_frames.specs.Readers.{HasNextGate, disk_read, faults_read};
+ghost use Rattle.std.specs.Prelude.{◌≡◌, ◌≤◌, ◌<◌, ℕ, IfErr, IfOk, IfSome, IsErrAnd, IsErrOf, OnErr, OnOk};
+ghost use Rattle.tsdb_frames.specs.Readers.{HasNextGate, IsTornPart, StaysReading, disk_read, faults_read, gate_of};
+ghost use Rattle.tsdb_frames.specs.Readers.{begun_of, unheld_of};
 ghost use Rattle.tsdb_base.specs.Causes.{Rose};
 ghost use Rattle.tsdb_outside.specs.Disk.{Keeps};
+ghost use Rattle.tsdb_log.specs.Places.{AreFieldsNearTheirEnd};
 ghost use Rattle.tsdb_recover.specs.Causes.{AnswersDamage};
 ghost use Rattle.tsdb_recover.specs.Log.{IsLogRead};
-ghost use Rattle.tsdb_recover.specs.Replaying.{HasReplayed, IsDamagedLog, IsFrameRedone, IsFrameRefused, IsUnreadLog};
-ghost use Rattle.tsdb_recover.specs.Replaying.{of_scan};
+ghost use Rattle.tsdb_recover.specs.Replaying.{HasReplayed, IsDamagedLog, IsFrameRedone, IsFrameRefused, IsPartRefused};
+ghost use Rattle.tsdb_recover.specs.Replaying.{IsUnreadLog, of_scan};
 ghost use Rattle.tsdb_recover.specs.declared.fault.Part as store_part;
 ghost use Rattle.tsdb_recover.specs.declared.fault.Part.TheVariants as parts;
 ghost use Rattle.tsdb_state.specs.Damage.{IsDamaged};
@@ -14,13 +16,14 @@ ghost use Rattle.tsdb_state.specs.Stores.{store_steps};
 
 use crate::fault::{OpenFault, OpenRefused, Part};
 use std::alloc::Global;
-use tsdb_frames::{Frame, FrameReader, Frames, ScanFault};
-use tsdb_log::{LogFault, read_record};
+use tsdb_frames::{Frame, FrameReader, Frames, Next, ScanFault};
+use tsdb_log::{LogFault, may_begin, read_record};
 use tsdb_outside::{Journal, Slot};
 use tsdb_redo::{Opening, RedoFault};
 
 /// Reads the log in slot A of a journal record by record, and replays each as it is read. It writes nothing. It takes the
-/// memory of what the records lead to, and of one piece of the log.
+/// memory of what the records lead to, and of one piece of the log: at most twice as long as what stands there of a
+/// record, whatever length that claims, and some 200,000 bytes.
 pub fn read_log<J: Journal>(
     alloc: Global,
     journal: J,
@@ -62,11 +65,36 @@ fn replay<J: Journal>(alloc: Global, reader: &mut FrameReader<J>) -> Result<Open
 {
     let mut opening = Opening::new(alloc);
     loop {
-        match reader.read_frame(alloc) {
-            Ok(Some(frame)) => redo(&mut opening, alloc, &frame)?,
-            Ok(None) => return Ok(opening),
+        match reader.next(alloc) {
+            Ok(Next::Whole(frame)) => redo(&mut opening, alloc, &frame)?,
+            Ok(Next::Part) => read_on(alloc, reader)?,
+            Ok(Next::End) => return Ok(opening),
             Err(fault) => return Err(log_fault(fault)),
         }
+    }
+}
+
+/// Reads on in a record that is longer than what is read of it, after a look at that. Damaged where no record begins so.
+fn read_on<J: Journal>(alloc: Global, reader: &mut FrameReader<J>) -> Result<(), OpenFault>
+    ensures forward { OnOk result (unheld_of reader.new < unheld_of reader.old) }
+    ensures near { OnOk result (AreFieldsNearTheirEnd (begun_of reader.old)) }
+    ensures damaged { (part : store_part.Part) (at : ℕ) → IsErrOf result (OpenFault.Damaged part at)
+        → (part ≡ parts.Log) × (IsTornPart reader.old → IsPartRefused reader.old at) }
+    ensures stays { StaysReading reader.old reader.new }
+    ensures gate { gate_of reader.new ≡ gate_of reader.old }
+    ensures later { faults_read reader.old ≤ faults_read reader.new }
+    ensures failed { IsErrOf result OpenFault.Failed → Rose (faults_read reader.old) (faults_read reader.new) }
+{
+    let damaged = OpenFault::Damaged {
+        part: Part::Log,
+        at: reader.gate(),
+    };
+    if !may_begin(alloc, reader.part())? {
+        return Err(damaged);
+    }
+    match reader.read_on(alloc) {
+        Ok(()) => Ok(()),
+        Err(fault) => Err(log_fault(fault)),
     }
 }
 

@@ -1,5 +1,5 @@
-use Rattle.std.proofs.Common.{◌≤◌}
-use Rattle.tsdb_frames.specs.Readers.{faults_read, unread_of}
+use Rattle.std.proofs.Common.{◌+◌, ◌*◌, ◌^◌, ◌≤◌}
+use Rattle.tsdb_frames.specs.Readers.{faults_read, unheld_of, unread_of}
 use Rattle.tsdb_recover.specs.Replaying.{IsReplaying, IsUnreadLog}
 use Rattle.tsdb_recover.proofs.log.replay.Given as goal
 
@@ -11,4 +11,4 @@ invariant-loop-frame g l = record {
 }
 
 abbrev pub decreases-loop-frame : goal.decreases-loop-frame
-decreases-loop-frame g l = unread_of l.reader
+decreases-loop-frame g l = unread_of l.reader * 2 ^ 64 + unheld_of l.reader
