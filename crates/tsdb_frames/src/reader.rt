@@ -56,7 +56,8 @@ impl<J: Journal> FrameReader<J> {
     ghost use Rattle.tsdb_frames.specs.Readers.{EndsReading, HasAllLeft, HasNextGate, IsReading, IsTornReading};
     ghost use Rattle.tsdb_frames.specs.Readers.{IsTornSlot};
     ghost use Rattle.tsdb_frames.specs.Readers.{KeepsJournal, ReadsAll, ReadsOne, StaysAt, StaysReading, faults_read};
-    ghost use Rattle.tsdb_frames.specs.Readers.{IsNext, IsTornPart, gate_of, left_of, begun_of, read_journal, unheld_of, unread_of};
+    ghost use Rattle.tsdb_frames.specs.Readers.{IsNext, IsTornPart, begun_of, gate_of, left_of, read_journal};
+    ghost use Rattle.tsdb_frames.specs.Readers.{unheld_of, unread_of};
 
     /// No frame is read yet. It reads nothing.
     pub fn new(alloc: Global, journal: J, slot: Slot) -> FrameReader<J>
