@@ -143,8 +143,8 @@ pub fn read_record(alloc: Global, payload: &[u8]) -> Result<LogRecord, LogFault>
 /// The most bytes of a field: those of a text, and of its length before it.
 const MAX_FIELD_BYTES: u64 = 65_537;
 
-/// Whether a record may begin with these bytes. It is false exactly where the first field that is none has so many bytes
-/// behind it that it is not only cut. It takes time and memory linear in the bytes.
+/// Whether a record may begin with these bytes. It is false exactly where the first field that is none has so many
+/// bytes behind it that it is not only cut. It takes time and memory linear in the bytes.
 pub fn may_begin(alloc: Global, bytes: &[u8]) -> Result<bool, Memory>
     ensures none { IfOk result (λ may. may ≡ false → BeginNoRecord bytes.now) }
     ensures near { IfOk result (λ may. may ≡ true → AreFieldsNearTheirEnd bytes.now) }

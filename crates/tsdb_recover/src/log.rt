@@ -21,8 +21,8 @@ use tsdb_log::{LogFault, may_begin, read_record};
 use tsdb_outside::{Journal, Slot};
 use tsdb_redo::{Opening, RedoFault};
 
-/// Reads the log in slot A of a journal record by record, and replays each as it is read. It writes nothing. It takes the
-/// memory of what the records lead to, and of one piece of the log: at most twice as long as what stands there of a
+/// Reads the log in slot A of a journal record by record, and replays each as it is read. It writes nothing. It takes
+/// the memory of what the records lead to, and of one piece of the log: at most twice as long as what stands there of a
 /// record, whatever length that claims, and some 200,000 bytes.
 pub fn read_log<J: Journal>(
     alloc: Global,
@@ -74,7 +74,8 @@ fn replay<J: Journal>(alloc: Global, reader: &mut FrameReader<J>) -> Result<Open
     }
 }
 
-/// Reads on in a record that is longer than what is read of it, after a look at that. Damaged where no record begins so.
+/// Reads on in a record that is longer than what is read of it, after a look at that. Damaged where no record begins
+/// so.
 fn read_on<J: Journal>(alloc: Global, reader: &mut FrameReader<J>) -> Result<(), OpenFault>
     ensures forward { OnOk result (unheld_of reader.new < unheld_of reader.old) }
     ensures near { OnOk result (AreFieldsNearTheirEnd (begun_of reader.old)) }
