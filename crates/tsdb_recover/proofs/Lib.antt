@@ -17,6 +17,7 @@ pub mod Causes
 pub mod Gone
 pub mod Greatest
 pub mod Left
+pub mod Listed
 pub mod Next
 pub mod Once
 pub mod Opened

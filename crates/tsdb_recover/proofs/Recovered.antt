@@ -16,6 +16,7 @@ use Rattle.tsdb_frames.specs.Frames.{IsLog}
 use Rattle.tsdb_frames.specs.Log.{IsSettled}
 use Rattle.tsdb_frames.specs.Slots.{HasRecords}
 use Rattle.tsdb_frames.specs.declared.frames.Frames.{Frames}
+use Rattle.tsdb_fileset.specs.Files.{AreKept}
 use Rattle.tsdb_fileset.specs.StateOfFiles.{TellTheirBytes}
 use Rattle.tsdb_state.specs.StoredEngine.{IsKeptWhole, kept_bytes}
 use Rattle.tsdb_log.specs.Spelling.{IsRecord, spelling}
@@ -35,11 +36,12 @@ use Rattle.tsdb_recover.specs.declared.fault.OpenRefused.{OpenRefused}
 use Rattle.tsdb_recover.specs.declared.fault.Part.{Part}
 use Rattle.tsdb_recover.specs.declared.fault.Part.TheVariants as parts
 use Rattle.tsdb_recover.proofs.Greatest.{said_number}
+use Rattle.tsdb_recover.proofs.Listed.{told_listed, whole_listed}
 use Rattle.tsdb_recover.proofs.Once.{none_damaged, one_damage}
 use Rattle.tsdb_recover.proofs.Trees.{all_trees}
 use Rattle.tsdb_recover.specs.Damage.{AnswersDamageIn, IsDamagedFile, IsDamagedIn, IsFileDamaged, IsTreeFile}
 use Rattle.tsdb_recover.specs.Strays.{AreLeft, IsStray, IsUnlisted, NoneMayGo}
-use Rattle.tsdb_recover.specs.OpenedStore.{HasOpened, IsNextNumber, IsRecovered, IsReplay}
+use Rattle.tsdb_recover.specs.OpenedStore.{HasOpened, IsNextNumber, IsRecovered, IsReplay, listed_among}
 use Rattle.tsdb_recover.specs.Taking.{HasTakenUp, HaveLengths}
 use Rattle.tsdb_recover.specs.StoredFiles.{AreStored}
 use Rattle.tsdb_state.proofs.ReplayLemmas.Parted as parted
@@ -56,6 +58,7 @@ module _ {F S R P : Type 0} (old : Adopting F S R P) (opening : Opening)
   pub has_opened : {J : Type 0} {means : disk.Ghosts J} {counts : counted.Ghosts J} (new : Adopting F S R P)
       (core : Core J F S R P means counts) (log : Frames J means counts) (store : Store)
       (rest now : Option (List StoredFile)) (last : Option FileNumber) → HasTakenUp store old new rest now (Ok last)
+      → AreKept (adopting_files new)
       → ((items : List LogRecord) (recorded : Recorded) (kept : List StoredFile) (told : ToldContents)
       → IsLog log (map spelling items) None → All IsRecord items
       → Replays store_steps store_steps.new_store items recorded → IsAdoptingOf new recorded
@@ -67,24 +70,26 @@ module _ {F S R P : Type 0} (old : Adopting F S R P) (opening : Opening)
       → ((recorded : Recorded) → IsOpeningOf (opening_of new) recorded → next_of core ≡ next_number last recorded.named)
       → IfSome rest (λ stored. (items : List LogRecord) (recorded : Recorded) → IsReplay opening items recorded
       → AreStored stored → HasOpened core log stored now items recorded)
-  has_opened new core log store None now last takes seen next = tt
-  has_opened new core log store (Some stored) now last takes seen next = λ items recorded replay are.
+  has_opened new core log store None now last takes are_kept seen next = tt
+  has_opened new core log store (Some stored) now last takes are_kept seen next = λ items recorded replay are.
       let adopting = begins items recorded replay.shown replay.replayed in
       let later = takes.goes_on.adopting recorded adopting in
       let all = takes.taken recorded adopting are in
+      let listed = listed_among stored recorded.store in
+      let wanted = same_wanted (adopting_files new) (opening_of new) takes.all.recorded recorded takes.all.is.opening
+      later.opening takes.all.all in
       record {
         seen = λ told is_log good order whole. record {
-          outside = record { items = items; kept = stored; told = told; known = known_of (adopting_files new) };
+          outside = record { items = items; kept = listed; told = told; known = known_of (adopting_files new) };
           kept = refl;
           told_is = refl;
-          seen = seen items recorded stored told is_log good replay.replayed later order whole
-              (all.taken.described told order whole) all.taken.told;
+          seen = seen items recorded listed told is_log good replay.replayed later order
+              (whole_listed stored recorded.store told whole) (all.taken.described told order whole)
+              (told_listed stored recorded.store (adopting_files new) are_kept later.first wanted all.taken.told);
         };
         next = said_number last stored recorded.named (next_of core) all.greatest (next recorded later.opening);
         none = all.none;
-        whole = all_trees stored recorded.store (adopting_files new) later.first
-            (same_wanted (adopting_files new) (opening_of new) takes.all.recorded recorded takes.all.is.opening later.opening
-            takes.all.all) all.taken.whole;
+        whole = all_trees stored recorded.store (adopting_files new) later.first wanted all.taken.whole;
       }
 
   pub has_damage : (rest : Option (List StoredFile)) (answer : OpenFault)

@@ -1,6 +1,6 @@
 -- What a store shows that was opened.
-use Rattle.std.specs.Prelude.{◌≡◌, ℕ, ◌+◌, List, [], ◌++◌, false, map, Option, None, Some}
-use Rattle.std.specs.List.{All, AllByRecursion as Each}
+use Rattle.std.specs.Prelude.{◌≡◌, ℕ, ◌+◌, List, [], ◌++◌, false, map, nat_eq, Option, None, Some}
+use Rattle.std.specs.List.{All, AllByRecursion as Each, filter, list_any}
 use Rattle.tsdb_recover.specs.Adopting.{HaveNoClaims}
 use Rattle.tsdb_core.specs.Core.{IsSeen, files_of, is_sequence_claimed, next_of}
 use Rattle.tsdb_core.specs.declared.engine.Core.{Core}
@@ -20,8 +20,15 @@ use Rattle.tsdb_recover.specs.Damage.{IsTreeFile}
 use Rattle.tsdb_state.specs.Replays.{IsReplayOf, Replays}
 use Rattle.tsdb_state.specs.Stores.{IsStateOf, Recorded, store_steps}
 use Rattle.tsdb_state.specs.NewStore.{opened}
+use Rattle.tsdb_state.specs.Records.{numbers_of}
 use Rattle.tsdb_state.specs.State.{StoreState, ToldContents}
 use Rattle.tsdb_state.specs.StoreOrder.{StoreInOrder}
+
+-- those of these stored files that the store lists, with their bytes
+abbrev pub listed_among : List StoredFile → StoreState → List StoredFile
+listed_among stored store =
+    filter (λ (file : StoredFile). list_any (nat_eq file.number) (numbers_of (store.sequence ++ store.unsequence)))
+    stored
 
 module _ {J F S R P : Type 0} {means : disk.Ghosts J} {counts : counted.Ghosts J} where
   -- no job has claimed the sequence list or a listed file
@@ -29,14 +36,15 @@ module _ {J F S R P : Type 0} {means : disk.Ghosts J} {counts : counted.Ghosts J
     pub list : is_sequence_claimed core ≡ false
     pub files : HaveNoClaims (files_of core)
 
-  -- the core shows the replay of the log, in order, with these stored files, and it is in the state of the plain model
+  -- The core shows the replay of the log, in order, with those of these stored files that it lists and no other, and it
+  -- is in the state of the plain model.
   pub record IsRecovered (core : Core J F S R P means counts) (bytes : List ℕ) (stored : List StoredFile)
       (at : plain.State)
       : Type 0 where
     pub recorded : Recorded
     pub replayed : IsReplayOf store_steps bytes recorded
     pub outside : Outside
-    pub kept : outside.kept ≡ stored
+    pub kept : outside.kept ≡ listed_among stored recorded.store
     pub seen : IsSeen core outside (opened (next_of core) recorded.store)
     pub stands : IsStateOf outside.told recorded.store at
 
@@ -49,12 +57,12 @@ pub record IsReplay (opening : Opening) (items : List LogRecord) (recorded : Rec
   pub shown : IsOpeningOf opening recorded
   pub replayed : Replays store_steps store_steps.new_store items recorded
 
--- the core with these files shows the state, once what they hold is told
+-- the core with the listed ones of these files shows the state, once what they hold is told
 pub record IsShown {J F S R P : Type 0} {means : disk.Ghosts J} {counts : counted.Ghosts J}
     (core : Core J F S R P means counts) (stored : List StoredFile) (told : ToldContents) (store : StoreState)
     : Type 0 where
   pub outside : Outside
-  pub kept : outside.kept ≡ stored
+  pub kept : outside.kept ≡ listed_among stored store
   pub told_is : outside.told ≡ told
   pub seen : IsSeen core outside (opened (next_of core) store)
 

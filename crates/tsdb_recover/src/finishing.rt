@@ -71,6 +71,7 @@ impl<F: Files> Adopting<F> {
         ensures quiet { KeepsJobs result [] [] }
         ensures unclaimed { IsUnclaimed result }
         ensures none_leaving { (core_files result).outgoing ≡ [] }
+        ensures kept { AreKept (adopting_files self) }
         ensures seen { (items : List LogRecord) (recorded : Recorded) (kept : List StoredFile) (told : ToldContents)
             → IsLog frames (map spelling items) None → All IsRecord items
             → Replays store_steps store_steps.new_store items recorded → IsAdoptingOf self recorded

@@ -18,8 +18,8 @@ pub returns-in-Ok-clause-opened : goal.returns-in-Ok-clause-opened
 returns-in-Ok-clause-opened g c =
     has_opened c.new-adopting.result c.args.opening c.new-adopting.ensures.begins c.take_up.new.adopting c.finish.result
     c.args.log (g.F.Files.store c.args.files.now) (g.F.Files.at_rest c.args.files.now)
-    (g.F.Files.at_rest c.take_up.new.files) c.in-Ok.stored c.in-Ok.ensures.takes c.finish.ensures.seen
-    c.finish.ensures.next
+    (g.F.Files.at_rest c.take_up.new.files) c.in-Ok.stored c.in-Ok.ensures.takes c.finish.ensures.kept
+    c.finish.ensures.seen c.finish.ensures.next
 
 pub returns-in-Err-clause-damaged : goal.returns-in-Err-clause-damaged
 returns-in-Err-clause-damaged g c =

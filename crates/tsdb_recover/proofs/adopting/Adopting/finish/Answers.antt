@@ -51,3 +51,6 @@ returns-clause-unclaimed g c = record {
 pub returns-clause-none_leaving : goal.returns-clause-none_leaving
 returns-clause-none_leaving g c = subst (λ (files : KeptFiles). files.outgoing ≡ []) (sym c.new.ensures.files)
     c.requires.all.is.first.outgoing
+
+pub returns-clause-kept : goal.returns-clause-kept
+returns-clause-kept g c = c.tell_kept.ensures
