@@ -1,5 +1,5 @@
 -- The parts of a flush, one behind another.
-use Rattle.std.proofs.Common.{◌≡◌, ◌⊎◌, ℕ, ◌<◌, ◌≤◌, true, List, [], ◌∷◌, ◌++◌, length, drop, Option, Result, Ok, Err, inr}
+use Rattle.std.proofs.Common.{◌≡◌, ◌⊎◌, ℕ, ◌+◌, ◌<◌, ◌≤◌, true, List, [], ◌∷◌, ◌++◌, length, drop, Option, Result, Ok, Err, inr}
 use Rattle.std.proofs.Common.{ap, arith, refl, sym, subst, ◌∙◌}
 use Rattle.std.specs.Arc.{arc_value}
 use Rattle.std.specs.List.{AllByRecursion as Each}
@@ -40,9 +40,9 @@ use Rattle.tsdb_serving.proofs.Steps.{then}
 use Rattle.tsdb_model.specs.declared.command.Row.{Row}
 use Rattle.tsdb_memory.specs.Store.{FrozenPair, MemoryState as MemoryStore}
 use Rattle.tsdb_memory.specs.Fits.{HasNoPairPoint}
-use Rattle.tsdb_serving.specs.Flushing.{EndsJob, GoesOn, IsBusy, IsOfJob, IsReady, faults_under, frozen_under}
+use Rattle.tsdb_serving.specs.Flushing.{EndsJob, GoesOn, IsBusy, IsOfJob, IsReady, Serves, faults_under, frozen_under}
 use Rattle.tsdb_serving.specs.declared.fault.FlushFault.{FlushFault}
-use Rattle.tsdb_serving.specs.Serving.{IsDrawn, IsServed, IsServedBy, LeavesEither, disk_under}
+use Rattle.tsdb_serving.specs.Serving.{IsDrawn, IsServed, IsServedBy, LeavesEither, StaysInPlace, disk_under}
 
 -- the file is of the store
 abbrev IsIn : Store → NewFile → Type 0
@@ -60,107 +60,179 @@ pub one_left : {X : Type 0} (xs ys : List X) → length xs ≤ 2 → ys ≡ drop
 one_left [] ys few is = subst (λ (l : List _). length l < 2) (sym is) (omega arith)
 one_left (a ∷ xs) ys few is = subst (λ (l : List _). length l < 2) (sym is) (omega (arith, few))
 
+module _ {J F S R P : Type 0} {means : disk.Ghosts J} {counts : counted.Ghosts J} (store : P → Store) (faults : P → ℕ) where
+  -- where more numbers may be drawn
+  pub serves_within : (port after : P) (old new : Core J F S R P means counts) (few drawn : ℕ) → few ≤ drawn
+      → Serves store faults port after old new few → Serves store faults port after old new drawn
+  serves_within port after old new few drawn less serves = record {
+    ready = serves.ready;
+    stays = serves.stays;
+    draws = let draws = serves.draws in omega (arith, draws, less);
+    same_store = serves.same_store;
+    later = serves.later;
+  }
+
+  pub goes_on_within : (port after : P) (old new : Core J F S R P means counts) (few drawn : ℕ) → few ≤ drawn
+      → GoesOn store faults port after old new few → GoesOn store faults port after old new drawn
+  goes_on_within port after old new few drawn less part = record {
+    serves = serves_within port after old new few drawn less part.serves;
+    limit = part.limit;
+    keeps = part.keeps;
+  }
+
+  -- the port was not used
+  pub serves_alone : (port : P) (old new : Core J F S R P means counts) → IsReady (store port) new → StaysInPlace old new
+      → next_of new ≡ next_of old → faults_under old ≤ faults_under new → Serves store faults port port old new 0
+  serves_alone port old new ready stays same later = record {
+    ready = ready;
+    stays = stays;
+    draws = omega (arith, same);
+    same_store = refl;
+    later = (later, omega arith);
+  }
+
+  module _ (laws : (journal : J) → IsLawful (means.state journal)) where
+    -- nothing was done
+    pub nothing : (port : P) (core : Core J F S R P means counts) (drawn : ℕ) → IsReady (store port) core
+        → GoesOn store faults port port core core drawn
+    nothing port core drawn ready = record {
+      serves = record {
+        ready = ready;
+        stays = record { slot = refl; next = omega arith };
+        draws = omega arith;
+        same_store = refl;
+        later = (omega arith, omega arith);
+      };
+      limit = refl;
+      keeps = λ tells files at next serving.
+          parts.unchanged laws (IsDrawn core core) core core files at next at refl (λ outside engine seen. seen) serving;
+    }
+
+    -- a part behind another
+    pub and_then : (port mid_port after : P) (old mid new : Core J F S R P means counts) (few more drawn : ℕ)
+        → few + more ≤ drawn → GoesOn store faults port mid_port old mid few
+        → GoesOn store faults mid_port after mid new more → GoesOn store faults port after old new drawn
+    and_then port mid_port after old mid new few more drawn less first second =
+        let one = first.serves in
+        let two = second.serves in
+        let from = one.stays.next in
+        let to = two.stays.next in
+        let some = one.draws in
+        let others = two.draws in
+        let journal = one.later.0 in
+        let journal_on = two.later.0 in
+        let counted_first = one.later.1 in
+        let counted_second = two.later.1 in
+        record {
+          serves = record {
+            ready = subst (λ (s : Store). IsReady s new) one.same_store two.ready;
+            stays = record { slot = two.stays.slot ∙ one.stays.slot; next = omega (arith, from, to) };
+            draws = omega (arith, less, some, others);
+            same_store = two.same_store ∙ one.same_store;
+            later = (omega (arith, journal, journal_on), omega (arith, counted_first, counted_second));
+          };
+          limit = second.limit ∙ first.limit;
+          keeps = λ tells files at next serving. let kept = first.keeps tells files at next serving in
+              then laws (IsDrawn old mid) (IsDrawn mid new) (IsDrawn old new)
+              (λ n drawn. let low = drawn.from in let high = drawn.to in record { from = low; to = omega (arith, high, to) })
+              (λ n drawn. let low = drawn.from in let high = drawn.to in
+              record { from = omega (arith, low, from); to = high })
+              (drawn_apart old mid new) old mid new files at next at at one.stays.slot kept
+              (second.keeps (ap (λ (s : Store). s.tells) one.same_store ∙ tells) (files ++ kept.put) at kept.doubt
+              kept.serving);
+        }
+
+    -- no job could be taken
+    pub not_taken : (port : P) (old new : Core J F S R P means counts) (drawn : ℕ) → TakesMemory old new
+        → IsNotTaken old new → IsReady (store port) old → GoesOn store faults port port old new drawn
+    not_taken port old new drawn takes not ready = record {
+      serves = record {
+        ready = still_ready (store port) old new takes not ready;
+        stays = record { slot = ap (λ log. slot_of log) takes.logged.log.log; next = omega (arith, not.next) };
+        draws = omega (arith, not.next);
+        same_store = refl;
+        later = (
+          subst (λ (log : Frames J means counts). faults_under old ≤ faults_of log) (sym takes.logged.log.log)
+              (omega arith),
+          omega arith,
+        );
+      };
+      limit = takes.limit;
+      keeps = λ tells files at next serving.
+          parts.unchanged laws (IsDrawn old new) old new files at next at takes.logged.log.log not.step serving;
+    }
+
+    -- a freeze
+    pub froze : (port : P) (old new : Core J F S R P means counts) (result : Answer)
+        → IsCoreCommand old new Freeze NeedsNothing result → CanFreezeNow old → IsReady (store port) old
+        → GoesOn store faults port port old new 0
+    froze port old new result command can ready = record {
+      serves = record {
+        ready = record {
+          jobs = command.kept.jobs [] [] ready.jobs;
+          unread = subst (λ (files : KeptFiles). AreUnread files.places) (sym command.kept.files) ready.unread;
+          of_store = subst (λ (files : KeptFiles). AreOfStore (store port) files.places) (sym command.kept.files)
+              ready.of_store;
+        };
+        stays = record { slot = command.slot; next = omega (arith, command.kept.next) };
+        draws = omega (arith, command.kept.next);
+        same_store = refl;
+        later = (command.later, omega arith);
+      };
+      limit = command.kept.limit;
+      keeps = λ tells files at next serving.
+          parts.froze laws (IsDrawn old new) old new result command can files at next serving;
+    }
+
+    -- a job is taken, and ended
+    module _ (port after : P) (old mid new : Core J F S R P means counts) (job : FlushJob) (takes : TakesMemory old mid)
+        (taken : IsFlushTaken old mid job) (ends : EndsJob (store port) mid new job) where
+      as_drawn : (n : ℕ) → IsOfJob job n → IsDrawn old new n
+      as_drawn n among =
+          let is = within (next_of old) (length (drawn_for job)) n
+          (subst (λ (numbers : List ℕ). Among n numbers) taken.numbers among) in
+          let low = is.low in
+          let high = is.high in
+          record { from = low; to = omega (arith, high, taken.next, ends.next) }
+
+      from_old : (files : List StoredFile) (at : plain.State) (next : Option plain.State)
+          → IsServedBy (IsOfJob job) mid new files at next at at → IsServed old new files at next at at
+      from_old files at next served = record {
+        put = served.put;
+        numbers = each_weaker (λ (file : StoredFile). IsOfJob job file.number)
+            (λ (file : StoredFile). IsDrawn old new file.number) (λ file of_job. as_drawn file.number of_job) served.put
+            served.numbers;
+        differ = served.differ;
+        doubt = served.doubt;
+        may = served.may;
+        serving = served.serving;
+        moments = subst (λ (log : Frames J means counts). LeavesOnly (disk_of log) (disk_under new)
+            (LeavesEither (files ++ served.put) (slot_of log) at next at)) takes.logged.log.log served.moments;
+      }
+
+      pub flushed : (drawn : ℕ) → length (drawn_for job) ≤ drawn → store after ≡ store port → faults port ≤ faults after
+          → GoesOn store faults port after old new drawn
+      flushed drawn few same_store later = record {
+        serves = record {
+          ready = ends.ready;
+          stays = record {
+            slot = ends.slot ∙ ap (λ log. slot_of log) takes.logged.log.log;
+            next = omega (arith, taken.next, ends.next);
+          };
+          draws = omega (arith, taken.next, ends.next, few);
+          same_store = same_store;
+          later = (
+            subst (λ (log : Frames J means counts). faults_of log ≤ faults_under new) takes.logged.log.log ends.later,
+            later,
+          );
+        };
+        limit = ends.limit ∙ takes.limit;
+        keeps = λ tells files at next serving. from_old files at next
+            (ends.keeps tells files at next (parts.taken laws old mid job files at next taken serving));
+      }
+
 module _ {J F S R P : Type 0} {means : disk.Ghosts J} {counts : counted.Ghosts J}
     (laws : (journal : J) → IsLawful (means.state journal)) (store : Store) where
-  -- nothing was done
-  pub nothing : (core : Core J F S R P means counts) → IsReady store core → GoesOn store core core
-  nothing core ready = record {
-    ready = ready;
-    limit = refl;
-    slot = refl;
-    next = omega arith;
-    later = omega arith;
-    keeps = λ tells files at next serving.
-        parts.unchanged laws (IsDrawn core core) core core files at next at refl (λ outside engine seen. seen) serving;
-  }
-
-  -- a part behind another
-  pub and_then : (old mid new : Core J F S R P means counts) → GoesOn store old mid → GoesOn store mid new
-      → GoesOn store old new
-  and_then old mid new first second = record {
-    ready = second.ready;
-    limit = second.limit ∙ first.limit;
-    slot = second.slot ∙ first.slot;
-    next = omega (arith, first.next, second.next);
-    later = omega (arith, first.later, second.later);
-    keeps = λ tells files at next serving. let one = first.keeps tells files at next serving in
-        then laws (IsDrawn old mid) (IsDrawn mid new) (IsDrawn old new)
-        (λ n drawn. let low = drawn.from in let high = drawn.to in
-        record { from = low; to = omega (arith, high, second.next) })
-        (λ n drawn. let low = drawn.from in let high = drawn.to in
-        record { from = omega (arith, low, first.next); to = high })
-        (drawn_apart old mid new) old mid new files at next at at first.slot one
-        (second.keeps tells (files ++ one.put) at one.doubt one.serving);
-  }
-
-  -- no job could be taken
-  pub not_taken : (old new : Core J F S R P means counts) → TakesMemory old new → IsNotTaken old new
-      → IsReady store old → GoesOn store old new
-  not_taken old new takes not ready = record {
-    ready = still_ready store old new takes not ready;
-    limit = takes.limit;
-    slot = ap (λ log. slot_of log) takes.logged.log.log;
-    next = omega (arith, not.next);
-    later = subst (λ (log : Frames J means counts). faults_under old ≤ faults_of log) (sym takes.logged.log.log)
-        (omega arith);
-    keeps = λ tells files at next serving.
-        parts.unchanged laws (IsDrawn old new) old new files at next at takes.logged.log.log not.step serving;
-  }
-
-  -- a freeze
-  pub froze : (old new : Core J F S R P means counts) (result : Answer) → IsCoreCommand old new Freeze NeedsNothing result
-      → CanFreezeNow old → IsReady store old → GoesOn store old new
-  froze old new result command can ready = record {
-    ready = record {
-      jobs = command.kept.jobs [] [] ready.jobs;
-      unread = subst (λ (files : KeptFiles). AreUnread files.places) (sym command.kept.files) ready.unread;
-      of_store = subst (λ (files : KeptFiles). AreOfStore store files.places) (sym command.kept.files) ready.of_store;
-    };
-    limit = command.kept.limit;
-    slot = command.slot;
-    next = omega (arith, command.kept.next);
-    later = command.later;
-    keeps = λ tells files at next serving.
-        parts.froze laws (IsDrawn old new) old new result command can files at next serving;
-  }
-
-  -- a job is taken, and ended
-  module _ (old mid new : Core J F S R P means counts) (job : FlushJob) (takes : TakesMemory old mid)
-      (taken : IsFlushTaken old mid job) (ends : EndsJob store mid new job) where
-    as_drawn : (n : ℕ) → IsOfJob job n → IsDrawn old new n
-    as_drawn n among =
-        let is = within (next_of old) (length (drawn_for job)) n
-        (subst (λ (numbers : List ℕ). Among n numbers) taken.numbers among) in
-        let low = is.low in
-        let high = is.high in
-        record { from = low; to = omega (arith, high, taken.next, ends.next) }
-
-    from_old : (files : List StoredFile) (at : plain.State) (next : Option plain.State)
-        → IsServedBy (IsOfJob job) mid new files at next at at → IsServed old new files at next at at
-    from_old files at next served = record {
-      put = served.put;
-      numbers = each_weaker (λ (file : StoredFile). IsOfJob job file.number)
-          (λ (file : StoredFile). IsDrawn old new file.number) (λ file of_job. as_drawn file.number of_job) served.put
-          served.numbers;
-      differ = served.differ;
-      doubt = served.doubt;
-      may = served.may;
-      serving = served.serving;
-      moments = subst (λ (log : Frames J means counts). LeavesOnly (disk_of log) (disk_under new)
-          (LeavesEither (files ++ served.put) (slot_of log) at next at)) takes.logged.log.log served.moments;
-    }
-
-    pub flushed : GoesOn store old new
-    flushed = record {
-      ready = ends.ready;
-      limit = ends.limit ∙ takes.limit;
-      slot = ends.slot ∙ ap (λ log. slot_of log) takes.logged.log.log;
-      next = omega (arith, taken.next, ends.next);
-      later = subst (λ (log : Frames J means counts). faults_of log ≤ faults_under new) takes.logged.log.log ends.later;
-      keeps = λ tells files at next serving. from_old files at next
-          (ends.keeps tells files at next (parts.taken laws old mid job files at next taken serving));
-    }
-
   -- ---- the end of a job
 
   module _ (old new : Core J F S R P means counts) (job : FlushJob) (built : NewFiles) (given : Store)

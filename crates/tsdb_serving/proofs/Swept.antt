@@ -1,5 +1,5 @@
 -- A sweep, and what a command leaves that sweeps at its end.
-use Rattle.std.proofs.Common.{◌≡◌, ℕ, ◌≤◌, false, List, [], ◌++◌, length, Option, Result, Ok, Err, arith, refl, sym, ap, subst, ◌∙◌}
+use Rattle.std.proofs.Common.{◌≡◌, ℕ, ◌+◌, ◌≤◌, false, List, [], ◌++◌, length, Option, Result, Ok, Err, arith, refl, sym, ap, subst, ◌∙◌}
 use Rattle.std.specs.Prelude.{OnOk}
 use Rattle.tsdb_base.proofs.Lists.{each_weaker}
 use Rattle.tsdb_base.specs.Causes.{Rose}
@@ -120,16 +120,32 @@ module _ {J F S R P : Type 0} {means : disk.Ghosts J} {counts : counted.Ghosts J
     }
 
     -- a part of a command, and then a sweep
-    pub goes_on_swept : (store : Store) → GoesOn store old mid → IsReady store new → GoesOn store old new
-    goes_on_swept store part ready = record {
-      ready = ready;
-      limit = keeps.limit ∙ part.limit;
-      slot = ap (λ logged. slot_of (log_of logged)) keeps.logged ∙ part.slot;
-      next = let same = keeps.next in omega (arith, part.next, same);
-      later = subst (λ (logged : LoggedMemory J means counts). faults_under old ≤ faults_of (log_of logged)) (sym keeps.logged)
-          part.later;
-      keeps = λ tells files at next serving. served_on files at next at at (part.keeps tells files at next serving);
-    }
+    pub goes_on_swept : (store : P → Store) (faults : P → ℕ) (port mid_port after : P) (drawn : ℕ)
+        → GoesOn store faults port mid_port old mid drawn → IsReady (store mid_port) new
+        → store after ≡ store mid_port → faults mid_port ≤ faults after → GoesOn store faults port after old new drawn
+    goes_on_swept store faults port mid_port after drawn part ready same_store later =
+        let same = keeps.next in
+        let from = part.serves.stays.next in
+        let draws = part.serves.draws in
+        let counted_first = part.serves.later.1 in
+        record {
+          serves = record {
+            ready = subst (λ (s : Store). IsReady s new) part.serves.same_store ready;
+            stays = record {
+              slot = ap (λ logged. slot_of (log_of logged)) keeps.logged ∙ part.serves.stays.slot;
+              next = omega (arith, from, same);
+            };
+            draws = omega (arith, draws, same);
+            same_store = same_store ∙ part.serves.same_store;
+            later = (
+              subst (λ (logged : LoggedMemory J means counts). faults_under old ≤ faults_of (log_of logged))
+                  (sym keeps.logged) part.serves.later.0,
+              omega (arith, counted_first, later),
+            );
+          };
+          limit = keeps.limit ∙ part.limit;
+          keeps = λ tells files at next serving. served_on files at next at at (part.keeps tells files at next serving);
+        }
 
     -- what a command answers, and then a sweep
     pub answers_swept : (command : Command) (reply : Reply) → ServesCommand old mid command reply

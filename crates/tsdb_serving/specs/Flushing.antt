@@ -1,5 +1,6 @@
 -- What the parts of a flush ask for and leave.
-use Rattle.std.specs.Prelude.{◌≡◌, ◌≤◌, ℕ, List, [], ◌∷◌, Option, true}
+use Rattle.std.specs.Prelude.{◌≡◌, ◌⊎◌, ◌+◌, ◌≤◌, ℕ, List, [], ◌∷◌, Option, true}
+use Rattle.tsdb_base.specs.Causes.{Rose}
 use Rattle.tsdb_core.specs.Files.{IsOutAs}
 use Rattle.tsdb_core.specs.Core.{IsSeen, KeepsJobs, files_of, limit_of, logged_of, next_of}
 use Rattle.tsdb_core.specs.Ending.{drawn_for}
@@ -16,7 +17,9 @@ use Rattle.tsdb_memory.specs.Store.{FrozenPair}
 use Rattle.tsdb_outside.specs.Files.{Store, StoredFile}
 use Rattle.tsdb_outside.specs.declared.disk.Disk as disk
 use Rattle.tsdb_outside.specs.declared.faults.Counted as counted
-use Rattle.tsdb_serving.specs.Serving.{AreHeldWith, IsServedBy, KeepsServing, slot_under}
+use Rattle.tsdb_serving.specs.Faults.{HasFlushCause}
+use Rattle.tsdb_serving.specs.Serving.{AreHeldWith, IsServedBy, KeepsServing, StaysInPlace, slot_under}
+use Rattle.tsdb_serving.specs.declared.fault.FlushFault.{FlushFault}
 use Rattle.tsdb_state.specs.Stores.{IsStateOf}
 use Rattle.tsdb_state.specs.State.{EngineState, FlushState as StateFlush}
 
@@ -47,15 +50,31 @@ module _ {J F S R P : Type 0} {means : disk.Ghosts J} {counts : counted.Ghosts J
     pub unread : AreUnread (files_of core).places
     pub of_store : AreOfStore store (files_of core).places
 
-  -- What each part of a flush leaves: the core is ready, its log stays in its slot, and numbers are drawn in their order.
-  -- Where the store tells what its files hold, the core is in the same states.
-  pub record GoesOn (store : Store) (old new : Core J F S R P means counts) : Type 0 where
-    pub ready : IsReady store new
-    pub limit : limit_of new ≡ limit_of old
-    pub slot : slot_under new ≡ slot_under old
-    pub next : next_of old ≤ next_of new
-    pub later : faults_under old ≤ faults_under new
-    pub keeps : store.tells ≡ true → KeepsServing old new
+  module _ (store : P → Store) (faults : P → ℕ) (port after : P) (old new : Core J F S R P means counts) where
+    -- What is left of a port and a core, whatever is answered: the core is ready, its log stays in its slot, at most so
+    -- many numbers for files were drawn, the port is still of its store, and no count of faults has fallen.
+    pub record Serves (drawn : ℕ) : Type 0 where
+      pub ready : IsReady (store port) new
+      pub stays : StaysInPlace old new
+      pub draws : next_of new ≤ next_of old + drawn
+      pub same_store : store after ≡ store port
+      pub later : (faults_under old ≤ faults_under new) × (faults port ≤ faults after)
+
+    -- What each part of a flush or of a compaction leaves: all of this, and the limit of the working pair. Where the store
+    -- tells what its files hold, the core is in the same states.
+    pub record GoesOn (drawn : ℕ) : Type 0 where
+      pub serves : Serves drawn
+      pub limit : limit_of new ≡ limit_of old
+      pub keeps : (store port).tells ≡ true → KeepsServing old new
+
+  module _ (faults : P → ℕ) (port after : P) (old new : Core J F S R P means counts) where
+    -- the journal under the core, or the port, has counted a fault
+    abbrev pub HasCountedFault : Type 0
+    HasCountedFault = Rose (faults_under old) (faults_under new) ⊎ Rose (faults port) (faults after)
+
+    -- why a flush ended before its end, by these counts and the next number
+    abbrev pub HasFlushCauseOver : FlushFault → Type 0
+    HasFlushCauseOver = HasFlushCause (faults_under old) (faults_under new) (faults port) (faults after) (next_of new)
 
   -- The core is in the state, and the job is out as a flush of what it shows.
   pub record IsServingJob (core : Core J F S R P means counts) (job : FlushJob) (files : List StoredFile)

@@ -1,6 +1,6 @@
 //! Changes of a user: a series is created, a row written, points deleted. Depends on `flushing`, `sweeping` and
 //! tsdb_core.
-ghost use Rattle.std.specs.Prelude.{◌≡◌, ◌⊎◌, ◌+◌, ◌≤◌, [], IfErr, OnOk, true};
+ghost use Rattle.std.specs.Prelude.{◌≡◌, ◌≤◌, [], IfErr, OnOk, true};
 ghost use Rattle.tsdb_core.specs.Core.{files_of, next_of};
 ghost use Rattle.tsdb_core.specs.Rows.{NeedsFlush};
 ghost use Rattle.tsdb_base.specs.declared.answers.Answer.{Answer as AnswerOf};
@@ -9,8 +9,8 @@ ghost use Rattle.tsdb_model.specs.declared.command.Command.{Command};
 ghost use Rattle.tsdb_model.specs.declared.reply.Reply.{Reply};
 ghost use Rattle.tsdb_base.specs.Causes.{Rose};
 ghost use Rattle.tsdb_outside.specs.Files.{Store};
-ghost use Rattle.tsdb_serving.specs.Faults.{HasFlushCause};
-ghost use Rattle.tsdb_serving.specs.Flushing.{GoesOn, IsReady, faults_under};
+ghost use Rattle.tsdb_serving.specs.Flushing.{GoesOn, HasCountedFault, HasFlushCauseOver, IsReady, Serves};
+ghost use Rattle.tsdb_serving.specs.Flushing.{faults_under};
 ghost use Rattle.tsdb_serving.specs.Serving.{ServesCommand, HasFullCause, StaysInPlace};
 ghost use Rattle.tsdb_serving.specs.Sweeping.{LeavesNothing, StaysEmpty};
 
@@ -67,15 +67,9 @@ pub fn insert<J: Journal, F: Files>(
     ensures swept { StaysEmpty (F.Port.faults port.old) (F.Port.faults port.new) core.old core.new }
     ensures answers { (F.Port.store port.old).tells ≡ true
         → ServesCommand core.old core.new (Command.Insert device.now row.now) (Reply.Plain result) }
-    ensures ready { IsReady (F.Port.store port.old) core.new }
-    ensures stays { StaysInPlace core.old core.new }
-    ensures draws { next_of core.new ≤ next_of core.old + 2 }
+    ensures serves { Serves F.Port.store F.Port.faults port.old port.new core.old core.new 2 }
     ensures full { HasFullCause core.new (Reply.Plain result) }
-    ensures same_store { F.Port.store port.new ≡ F.Port.store port.old }
-    ensures cause { result ≡ AnswerOf.Device → Rose (faults_under core.old) (faults_under core.new)
-        ⊎ Rose (F.Port.faults port.old) (F.Port.faults port.new) }
-    ensures later { (faults_under core.old ≤ faults_under core.new)
-        × (F.Port.faults port.old ≤ F.Port.faults port.new) }
+    ensures cause { result ≡ AnswerOf.Device → HasCountedFault F.Port.faults port.old port.new core.old core.new }
 {
     match make_room(alloc, core, port, row) {
         Ok(()) => core.insert(device, row),
@@ -95,12 +89,8 @@ fn make_room<J: Journal, F: Files>(
     ensures place { OnOk result (¬ NeedsFlush row.now core.new) }
     ensures swept { (files_of core.old).outgoing ≡ []
         → LeavesNothing (F.Port.faults port.old) (F.Port.faults port.new) core.new }
-    ensures goes_on { GoesOn (F.Port.store port.old) core.old core.new }
-    ensures draws { next_of core.new ≤ next_of core.old + 2 }
-    ensures same_store { F.Port.store port.new ≡ F.Port.store port.old }
-    ensures cause { IfErr result (HasFlushCause (faults_under core.old) (faults_under core.new)
-        (F.Port.faults port.old) (F.Port.faults port.new) (next_of core.new)) }
-    ensures later { F.Port.faults port.old ≤ F.Port.faults port.new }
+    ensures goes_on { GoesOn F.Port.store F.Port.faults port.old port.new core.old core.new 2 }
+    ensures cause { IfErr result (HasFlushCauseOver F.Port.faults port.old port.new core.old core.new) }
 {
     if !core.needs_flush(row) {
         return Ok(());

@@ -1,8 +1,8 @@
 //! A flush: the working pair and all frozen pairs become files. Depends on `fault`, `sweeping` and tsdb_core.
-ghost use Rattle.std.specs.Prelude.{◌≡◌, ◌≢◌, ◌⊎◌, ◌+◌, ◌<◌, ◌≤◌, ◌↔◌, ℕ, [], None, IfErr, IfOk, IsTrue, OnErr, OnOk, drop};
+ghost use Rattle.std.specs.Prelude.{◌≡◌, ◌≢◌, ◌⊎◌, ◌<◌, ◌≤◌, ◌↔◌, ℕ, [], None, IfErr, IfOk, IsTrue, OnErr, OnOk, drop};
 ghost use Rattle.std.specs.Prelude.{length, slice_get};
 ghost use Rattle.std.specs.Option.{option_map};
-ghost use Rattle.tsdb_core.specs.Core.{logged_of, next_of, working_of};
+ghost use Rattle.tsdb_core.specs.Core.{logged_of, working_of};
 ghost use Rattle.tsdb_core.specs.Flushes.{IsDue, IsOldestPair};
 ghost use Rattle.tsdb_core.specs.Jobs.{IsJob};
 ghost use Rattle.tsdb_memory.specs.LogState.{memory_of};
@@ -10,9 +10,9 @@ ghost use Rattle.tsdb_outside.specs.Files.{Store};
 ghost use Rattle.tsdb_base.specs.Causes.{Rose};
 ghost use Rattle.tsdb_memory.specs.Fits.{HasNoPairPoint};
 ghost use Rattle.tsdb_serving.specs.declared.fault.FlushFault.{FlushFault as FaultOf};
-ghost use Rattle.tsdb_serving.specs.Faults.{HasFlushCause};
 ghost use Rattle.tsdb_serving.specs.Files.{AreDoneInStore, AreDoneSoFarInStore};
-ghost use Rattle.tsdb_serving.specs.Flushing.{EndsJob, GoesOn, IsBusy, IsReady, faults_under, frozen_under};
+ghost use Rattle.tsdb_serving.specs.Flushing.{EndsJob, GoesOn, HasFlushCauseOver, IsBusy, IsReady};
+ghost use Rattle.tsdb_serving.specs.Flushing.{faults_under, frozen_under};
 ghost use Rattle.tsdb_serving.specs.Sweeping.{LeavesNothing};
 ghost use Rattle.tsdb_base.specs.Limits.{max_frozen};
 
@@ -39,12 +39,8 @@ pub fn flush<J: Journal, F: Files>(
     requires ready { IsReady (F.Port.store port.old) core.old }
     ensures flushed { OnOk result ((frozen_under core.new ≡ []) × HasNoPairPoint (working_of core.new)) }
     ensures swept { LeavesNothing (F.Port.faults port.old) (F.Port.faults port.new) core.new }
-    ensures goes_on { GoesOn (F.Port.store port.old) core.old core.new }
-    ensures draws { next_of core.new ≤ next_of core.old + 6 }
-    ensures same_store { F.Port.store port.new ≡ F.Port.store port.old }
-    ensures cause { IfErr result (HasFlushCause (faults_under core.old) (faults_under core.new)
-        (F.Port.faults port.old) (F.Port.faults port.new) (next_of core.new)) }
-    ensures later { F.Port.faults port.old ≤ F.Port.faults port.new }
+    ensures goes_on { GoesOn F.Port.store F.Port.faults port.old port.new core.old core.new 6 }
+    ensures cause { IfErr result (HasFlushCauseOver F.Port.faults port.old port.new core.old core.new) }
 {
     let flushed = flush_pairs(alloc, core, port);
     sweep(core, port);
@@ -59,12 +55,8 @@ fn flush_pairs<J: Journal, F: Files>(
 ) -> Result<(), FlushFault>
     requires ready { IsReady (F.Port.store port.old) core.old }
     ensures flushed { OnOk result ((frozen_under core.new ≡ []) × HasNoPairPoint (working_of core.new)) }
-    ensures goes_on { GoesOn (F.Port.store port.old) core.old core.new }
-    ensures draws { next_of core.new ≤ next_of core.old + 6 }
-    ensures same_store { F.Port.store port.new ≡ F.Port.store port.old }
-    ensures cause { IfErr result (HasFlushCause (faults_under core.old) (faults_under core.new)
-        (F.Port.faults port.old) (F.Port.faults port.new) (next_of core.new)) }
-    ensures later { F.Port.faults port.old ≤ F.Port.faults port.new }
+    ensures goes_on { GoesOn F.Port.store F.Port.faults port.old port.new core.old core.new 6 }
+    ensures cause { IfErr result (HasFlushCauseOver F.Port.faults port.old port.new core.old core.new) }
 {
     match make_place(alloc, core, port) {
         Ok(()) => freeze_and_flush(alloc, core, port),
@@ -81,12 +73,8 @@ fn freeze_and_flush<J: Journal, F: Files>(
     requires place { HasNoPairPoint (working_of core.old) ⊎ (length (frozen_under core.old) < max_frozen) }
     requires ready { IsReady (F.Port.store port.old) core.old }
     ensures flushed { OnOk result ((frozen_under core.new ≡ []) × HasNoPairPoint (working_of core.new)) }
-    ensures goes_on { GoesOn (F.Port.store port.old) core.old core.new }
-    ensures draws { next_of core.new ≤ next_of core.old + 4 }
-    ensures same_store { F.Port.store port.new ≡ F.Port.store port.old }
-    ensures cause { IfErr result (HasFlushCause (faults_under core.old) (faults_under core.new)
-        (F.Port.faults port.old) (F.Port.faults port.new) (next_of core.new)) }
-    ensures later { F.Port.faults port.old ≤ F.Port.faults port.new }
+    ensures goes_on { GoesOn F.Port.store F.Port.faults port.old port.new core.old core.new 4 }
+    ensures cause { IfErr result (HasFlushCauseOver F.Port.faults port.old port.new core.old core.new) }
 {
     match freeze(core) {
         Ok(()) => flush_both(alloc, core, port),
@@ -103,12 +91,8 @@ fn flush_both<J: Journal, F: Files>(
     requires ready { IsReady (F.Port.store port.old) core.old }
     ensures flushed { OnOk result (frozen_under core.new ≡ []) }
     ensures working { working_of core.new ≡ working_of core.old }
-    ensures goes_on { GoesOn (F.Port.store port.old) core.old core.new }
-    ensures draws { next_of core.new ≤ next_of core.old + 4 }
-    ensures same_store { F.Port.store port.new ≡ F.Port.store port.old }
-    ensures cause { IfErr result (HasFlushCause (faults_under core.old) (faults_under core.new)
-        (F.Port.faults port.old) (F.Port.faults port.new) (next_of core.new)) }
-    ensures later { F.Port.faults port.old ≤ F.Port.faults port.new }
+    ensures goes_on { GoesOn F.Port.store F.Port.faults port.old port.new core.old core.new 4 }
+    ensures cause { IfErr result (HasFlushCauseOver F.Port.faults port.old port.new core.old core.new) }
 {
     match flush_oldest(alloc, core, port) {
         Ok(()) => flush_oldest(alloc, core, port),
@@ -124,12 +108,8 @@ fn make_place<J: Journal, F: Files>(
 ) -> Result<(), FlushFault>
     requires ready { IsReady (F.Port.store port.old) core.old }
     ensures place { OnOk result (HasNoPairPoint (working_of core.new) ⊎ (length (frozen_under core.new) < max_frozen)) }
-    ensures goes_on { GoesOn (F.Port.store port.old) core.old core.new }
-    ensures draws { next_of core.new ≤ next_of core.old + 2 }
-    ensures same_store { F.Port.store port.new ≡ F.Port.store port.old }
-    ensures cause { IfErr result (HasFlushCause (faults_under core.old) (faults_under core.new)
-        (F.Port.faults port.old) (F.Port.faults port.new) (next_of core.new)) }
-    ensures later { F.Port.faults port.old ≤ F.Port.faults port.new }
+    ensures goes_on { GoesOn F.Port.store F.Port.faults port.old port.new core.old core.new 2 }
+    ensures cause { IfErr result (HasFlushCauseOver F.Port.faults port.old port.new core.old core.new) }
 {
     if is_idle(core) {
         return Ok(());
@@ -151,8 +131,8 @@ fn is_idle<J: Journal, F: Files>(core: &Core<J, F>) -> bool
 fn freeze<J: Journal, F: Files>(core: &mut Core<J, F>) -> Result<(), FlushFault>
     requires place { HasNoPairPoint (working_of core.old) ⊎ (length (frozen_under core.old) < max_frozen) }
     ensures emptied { OnOk result (HasNoPairPoint (working_of core.new)) }
-    ensures goes_on { (store : Store) → IsReady store core.old → GoesOn store core.old core.new }
-    ensures draws { next_of core.new ≡ next_of core.old }
+    ensures goes_on { (port : F.Port) → IsReady (F.Port.store port) core.old
+        → GoesOn F.Port.store F.Port.faults port port core.old core.new 0 }
     ensures cause { IfErr result (λ fault. fault ≡ FaultOf.Device
         → Rose (faults_under core.old) (faults_under core.new)) }
     ensures full { IfErr result (λ fault. (counter : ℕ) → fault ≢ FaultOf.Full counter) }
@@ -189,12 +169,8 @@ pub(crate) fn flush_oldest<J: Journal, F: Files>(
     ensures flushed { OnOk result (frozen_under core.new ≡ drop 1 (frozen_under core.old)) }
     ensures few { length (frozen_under core.old) ≤ max_frozen }
     ensures working { working_of core.new ≡ working_of core.old }
-    ensures goes_on { GoesOn (F.Port.store port.old) core.old core.new }
-    ensures draws { next_of core.new ≤ next_of core.old + 2 }
-    ensures same_store { F.Port.store port.new ≡ F.Port.store port.old }
-    ensures cause { IfErr result (HasFlushCause (faults_under core.old) (faults_under core.new)
-        (F.Port.faults port.old) (F.Port.faults port.new) (next_of core.new)) }
-    ensures later { F.Port.faults port.old ≤ F.Port.faults port.new }
+    ensures goes_on { GoesOn F.Port.store F.Port.faults port.old port.new core.old core.new 2 }
+    ensures cause { IfErr result (HasFlushCauseOver F.Port.faults port.old port.new core.old core.new) }
 {
     match oldest(core) {
         Some(upto) => flush_due(alloc, core, port, upto),
@@ -213,12 +189,8 @@ fn flush_due<J: Journal, F: Files>(
     requires ready { IsReady (F.Port.store port.old) core.old }
     ensures flushed { OnOk result (frozen_under core.new ≡ drop 1 (frozen_under core.old)) }
     ensures working { working_of core.new ≡ working_of core.old }
-    ensures goes_on { GoesOn (F.Port.store port.old) core.old core.new }
-    ensures draws { next_of core.new ≤ next_of core.old + 2 }
-    ensures same_store { F.Port.store port.new ≡ F.Port.store port.old }
-    ensures cause { IfErr result (HasFlushCause (faults_under core.old) (faults_under core.new)
-        (F.Port.faults port.old) (F.Port.faults port.new) (next_of core.new)) }
-    ensures later { F.Port.faults port.old ≤ F.Port.faults port.new }
+    ensures goes_on { GoesOn F.Port.store F.Port.faults port.old port.new core.old core.new 2 }
+    ensures cause { IfErr result (HasFlushCauseOver F.Port.faults port.old port.new core.old core.new) }
 {
     match core.take_flush(upto) {
         Ok(Some(job)) => run_job(alloc, core, port, job),
@@ -241,8 +213,7 @@ fn run_job<J: Journal, F: Files>(
     ensures working { working_of core.new ≡ working_of core.old }
     ensures ends { EndsJob (F.Port.store port.old) core.old core.new job }
     ensures same_store { F.Port.store port.new ≡ F.Port.store port.old }
-    ensures cause { IfErr result (HasFlushCause (faults_under core.old) (faults_under core.new)
-        (F.Port.faults port.old) (F.Port.faults port.new) (next_of core.new)) }
+    ensures cause { IfErr result (HasFlushCauseOver F.Port.faults port.old port.new core.old core.new) }
     ensures later { F.Port.faults port.old ≤ F.Port.faults port.new }
 {
     match run_flush::<F>(alloc, &job, port) {

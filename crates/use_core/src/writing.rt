@@ -49,6 +49,22 @@ fn row(alloc: Global, series: &Path, time: i64, value: i64) -> Result<Row, Fault
     })
 }
 
+/// Writes a row of the device.
+fn put<J: Journal, F: Files>(
+    alloc: Global,
+    core: &mut Core<J, F>,
+    port: &mut F::Port,
+    device: &Path,
+    row: &Row,
+) -> Result<(), Fault>
+    requires row { IsRow row.now }
+    requires ready { IsReady (F.Port.store port.old) core.old }
+    ensures ready { IsReady (F.Port.store port.old) core.new }
+    ensures same_store { F.Port.store port.new ≡ F.Port.store port.old }
+{
+    done(insert(alloc, core, port, device, row))
+}
+
 /// Makes the series, and writes a value at two times.
 pub fn write<J: Journal, F: Files>(
     alloc: Global,
@@ -64,6 +80,6 @@ pub fn write<J: Journal, F: Files>(
     let device = series.device()?;
     let (first, second) = (row(alloc, series, 60, 42)?, row(alloc, series, 120, 40)?);
     done(create(core, &schema(series)?))?;
-    done(insert(alloc, core, port, &device, &first))?;
-    done(insert(alloc, core, port, &device, &second))
+    put(alloc, core, port, &device, &first)?;
+    put(alloc, core, port, &device, &second)
 }

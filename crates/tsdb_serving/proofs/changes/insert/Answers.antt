@@ -20,9 +20,9 @@ pub returns-in-Ok-clause-answers : goal.returns-in-Ok-clause-answers
 returns-in-Ok-clause-answers g c = λ tells files at next serving.
     let first = c.make_room.ensures.goes_on.keeps tells files at next serving in
     behind g.J.Disk.lawful c.args.core.now c.make_room.new.core c.insert.new.self c.args.device.now c.args.row.now files at next
-    c.make_room.ensures.goes_on.slot first
+    c.make_room.ensures.goes_on.serves.stays.slot first
     (drawn_first c.args.core.now c.make_room.new.core c.insert.new.self c.insert.ensures.kept.next)
-    (drawn_second c.args.core.now c.make_room.new.core c.insert.new.self c.make_room.ensures.goes_on.next)
+    (drawn_second c.args.core.now c.make_room.new.core c.insert.new.self c.make_room.ensures.goes_on.serves.stays.next)
     c.insert.result
     (row_answered g.J.Disk.lawful (IsDrawn c.make_room.new.core c.insert.new.self) c.make_room.new.core c.insert.new.self c.args.device.now c.args.row.now
     (files ++ first.put) at first.doubt first.serving c.insert.result c.insert.ensures.row
@@ -34,17 +34,9 @@ returns-in-Ok-clause-answers g c = λ tells files at next serving.
     (insert_stamp (memory_of (logged_of c.make_room.new.core)) c.args.device.now c.args.row.now c.insert.result
     c.insert.ensures.answer))))
 
-pub returns-in-Ok-clause-ready : goal.returns-in-Ok-clause-ready
-returns-in-Ok-clause-ready g c = kept_ready c.make_room.new.core c.insert.new.self c.insert.ensures.kept (g.F.Port.Port.store c.args.port.now)
-    c.make_room.ensures.goes_on.ready
-
 pub returns-in-Ok-clause-cause : goal.returns-in-Ok-clause-cause
 returns-in-Ok-clause-cause g c = λ device. inl (rose_later (faults_under c.args.core.now) (faults_under c.make_room.new.core)
-    (faults_under c.insert.new.self) c.make_room.ensures.goes_on.later (c.insert.ensures.cause device))
-
-pub returns-in-Ok-clause-later : goal.returns-in-Ok-clause-later
-returns-in-Ok-clause-later g c =
-    (omega (arith, c.make_room.ensures.goes_on.later, c.insert.ensures.later), c.make_room.ensures.later)
+    (faults_under c.insert.new.self) c.make_room.ensures.goes_on.serves.later.0 (c.insert.ensures.cause device))
 
 pub returns-in-Err-clause-answers : goal.returns-in-Err-clause-answers
 returns-in-Err-clause-answers g c = λ tells files at next serving.
@@ -54,34 +46,9 @@ returns-in-Err-clause-answers g c = λ tells files at next serving.
     (full_cause _ _ _ _ _ c.in-Err.fault c.in-Err.ensures.cause) serving
     (c.make_room.ensures.goes_on.keeps tells files at next serving))
 
-pub returns-in-Err-clause-ready : goal.returns-in-Err-clause-ready
-returns-in-Err-clause-ready g c = c.make_room.ensures.goes_on.ready
-
 pub returns-in-Err-clause-cause : goal.returns-in-Err-clause-cause
 returns-in-Err-clause-cause g c = λ device. device_cause _ _ _ _ _ c.in-Err.fault (sym c.answer.ensures ∙ device)
     c.in-Err.ensures.cause
-
-pub returns-in-Err-clause-later : goal.returns-in-Err-clause-later
-returns-in-Err-clause-later g c = (c.make_room.ensures.goes_on.later, c.make_room.ensures.later)
-
-pub returns-in-Ok-clause-stays : goal.returns-in-Ok-clause-stays
-returns-in-Ok-clause-stays g c =
-    let next = c.insert.ensures.kept.next in
-    let drawn = c.make_room.ensures.goes_on.next in
-    record {
-      slot = row_slot c.make_room.new.core c.insert.new.self c.args.device.now c.args.row.now c.insert.result
-          c.insert.ensures.row ∙ c.make_room.ensures.goes_on.slot;
-      next = omega (arith, next, drawn);
-    }
-
-pub returns-in-Err-clause-stays : goal.returns-in-Err-clause-stays
-returns-in-Err-clause-stays g c = record { slot = c.make_room.ensures.goes_on.slot; next = c.make_room.ensures.goes_on.next }
-
-pub returns-in-Ok-clause-draws : goal.returns-in-Ok-clause-draws
-returns-in-Ok-clause-draws g c =
-    let same = c.insert.ensures.kept.next in
-    let drawn = c.make_room.ensures.draws in
-    omega (arith, same, drawn)
 
 pub returns-in-Ok-clause-full : goal.returns-in-Ok-clause-full
 returns-in-Ok-clause-full g c = by_stamp c.make_room.new.core c.insert.new.self c.insert.result
@@ -105,3 +72,27 @@ pub returns-in-Err-clause-swept : goal.returns-in-Err-clause-swept
 returns-in-Err-clause-swept g c = λ none. empty_without_faults c.make_room.new.core
     (g.F.Port.Counted.faults c.args.port.now) (g.F.Port.Counted.faults c.make_room.new.port)
     (c.make_room.ensures.swept none)
+
+pub returns-in-Ok-clause-serves : goal.returns-in-Ok-clause-serves
+returns-in-Ok-clause-serves g c =
+    let part = c.make_room.ensures.goes_on.serves in
+    let same = c.insert.ensures.kept.next in
+    let from = part.stays.next in
+    let drawn = part.draws in
+    let counted_first = part.later.0 in
+    let counted_second = c.insert.ensures.later in
+    record {
+      ready = kept_ready c.make_room.new.core c.insert.new.self c.insert.ensures.kept (g.F.Port.Port.store c.args.port.now)
+          part.ready;
+      stays = record {
+        slot = row_slot c.make_room.new.core c.insert.new.self c.args.device.now c.args.row.now c.insert.result
+            c.insert.ensures.row ∙ part.stays.slot;
+        next = omega (arith, same, from);
+      };
+      draws = omega (arith, same, drawn);
+      same_store = part.same_store;
+      later = (omega (arith, counted_first, counted_second), part.later.1);
+    }
+
+pub returns-in-Err-clause-serves : goal.returns-in-Err-clause-serves
+returns-in-Err-clause-serves g c = c.make_room.ensures.goes_on.serves

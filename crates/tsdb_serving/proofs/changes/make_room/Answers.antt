@@ -1,4 +1,4 @@
-use Rattle.std.proofs.Common.{arith, subst, sym}
+use Rattle.std.proofs.Common.{subst, sym}
 use Rattle.tsdb_core.specs.Core.{next_of}
 use Rattle.tsdb_serving.proofs.Causes.{cause_since}
 use Rattle.tsdb_serving.proofs.Flushes.{no_flush_needed, nothing}
@@ -8,7 +8,7 @@ use Rattle.tsdb_serving.proofs.changes.make_room.Goals as goal
 
 pub sweep-requires-clause-ready : goal.sweep-requires-clause-ready
 sweep-requires-clause-ready g c = λ lifetimes lives. subst (λ store. IsReady store c.flush_oldest-flushed.new.core)
-    (sym c.flush_oldest-flushed.ensures.same_store) c.flush_oldest-flushed.ensures.goes_on.ready
+    (sym c.flush_oldest-flushed.ensures.goes_on.serves.same_store) c.flush_oldest-flushed.ensures.goes_on.serves.ready
 
 pub returns-clause-place : goal.returns-clause-place
 returns-clause-place g c = none_needed c.flush_oldest-flushed.new.core c.sweep.new.core c.sweep.ensures.listed c.args.row.now
@@ -19,18 +19,13 @@ returns-clause-place g c = none_needed c.flush_oldest-flushed.new.core c.sweep.n
 pub returns-clause-swept : goal.returns-clause-swept
 returns-clause-swept g c = λ none. nothing_since (g.F.Port.Counted.faults c.args.port.now)
     (g.F.Port.Counted.faults c.flush_oldest-flushed.new.port) (g.F.Port.Counted.faults c.sweep.new.port) c.sweep.new.core
-    c.flush_oldest-flushed.ensures.later c.sweep.ensures.swept
+    c.flush_oldest-flushed.ensures.goes_on.serves.later.1 c.sweep.ensures.swept
 
 pub returns-clause-goes_on : goal.returns-clause-goes_on
 returns-clause-goes_on g c = goes_on_swept c.args.core.now c.flush_oldest-flushed.new.core c.sweep.new.core
-    c.sweep.ensures.listed (g.F.Port.Port.store c.args.port.now) c.flush_oldest-flushed.ensures.goes_on
-    (subst (λ store. IsReady store c.sweep.new.core) c.flush_oldest-flushed.ensures.same_store c.sweep.ensures.ready)
-
-pub returns-clause-draws : goal.returns-clause-draws
-returns-clause-draws g c =
-    let part = c.flush_oldest-flushed.ensures.draws in
-    let same = c.sweep.ensures.listed.next in
-    omega (arith, part, same)
+    c.sweep.ensures.listed g.F.Port.Port.store g.F.Port.Counted.faults c.args.port.now
+    c.flush_oldest-flushed.new.port c.sweep.new.port 2 c.flush_oldest-flushed.ensures.goes_on c.sweep.ensures.ready
+    c.sweep.ensures.same_store c.sweep.ensures.later
 
 pub returns-clause-cause : goal.returns-clause-cause
 returns-clause-cause g c = cause_since c.flush_oldest-flushed.result (faults_under c.args.core.now)
@@ -41,8 +36,8 @@ returns-clause-cause g c = cause_since c.flush_oldest-flushed.result (faults_und
     c.sweep.ensures.listed.next c.flush_oldest-flushed.ensures.cause
 
 pub returns-then-not-needs_flush-clause-goes_on : goal.returns-then-not-needs_flush-clause-goes_on
-returns-then-not-needs_flush-clause-goes_on g c = nothing g.J.Disk.lawful (g.F.Port.Port.store c.args.port.now) c.args.core.now
-    c.requires.ready
+returns-then-not-needs_flush-clause-goes_on g c = nothing g.F.Port.Port.store g.F.Port.Counted.faults
+    g.J.Disk.lawful c.args.port.now c.args.core.now 2 c.requires.ready
 
 pub returns-then-not-needs_flush-clause-swept : goal.returns-then-not-needs_flush-clause-swept
 returns-then-not-needs_flush-clause-swept g c = λ none calm sure. none

@@ -1,4 +1,4 @@
-use Rattle.std.proofs.Common.{arith, subst, sym}
+use Rattle.std.proofs.Common.{subst, sym}
 use Rattle.tsdb_core.specs.Core.{next_of}
 use Rattle.tsdb_serving.proofs.Causes.{cause_since}
 use Rattle.tsdb_serving.proofs.Swept.{flushed_swept, goes_on_swept, no_less_swept, nothing_since}
@@ -7,7 +7,7 @@ use Rattle.tsdb_serving.proofs.flushing.flush.Goals as goal
 
 pub sweep-requires-clause-ready : goal.sweep-requires-clause-ready
 sweep-requires-clause-ready g c = λ lifetimes lives. subst (λ store. IsReady store c.flush_pairs-flushed.new.core)
-    (sym c.flush_pairs-flushed.ensures.same_store) c.flush_pairs-flushed.ensures.goes_on.ready
+    (sym c.flush_pairs-flushed.ensures.goes_on.serves.same_store) c.flush_pairs-flushed.ensures.goes_on.serves.ready
 
 pub returns-clause-flushed : goal.returns-clause-flushed
 returns-clause-flushed g c = flushed_swept c.flush_pairs-flushed.new.core c.sweep.new.core c.sweep.ensures.listed
@@ -16,18 +16,13 @@ returns-clause-flushed g c = flushed_swept c.flush_pairs-flushed.new.core c.swee
 pub returns-clause-swept : goal.returns-clause-swept
 returns-clause-swept g c = nothing_since (g.F.Port.Counted.faults c.args.port.now)
     (g.F.Port.Counted.faults c.flush_pairs-flushed.new.port) (g.F.Port.Counted.faults c.sweep.new.port) c.sweep.new.core
-    c.flush_pairs-flushed.ensures.later c.sweep.ensures.swept
+    c.flush_pairs-flushed.ensures.goes_on.serves.later.1 c.sweep.ensures.swept
 
 pub returns-clause-goes_on : goal.returns-clause-goes_on
 returns-clause-goes_on g c = goes_on_swept c.args.core.now c.flush_pairs-flushed.new.core c.sweep.new.core
-    c.sweep.ensures.listed (g.F.Port.Port.store c.args.port.now) c.flush_pairs-flushed.ensures.goes_on
-    (subst (λ store. IsReady store c.sweep.new.core) c.flush_pairs-flushed.ensures.same_store c.sweep.ensures.ready)
-
-pub returns-clause-draws : goal.returns-clause-draws
-returns-clause-draws g c =
-    let part = c.flush_pairs-flushed.ensures.draws in
-    let same = c.sweep.ensures.listed.next in
-    omega (arith, part, same)
+    c.sweep.ensures.listed g.F.Port.Port.store g.F.Port.Counted.faults c.args.port.now c.flush_pairs-flushed.new.port
+    c.sweep.new.port 6 c.flush_pairs-flushed.ensures.goes_on c.sweep.ensures.ready c.sweep.ensures.same_store
+    c.sweep.ensures.later
 
 pub returns-clause-cause : goal.returns-clause-cause
 returns-clause-cause g c = cause_since c.flush_pairs-flushed.result (faults_under c.args.core.now)

@@ -34,10 +34,12 @@ returns-in-Ok-Some-clause-working g c = c.run_job.ensures.working
     ∙ ap (λ (store : MemoryState). store.working) c.take_flush.ensures.memory.memory
 
 pub returns-in-Ok-Some-clause-goes_on : goal.returns-in-Ok-Some-clause-goes_on
-returns-in-Ok-Some-clause-goes_on g c = flushed g.J.Disk.lawful (g.F.Port.Port.store c.args.port.now) c.args.core.now c.take_flush.new.self
-    c.run_job.new.core c.in-Ok-Some.job c.take_flush.ensures.memory (subst (IsFlushTakenOrNot c.args.core.now c.take_flush.new.self) (c.in-Ok-Some.is ∙ ap Ok c.in-Ok-Some.field-0-is)
+returns-in-Ok-Some-clause-goes_on g c = flushed g.F.Port.Port.store g.F.Port.Counted.faults g.J.Disk.lawful
+    c.args.port.now c.run_job.new.port c.args.core.now c.take_flush.new.self c.run_job.new.core c.in-Ok-Some.job
+    c.take_flush.ensures.memory
+    (subst (IsFlushTakenOrNot c.args.core.now c.take_flush.new.self) (c.in-Ok-Some.is ∙ ap Ok c.in-Ok-Some.field-0-is)
     c.take_flush.ensures.taken)
-    c.run_job.ensures.ends
+    c.run_job.ensures.ends 2 (few_drawn c.in-Ok-Some.job) c.run_job.ensures.same_store c.run_job.ensures.later
 
 pub returns-in-Ok-Some-clause-cause : goal.returns-in-Ok-Some-clause-cause
 returns-in-Ok-Some-clause-cause g c = cause_before c.run_job.result (faults_under c.args.core.now) (faults_under c.take_flush.new.self)
@@ -54,17 +56,19 @@ pub returns-in-Ok-None-clause-working : goal.returns-in-Ok-None-clause-working
 returns-in-Ok-None-clause-working g c = ap (λ (store : MemoryState). store.working) c.take_flush.ensures.memory.memory
 
 pub returns-in-Ok-None-clause-goes_on : goal.returns-in-Ok-None-clause-goes_on
-returns-in-Ok-None-clause-goes_on g c = not_taken g.J.Disk.lawful (g.F.Port.Port.store c.args.port.now) c.args.core.now c.take_flush.new.self
-    c.take_flush.ensures.memory (subst (IsFlushTakenOrNot c.args.core.now c.take_flush.new.self)
-    (c.in-Ok-None.is ∙ ap Ok c.in-Ok-None.field-0-is) c.take_flush.ensures.taken) c.requires.ready
+returns-in-Ok-None-clause-goes_on g c = not_taken g.F.Port.Port.store g.F.Port.Counted.faults g.J.Disk.lawful
+    c.args.port.now c.args.core.now c.take_flush.new.self 2 c.take_flush.ensures.memory
+    (subst (IsFlushTakenOrNot c.args.core.now c.take_flush.new.self) (c.in-Ok-None.is ∙ ap Ok c.in-Ok-None.field-0-is)
+    c.take_flush.ensures.taken) c.requires.ready
 
 pub returns-in-Err-clause-working : goal.returns-in-Err-clause-working
 returns-in-Err-clause-working g c = ap (λ (store : MemoryState). store.working) c.take_flush.ensures.memory.memory
 
 pub returns-in-Err-clause-goes_on : goal.returns-in-Err-clause-goes_on
-returns-in-Err-clause-goes_on g c = not_taken g.J.Disk.lawful (g.F.Port.Port.store c.args.port.now) c.args.core.now c.take_flush.new.self
-    c.take_flush.ensures.memory (subst (IsFlushTakenOrNot c.args.core.now c.take_flush.new.self) c.in-Err.is
-    c.take_flush.ensures.taken) c.requires.ready
+returns-in-Err-clause-goes_on g c = not_taken g.F.Port.Port.store g.F.Port.Counted.faults g.J.Disk.lawful
+    c.args.port.now c.args.core.now c.take_flush.new.self 2 c.take_flush.ensures.memory
+    (subst (IsFlushTakenOrNot c.args.core.now c.take_flush.new.self) c.in-Err.is c.take_flush.ensures.taken)
+    c.requires.ready
 
 pub returns-in-Err-clause-cause : goal.returns-in-Err-clause-cause
 returns-in-Err-clause-cause g c = subst (HasFlushCause (faults_under c.args.core.now) (faults_under c.take_flush.new.self)
@@ -75,22 +79,3 @@ returns-in-Err-clause-cause g c = subst (HasFlushCause (faults_under c.args.core
     (subst (IsTakeAnswer c.args.upto.0 (next_of c.args.core.now) (memory_of (logged_of c.args.core.now))) c.in-Err.is
     c.take_flush.ensures.answer))
     (subst (IsFlushTakenOrNot c.args.core.now c.take_flush.new.self) c.in-Err.is c.take_flush.ensures.taken).next)
-
-pub returns-in-Ok-Some-clause-draws : goal.returns-in-Ok-Some-clause-draws
-returns-in-Ok-Some-clause-draws g c =
-    let ends = c.run_job.ensures.ends.next in
-    let taken = (subst (IsFlushTakenOrNot c.args.core.now c.take_flush.new.self) (c.in-Ok-Some.is ∙ ap Ok c.in-Ok-Some.field-0-is)
-    c.take_flush.ensures.taken).next in
-    let few = few_drawn c.in-Ok-Some.job in
-    omega (arith, ends, taken, few)
-
-pub returns-in-Ok-None-clause-draws : goal.returns-in-Ok-None-clause-draws
-returns-in-Ok-None-clause-draws g c =
-    let same = (subst (IsFlushTakenOrNot c.args.core.now c.take_flush.new.self) (c.in-Ok-None.is ∙ ap Ok c.in-Ok-None.field-0-is)
-    c.take_flush.ensures.taken).next in
-    omega (arith, same)
-
-pub returns-in-Err-clause-draws : goal.returns-in-Err-clause-draws
-returns-in-Err-clause-draws g c =
-    let same = (subst (IsFlushTakenOrNot c.args.core.now c.take_flush.new.self) c.in-Err.is c.take_flush.ensures.taken).next in
-    omega (arith, same)

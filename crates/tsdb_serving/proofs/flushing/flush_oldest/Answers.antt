@@ -10,4 +10,5 @@ pub returns-in-None-clause-flushed : goal.returns-in-None-clause-flushed
 returns-in-None-clause-flushed g c = none_frozen (frozen_under c.args.core.now) c.oldest.result c.in-None.is c.oldest.ensures.born
 
 pub returns-in-None-clause-goes_on : goal.returns-in-None-clause-goes_on
-returns-in-None-clause-goes_on g c = nothing g.J.Disk.lawful (g.F.Port.Port.store c.args.port.now) c.args.core.now c.requires.ready
+returns-in-None-clause-goes_on g c = nothing g.F.Port.Port.store g.F.Port.Counted.faults g.J.Disk.lawful
+    c.args.port.now c.args.core.now 2 c.requires.ready

@@ -6,7 +6,9 @@ returns-clause-place g c = place_left c.args.core.now c.flush_oldest.new.core c.
     c.flush_oldest.ensures.flushed
 
 pub returns-then-is_idle-clause-goes_on : goal.returns-then-is_idle-clause-goes_on
-returns-then-is_idle-clause-goes_on g c = nothing g.J.Disk.lawful (g.F.Port.Port.store c.args.port.now) c.args.core.now c.requires.ready
+returns-then-is_idle-clause-goes_on g c = nothing g.F.Port.Port.store g.F.Port.Counted.faults g.J.Disk.lawful
+    c.args.port.now c.args.core.now 2 c.requires.ready
 
 pub returns-then-frozen-lt-MAX_FROZEN-clause-goes_on : goal.returns-then-frozen-lt-MAX_FROZEN-clause-goes_on
-returns-then-frozen-lt-MAX_FROZEN-clause-goes_on g c = nothing g.J.Disk.lawful (g.F.Port.Port.store c.args.port.now) c.args.core.now c.requires.ready
+returns-then-frozen-lt-MAX_FROZEN-clause-goes_on g c = nothing g.F.Port.Port.store g.F.Port.Counted.faults
+    g.J.Disk.lawful c.args.port.now c.args.core.now 2 c.requires.ready

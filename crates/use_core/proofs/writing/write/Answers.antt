@@ -3,5 +3,5 @@ use Rattle.use_core.proofs.writing.write.Goals as goal
 pub returns-in_err-done-clause-ready : goal.returns-in_err-done-clause-ready
 returns-in_err-done-clause-ready g c = c.create.ensures.ready (g.F.Port.Port.store c.args.port.now) c.requires.ready
 
-pub insert-requires-clause-ready : goal.insert-requires-clause-ready
-insert-requires-clause-ready g c κs within = c.create.ensures.ready (g.F.Port.Port.store c.args.port.now) c.requires.ready
+pub put-requires-clause-ready : goal.put-requires-clause-ready
+put-requires-clause-ready g c κs within = c.create.ensures.ready (g.F.Port.Port.store c.args.port.now) c.requires.ready
