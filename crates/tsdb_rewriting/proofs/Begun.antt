@@ -51,20 +51,26 @@ told_bytes (Some bytes) is = refl
 
 module _ {J F S R P : Type 0} {means : disk.Ghosts J} {counts : counted.Ghosts J} where
   -- no job could begin, or there was none
-  pub not_begun : ((journal : J) → IsLawful (means.state journal)) → (store : Store)
-      → (old new : Core J F S R P means counts) → IsNotBegun old new → IsReady store old → GoesOn store old new
-  not_begun laws store old new not ready = record {
-    ready = record {
-      jobs = not.same.jobs [] [] ready.jobs;
-      unread = still_made (λ file. file.rights ≡ 0) (files_of old).places (files_of new).places not.places ready.unread;
-      of_store = still_made (λ file. file.name.store ≡ store) (files_of old).places (files_of new).places not.places
-          ready.of_store;
+  pub not_begun : ((journal : J) → IsLawful (means.state journal)) → (store : P → Store) (faults : P → ℕ) (port : P)
+      (old new : Core J F S R P means counts) (drawn : ℕ) → IsNotBegun old new → IsReady (store port) old
+      → GoesOn store faults port port old new drawn
+  not_begun laws store faults port old new drawn not ready = record {
+    serves = record {
+      ready = record {
+        jobs = not.same.jobs [] [] ready.jobs;
+        unread = still_made (λ file. file.rights ≡ 0) (files_of old).places (files_of new).places not.places ready.unread;
+        of_store = still_made (λ file. file.name.store ≡ store port) (files_of old).places (files_of new).places
+            not.places ready.of_store;
+      };
+      stays = record { slot = ap (λ log. slot_of log) not.logged.log.log; next = omega (arith, not.same.next) };
+      draws = omega (arith, not.same.next);
+      same_store = refl;
+      later = (
+        subst (λ (log : Frames J means counts). faults_under old ≤ faults_of log) (sym not.logged.log.log) (omega arith),
+        omega arith,
+      );
     };
     limit = not.limit;
-    slot = ap (λ log. slot_of log) not.logged.log.log;
-    next = omega (arith, not.same.next);
-    later = subst (λ (log : Frames J means counts). faults_under old ≤ faults_of log) (sym not.logged.log.log)
-        (omega arith);
     keeps = λ tells files at next serving.
         unchanged laws (IsDrawn old new) old new files at next at not.logged.log.log not.same.step serving;
   }
@@ -146,16 +152,27 @@ module _ {J F S R P : Type 0} {means : disk.Ghosts J} {counts : counted.Ghosts J
               (LeavesEither (files ++ served.put) (slot_of log) at next at)) begun.lists.logged.log.log served.moments;
         }
 
-        pub rewritten : GoesOn store old new
-        rewritten = record {
-          ready = ends.ready;
+        pub rewritten : (of : P → Store) (faults : P → ℕ) (port after : P) → store ≡ of port → of after ≡ of port
+            → faults port ≤ faults after → GoesOn of faults port after old new 1
+        rewritten of faults port after is same_store later = record {
+          serves = record {
+            ready = subst (λ (s : Store). IsReady s new) is ends.ready;
+            stays = record {
+              slot = ends.slot ∙ ap (λ log. slot_of log) begun.lists.logged.log.log;
+              next = omega (arith, begun.next, ends.next);
+            };
+            draws = omega (arith, begun.next, ends.next);
+            same_store = same_store;
+            later = (
+              subst (λ (log : Frames J means counts). faults_of log ≤ faults_under new) begun.lists.logged.log.log
+                  ends.later,
+              later,
+            );
+          };
           limit = ends.limit ∙ begun.lists.limit;
-          slot = ends.slot ∙ ap (λ log. slot_of log) begun.lists.logged.log.log;
-          next = omega (arith, begun.next, ends.next);
-          later = subst (λ (log : Frames J means counts). faults_of log ≤ faults_under new) begun.lists.logged.log.log
-              ends.later;
-          keeps = λ tells files at next serving. from_old files at next
-              (ends.keeps tells files at next (serving_rewrite laws tells files at next serving));
+          keeps = λ tells files at next serving.
+              let told : store.tells ≡ true = ap (λ (s : Store). s.tells) is ∙ tells in
+              from_old files at next (ends.keeps told files at next (serving_rewrite laws told files at next serving));
         }
 
       -- counts of faults rise from where they were before the job

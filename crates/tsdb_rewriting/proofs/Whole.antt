@@ -17,12 +17,11 @@ use Rattle.tsdb_outside.specs.Files.{NamedFile}
 use Rattle.tsdb_outside.specs.declared.disk.Disk as disk
 use Rattle.tsdb_outside.specs.declared.faults.Counted as counted
 use Rattle.tsdb_rewriting.proofs.Listed.{replaced_by}
-use Rattle.tsdb_rewriting.specs.Rewriting.{IsCompacted, IsFinished}
+use Rattle.tsdb_rewriting.specs.Rewriting.{IsCompacted, IsFinished, IsFullAtEnd}
 use Rattle.tsdb_serving.specs.Flushing.{faults_under}
 use Rattle.tsdb_serving.specs.Sweeping.{KeepsAllButOutgoing}
 use Rattle.tsdb_serving.specs.declared.fault.FlushFault.{FlushFault}
 use Rattle.tsdb_serving.specs.declared.fault.FlushFault.TheVariants as fault
-use Rattle.tsdb_base.specs.Limits.{end_of_numbers}
 
 module _ {J F S R P : Type 0} {means : disk.Ghosts J} {counts : counted.Ghosts J} (name : R → NamedFile) where
   pub compacted : (IsPlan : InputRuns → Type 0) (space : Space) (runs : InputRuns) (old mid new : Core J F S R P means counts)
@@ -76,18 +75,16 @@ module _ {J F S R P : Type 0} {means : disk.Ghosts J} {counts : counted.Ghosts J
           (no_less_swept mid new keeps))
       by (inr rose) = inr (rose_on before now later rose less)
 
-  pub counter_swept : (mid new : Core J F S R P means counts) → KeepsAllButOutgoing mid new
-      → (result : Result (Unit {0}) FlushFault)
-      → IfErr result (λ why. (counter : ℕ) → why ≡ fault.Full counter → counter ≡ next_of mid)
-      → IfErr result (λ why. (counter : ℕ) → why ≡ fault.Full counter → counter ≡ next_of new)
-  counter_swept mid new keeps result = subst (λ next. IfErr result
-      (λ why. (counter : ℕ) → why ≡ fault.Full counter → counter ≡ next)) (sym keeps.next)
+  pub full_swept : (mid new : Core J F S R P means counts) → KeepsAllButOutgoing mid new
+      → (result : Result (Unit {0}) FlushFault) → IfErr result (IsFullAtEnd (next_of mid))
+      → IfErr result (IsFullAtEnd (next_of new))
+  full_swept mid new keeps result = subst (λ next. IfErr result (IsFullAtEnd next)) (sym keeps.next)
 
 -- no number was asked for
-pub no_full : (result : Result (Unit {0}) FlushFault) → IfErr result (λ why. (counter : ℕ) → why ≢ fault.Full counter)
-    → IfErr result (λ why. (counter : ℕ) → why ≡ fault.Full counter → end_of_numbers < counter + 2)
-no_full (Ok value) not = tt
-no_full (Err why) not = λ counter is. absurd (not counter is)
+pub no_full : (result : Result (Unit {0}) FlushFault) (next : ℕ)
+    → IfErr result (λ why. (counter : ℕ) → why ≢ fault.Full counter) → IfErr result (IsFullAtEnd next)
+no_full (Ok value) next not = tt
+no_full (Err why) next not = λ counter is. absurd (not counter is)
 
 -- without hulls in order there is no answer that there is no plan
 module _ {A : Type 0} (result : Result (Option A) CoreFault) (why : CoreFault) where
@@ -99,10 +96,3 @@ module _ {A : Type 0} (result : Result (Option A) CoreFault) (why : CoreFault) w
 
   pub no_plan : (Order Plan : Type 0) → result ≡ Ok None → (¬ Order → result ≡ Err why) → (Order → ¬ Plan) → ¬ Plan
   no_plan Order Plan none disorder never plan = differ (sym none ∙ disorder (λ order. never order plan))
-
--- no counter is told where no numbers ended
-pub no_counter : (result : Result (Unit {0}) FlushFault) (next : ℕ)
-    → IfErr result (λ why. (counter : ℕ) → why ≢ fault.Full counter)
-    → IfErr result (λ why. (counter : ℕ) → why ≡ fault.Full counter → counter ≡ next)
-no_counter (Ok value) next not = tt
-no_counter (Err why) next not = λ counter is. absurd (not counter is)

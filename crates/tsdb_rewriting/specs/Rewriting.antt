@@ -1,5 +1,6 @@
 -- What the parts of a compaction ask for and leave.
-use Rattle.std.specs.Prelude.{◌≡◌, ◌⊎◌, ℕ, ◌≤◌, List, [], ◌∷◌, IfSome, Option, true}
+use Rattle.std.specs.Prelude.{◌≡◌, ◌⊎◌, ℕ, ◌+◌, ◌<◌, ◌≤◌, List, [], ◌∷◌, IfSome, Option, true}
+use Rattle.tsdb_base.specs.Limits.{end_of_numbers}
 use Rattle.tsdb_base.specs.declared.ids.Space.{Space}
 use Rattle.tsdb_base.specs.declared.ids.Space.TheVariants.{Sequence, Unsequence}
 use Rattle.tsdb_serving.specs.Inputs.{input_numbers}
@@ -25,8 +26,15 @@ use Rattle.tsdb_outside.specs.declared.faults.Counted as counted
 use Rattle.tsdb_plan.specs.declared.entry.FileEntry.{FileEntry}
 use Rattle.tsdb_state.specs.Stores.{IsStateOf}
 use Rattle.tsdb_serving.specs.Flushing.{IsReady, faults_under}
+use Rattle.tsdb_serving.specs.declared.fault.FlushFault.{FlushFault}
+use Rattle.tsdb_serving.specs.declared.fault.FlushFault.TheVariants.{Full}
 use Rattle.tsdb_serving.specs.Serving.{AreHeldWith, IsServedBy, slot_under}
 use Rattle.tsdb_state.specs.State.{Compaction, EngineState}
+
+-- A fault that says that the numbers for files are used up is there where too few are left, and has the next one.
+abbrev pub IsFullAtEnd : ℕ → FlushFault → Type 0
+IsFullAtEnd next fault =
+    (counter : ℕ) → fault ≡ Full counter → (end_of_numbers < counter + 2) × (counter ≡ next)
 
 -- The runs of both lists have left, and a file of this number stands in the place of that of its space, or none.
 pub record IsReplacedBy (number : ℕ) (space : Space) (runs : InputRuns) (old new : KeptFiles) : Type 0 where

@@ -1,7 +1,7 @@
 //! A compaction: the files of a plan become one. Depends on tsdb_core, tsdb_inner and tsdb_serving.
 ghost use Rattle.std.specs.List.{AllByRecursion as Each};
 ghost use Rattle.std.specs.Option.{option_map};
-ghost use Rattle.std.specs.Prelude.{◌≡◌, ◌≢◌, ◌⊎◌, ◌≤◌, ◌<◌, ◌+◌, ℕ, IfErr, IfOk, OnOk};
+ghost use Rattle.std.specs.Prelude.{◌≡◌, ◌≢◌, ◌≤◌, ℕ, IfErr, IfOk, OnOk};
 ghost use Rattle.tsdb_base.specs.declared.ids.Space.TheVariants.{Sequence as SequenceSpace};
 ghost use Rattle.tsdb_serving.specs.TasksFiles.{file_built};
 ghost use Rattle.tsdb_compactions.specs.Jobs.{IsJobFormed};
@@ -15,12 +15,12 @@ ghost use Rattle.tsdb_fileset.specs.Files.{AreKept};
 ghost use Rattle.tsdb_base.specs.Causes.{Rose};
 ghost use Rattle.tsdb_outside.specs.Causes.{HasStoreCause};
 ghost use Rattle.tsdb_outside.specs.Files.{Store};
-ghost use Rattle.tsdb_rewriting.specs.Rewriting.{EndsRewrite, IsCompacted, IsFinished, IsOutputOfStore, IsRewriting};
-ghost use Rattle.tsdb_serving.specs.Flushing.{GoesOn, IsReady, faults_under};
+ghost use Rattle.tsdb_rewriting.specs.Rewriting.{EndsRewrite, IsCompacted, IsFinished, IsFullAtEnd};
+ghost use Rattle.tsdb_rewriting.specs.Rewriting.{IsOutputOfStore, IsRewriting};
+ghost use Rattle.tsdb_serving.specs.Flushing.{GoesOn, HasCountedFault, IsReady, faults_under};
 ghost use Rattle.tsdb_serving.specs.Serving.{IsSure};
 ghost use Rattle.tsdb_serving.specs.Sweeping.{LeavesNothing};
 ghost use Rattle.tsdb_serving.specs.declared.fault.FlushFault.{FlushFault as FaultOf};
-ghost use Rattle.tsdb_base.specs.Limits.{end_of_numbers};
 ghost use Rattle.tsdb_state.specs.State.{ToldContents};
 
 use std::alloc::Global;
@@ -43,17 +43,10 @@ pub fn compact_inner<J: Journal, F: Files>(
     requires ready { IsReady (F.Port.store port.old) core.old }
     ensures compacted { OnOk result (IsCompacted (IsInnerRuns space core.old) space core.old core.new) }
     ensures swept { LeavesNothing (F.Port.faults port.old) (F.Port.faults port.new) core.new }
-    ensures goes_on { GoesOn (F.Port.store port.old) core.old core.new }
-    ensures same_store { F.Port.store port.new ≡ F.Port.store port.old }
+    ensures goes_on { GoesOn F.Port.store F.Port.faults port.old port.new core.old core.new 1 }
     ensures cause { IsSure (F.Port.store port.old) core.old → IfErr result (λ fault. fault ≡ FaultOf.Device
-        → Rose (faults_under core.old) (faults_under core.new)
-        ⊎ Rose (F.Port.faults port.old) (F.Port.faults port.new)) }
-    ensures full { IfErr result (λ fault. (counter : ℕ) → fault ≡ FaultOf.Full counter
-        → end_of_numbers < counter + 2) }
-    ensures draws { next_of core.new ≤ next_of core.old + 1 }
-    ensures counter { IfErr result (λ fault. (counter : ℕ) → fault ≡ FaultOf.Full counter
-        → counter ≡ next_of core.new) }
-    ensures later { F.Port.faults port.old ≤ F.Port.faults port.new }
+        → HasCountedFault F.Port.faults port.old port.new core.old core.new) }
+    ensures full { IfErr result (IsFullAtEnd (next_of core.new)) }
 {
     let compacted = replace_inner(alloc, core, port, space);
     sweep(core, port);
@@ -69,17 +62,10 @@ fn replace_inner<J: Journal, F: Files>(
 ) -> Result<(), FlushFault>
     requires ready { IsReady (F.Port.store port.old) core.old }
     ensures compacted { OnOk result (IsCompacted (IsInnerRuns space core.old) space core.old core.new) }
-    ensures goes_on { GoesOn (F.Port.store port.old) core.old core.new }
-    ensures same_store { F.Port.store port.new ≡ F.Port.store port.old }
+    ensures goes_on { GoesOn F.Port.store F.Port.faults port.old port.new core.old core.new 1 }
     ensures cause { IsSure (F.Port.store port.old) core.old → IfErr result (λ fault. fault ≡ FaultOf.Device
-        → Rose (faults_under core.old) (faults_under core.new)
-        ⊎ Rose (F.Port.faults port.old) (F.Port.faults port.new)) }
-    ensures full { IfErr result (λ fault. (counter : ℕ) → fault ≡ FaultOf.Full counter
-        → end_of_numbers < counter + 2) }
-    ensures draws { next_of core.new ≤ next_of core.old + 1 }
-    ensures counter { IfErr result (λ fault. (counter : ℕ) → fault ≡ FaultOf.Full counter
-        → counter ≡ next_of core.new) }
-    ensures later { F.Port.faults port.old ≤ F.Port.faults port.new }
+        → HasCountedFault F.Port.faults port.old port.new core.old core.new) }
+    ensures full { IfErr result (IsFullAtEnd (next_of core.new)) }
 {
     match core.begin_inner(space) {
         Ok(Some(job)) => rewrite(alloc, core, port, Kind::Inner, job),
@@ -97,17 +83,10 @@ pub fn compact_cross<J: Journal, F: Files>(
     requires ready { IsReady (F.Port.store port.old) core.old }
     ensures compacted { OnOk result (IsCompacted (IsCrossRuns core.old) SequenceSpace core.old core.new) }
     ensures swept { LeavesNothing (F.Port.faults port.old) (F.Port.faults port.new) core.new }
-    ensures goes_on { GoesOn (F.Port.store port.old) core.old core.new }
-    ensures same_store { F.Port.store port.new ≡ F.Port.store port.old }
+    ensures goes_on { GoesOn F.Port.store F.Port.faults port.old port.new core.old core.new 1 }
     ensures cause { IsSure (F.Port.store port.old) core.old → IfErr result (λ fault. fault ≡ FaultOf.Device
-        → Rose (faults_under core.old) (faults_under core.new)
-        ⊎ Rose (F.Port.faults port.old) (F.Port.faults port.new)) }
-    ensures full { IfErr result (λ fault. (counter : ℕ) → fault ≡ FaultOf.Full counter
-        → end_of_numbers < counter + 2) }
-    ensures draws { next_of core.new ≤ next_of core.old + 1 }
-    ensures counter { IfErr result (λ fault. (counter : ℕ) → fault ≡ FaultOf.Full counter
-        → counter ≡ next_of core.new) }
-    ensures later { F.Port.faults port.old ≤ F.Port.faults port.new }
+        → HasCountedFault F.Port.faults port.old port.new core.old core.new) }
+    ensures full { IfErr result (IsFullAtEnd (next_of core.new)) }
 {
     let compacted = replace_cross(alloc, core, port);
     sweep(core, port);
@@ -122,17 +101,10 @@ fn replace_cross<J: Journal, F: Files>(
 ) -> Result<(), FlushFault>
     requires ready { IsReady (F.Port.store port.old) core.old }
     ensures compacted { OnOk result (IsCompacted (IsCrossRuns core.old) SequenceSpace core.old core.new) }
-    ensures goes_on { GoesOn (F.Port.store port.old) core.old core.new }
-    ensures same_store { F.Port.store port.new ≡ F.Port.store port.old }
+    ensures goes_on { GoesOn F.Port.store F.Port.faults port.old port.new core.old core.new 1 }
     ensures cause { IsSure (F.Port.store port.old) core.old → IfErr result (λ fault. fault ≡ FaultOf.Device
-        → Rose (faults_under core.old) (faults_under core.new)
-        ⊎ Rose (F.Port.faults port.old) (F.Port.faults port.new)) }
-    ensures full { IfErr result (λ fault. (counter : ℕ) → fault ≡ FaultOf.Full counter
-        → end_of_numbers < counter + 2) }
-    ensures draws { next_of core.new ≤ next_of core.old + 1 }
-    ensures counter { IfErr result (λ fault. (counter : ℕ) → fault ≡ FaultOf.Full counter
-        → counter ≡ next_of core.new) }
-    ensures later { F.Port.faults port.old ≤ F.Port.faults port.new }
+        → HasCountedFault F.Port.faults port.old port.new core.old core.new) }
+    ensures full { IfErr result (IsFullAtEnd (next_of core.new)) }
 {
     match core.begin_cross() {
         Ok(Some(job)) => rewrite(alloc, core, port, Kind::Cross, job),
@@ -163,8 +135,7 @@ fn rewrite<J: Journal, F: Files>(
     ensures same_store { F.Port.store port.new ≡ F.Port.store port.old }
     ensures cause { (told : ToldContents) → TellsTruth F.Right.file told job
         → IfErr result (λ fault. fault ≡ FaultOf.Device
-        → Rose (faults_under core.old) (faults_under core.new)
-        ⊎ Rose (F.Port.faults port.old) (F.Port.faults port.new)) }
+        → HasCountedFault F.Port.faults port.old port.new core.old core.new) }
     ensures full { IfErr result (λ fault. (counter : ℕ) → fault ≢ FaultOf.Full counter) }
     ensures later { F.Port.faults port.old ≤ F.Port.faults port.new }
 {

@@ -1,4 +1,4 @@
-use Rattle.std.proofs.Common.{◌≡◌, Ok, ap, arith, inl, inr, refl, subst, sym, ◌∙◌}
+use Rattle.std.proofs.Common.{◌≡◌, Ok, ap, inl, inr, refl, subst, sym, ◌∙◌}
 use Rattle.tsdb_base.specs.declared.ids.Space.TheVariants.{Sequence}
 use Rattle.tsdb_serving.proofs.Beginnings.{plan_fits}
 use Rattle.tsdb_serving.specs.Beginnings.{HaveHulls, IsBeginAnswer, IsBegunOrNot, IsCrossRuns, IsInnerRuns}
@@ -7,7 +7,7 @@ use Rattle.tsdb_serving.specs.TheVariants.{Memory as NoMemory}
 use Rattle.tsdb_rewriting.proofs.Begun.{cause_of, not_begun, rewritten, sure_truth}
 use Rattle.tsdb_rewriting.proofs.Outputs.{counter_is, full_counter, not_device}
 use Rattle.tsdb_rewriting.proofs.Ready.{is_rewriting}
-use Rattle.tsdb_rewriting.proofs.Whole.{compacted, no_counter, no_full, no_plan}
+use Rattle.tsdb_rewriting.proofs.Whole.{compacted, no_full, no_plan}
 use Rattle.tsdb_serving.specs.declared.fault.FlushFault.TheVariants as fault
 use Rattle.tsdb_rewriting.proofs.compacting.replace_inner.Goals as goal
 
@@ -32,6 +32,8 @@ returns-in-Ok-Some-clause-goes_on g c =
     (c.in-Ok-Some.is ∙ ap Ok c.in-Ok-Some.field-0-is) c.begin_inner.ensures.begun in
     rewritten g.F.Right.ReadRight.file (g.F.Port.Port.store c.args.port.now) c.args.space begun.0 c.args.core.now c.begin_inner.new.self
     c.in-Ok-Some.job begun.2 c.requires.ready c.rewrite.new.core c.rewrite.ensures.ends g.F.Right.ReadRight.tells
+    g.F.Port.Port.store g.F.Port.Counted.faults c.args.port.now c.rewrite.new.port refl c.rewrite.ensures.same_store
+    c.rewrite.ensures.later
 
 pub returns-in-Ok-Some-clause-cause : goal.returns-in-Ok-Some-clause-cause
 returns-in-Ok-Some-clause-cause g c = λ sure.
@@ -44,7 +46,7 @@ returns-in-Ok-Some-clause-cause g c = λ sure.
     (c.rewrite.ensures.cause told.0 told.1)
 
 pub returns-in-Ok-Some-clause-full : goal.returns-in-Ok-Some-clause-full
-returns-in-Ok-Some-clause-full g c = no_full c.rewrite.result c.rewrite.ensures.full
+returns-in-Ok-Some-clause-full g c = no_full c.rewrite.result (next_of c.rewrite.new.core) c.rewrite.ensures.full
 
 pub returns-in-Ok-None-clause-compacted : goal.returns-in-Ok-None-clause-compacted
 returns-in-Ok-None-clause-compacted g c =
@@ -60,49 +62,25 @@ pub returns-in-Ok-None-clause-goes_on : goal.returns-in-Ok-None-clause-goes_on
 returns-in-Ok-None-clause-goes_on g c =
     let not = subst (IsBegunOrNot g.F.Right.ReadRight.file c.args.space (IsInnerRuns c.args.space c.args.core.now) c.args.core.now c.begin_inner.new.self)
     (c.in-Ok-None.is ∙ ap Ok c.in-Ok-None.field-0-is) c.begin_inner.ensures.begun in
-    not_begun g.J.Disk.lawful (g.F.Port.Port.store c.args.port.now) c.args.core.now c.begin_inner.new.self not
+    not_begun g.J.Disk.lawful g.F.Port.Port.store g.F.Port.Counted.faults c.args.port.now c.args.core.now c.begin_inner.new.self 1 not
     c.requires.ready
 
 pub returns-in-Err-clause-goes_on : goal.returns-in-Err-clause-goes_on
-returns-in-Err-clause-goes_on g c = not_begun g.J.Disk.lawful (g.F.Port.Port.store c.args.port.now) c.args.core.now
-    c.begin_inner.new.self (subst (IsBegunOrNot g.F.Right.ReadRight.file c.args.space (IsInnerRuns c.args.space c.args.core.now) c.args.core.now c.begin_inner.new.self)
+returns-in-Err-clause-goes_on g c = not_begun g.J.Disk.lawful g.F.Port.Port.store g.F.Port.Counted.faults
+    c.args.port.now c.args.core.now c.begin_inner.new.self 1
+    (subst (IsBegunOrNot g.F.Right.ReadRight.file c.args.space (IsInnerRuns c.args.space c.args.core.now) c.args.core.now c.begin_inner.new.self)
     c.in-Err.is c.begin_inner.ensures.begun) c.requires.ready
 
 pub returns-in-Err-clause-cause : goal.returns-in-Err-clause-cause
 returns-in-Err-clause-cause g c = λ sure is. absurd (not_device c.in-Err.fault (sym c.of_core.ensures ∙ is))
 
 pub returns-in-Err-clause-full : goal.returns-in-Err-clause-full
-returns-in-Err-clause-full g c = λ counter is. full_counter (IsInnerRuns c.args.space c.args.core.now) (next_of c.args.core.now) (Unit {0}) c.begin_inner.result c.in-Err.fault c.in-Err.is (λ not. not tt)
-    (λ order. c.begin_inner.ensures.answer)
-    counter (sym c.of_core.ensures ∙ is)
-
-pub returns-in-Ok-Some-clause-draws : goal.returns-in-Ok-Some-clause-draws
-returns-in-Ok-Some-clause-draws g c =
-    let begun = subst (IsBegunOrNot g.F.Right.ReadRight.file c.args.space (IsInnerRuns c.args.space c.args.core.now) c.args.core.now c.begin_inner.new.self)
-    (c.in-Ok-Some.is ∙ ap Ok c.in-Ok-Some.field-0-is) c.begin_inner.ensures.begun in
-    let drawn = begun.2.next in
-    let ends = c.rewrite.ensures.ends.next in
-    omega (arith, drawn, ends)
-
-pub returns-in-Ok-Some-clause-counter : goal.returns-in-Ok-Some-clause-counter
-returns-in-Ok-Some-clause-counter g c = no_counter c.rewrite.result (next_of c.rewrite.new.core) c.rewrite.ensures.full
-
-pub returns-in-Ok-None-clause-draws : goal.returns-in-Ok-None-clause-draws
-returns-in-Ok-None-clause-draws g c =
+returns-in-Err-clause-full g c = λ counter is.
     let not = subst (IsBegunOrNot g.F.Right.ReadRight.file c.args.space (IsInnerRuns c.args.space c.args.core.now) c.args.core.now c.begin_inner.new.self)
-    (c.in-Ok-None.is ∙ ap Ok c.in-Ok-None.field-0-is) c.begin_inner.ensures.begun in
-    let same = not.same.next in
-    omega (arith, same)
-
-pub returns-in-Err-clause-draws : goal.returns-in-Err-clause-draws
-returns-in-Err-clause-draws g c =
-    let not = subst (IsBegunOrNot g.F.Right.ReadRight.file c.args.space (IsInnerRuns c.args.space c.args.core.now) c.args.core.now c.begin_inner.new.self) c.in-Err.is c.begin_inner.ensures.begun in
-    let same = not.same.next in
-    omega (arith, same)
-
-pub returns-in-Err-clause-counter : goal.returns-in-Err-clause-counter
-returns-in-Err-clause-counter g c = λ counter is.
-    let not = subst (IsBegunOrNot g.F.Right.ReadRight.file c.args.space (IsInnerRuns c.args.space c.args.core.now) c.args.core.now c.begin_inner.new.self) c.in-Err.is c.begin_inner.ensures.begun in
-    counter_is (IsInnerRuns c.args.space c.args.core.now) (next_of c.args.core.now) (Unit {0}) c.begin_inner.result c.in-Err.fault c.in-Err.is (λ not. not tt)
-    (λ order. c.begin_inner.ensures.answer) counter (sym c.of_core.ensures ∙ is)
-    ∙ sym not.same.next
+    c.in-Err.is c.begin_inner.ensures.begun in (
+      full_counter (IsInnerRuns c.args.space c.args.core.now) (next_of c.args.core.now) (Unit {0}) c.begin_inner.result c.in-Err.fault c.in-Err.is (λ not. not tt)
+          (λ order. c.begin_inner.ensures.answer) counter (sym c.of_core.ensures ∙ is),
+      counter_is (IsInnerRuns c.args.space c.args.core.now) (next_of c.args.core.now) (Unit {0}) c.begin_inner.result c.in-Err.fault c.in-Err.is (λ not. not tt)
+          (λ order. c.begin_inner.ensures.answer) counter (sym c.of_core.ensures ∙ is)
+          ∙ sym not.same.next,
+    )
