@@ -42,8 +42,23 @@ impl<J: Journal, F: Files> Served<J, F> {
     pub fn serve(&mut self, alloc: Global, command: &Command) -> Reply
         requires { IsWellFormed command.now }
     {
-        serve::<J, F>(alloc, &mut self.core, &mut self.port, command)
+        serve_ready(alloc, &mut self.core, &mut self.port, command)
     }
+}
+
+/// The reply to a command, after which the core is ready for the next.
+fn serve_ready<J: Journal, F: Files>(
+    alloc: Global,
+    core: &mut Core<J, F>,
+    port: &mut F::Port,
+    command: &Command,
+) -> Reply
+    requires well_formed { IsWellFormed command.now }
+    requires ready { IsReady (F.Port.store port.old) core.old }
+    ensures ready { IsReady (F.Port.store port.old) core.new }
+    ensures same_store { F.Port.store port.new ≡ F.Port.store port.old }
+{
+    serve(alloc, core, port, command)
 }
 
 impl Served<MemJournal, MemFiles> {

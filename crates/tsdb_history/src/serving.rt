@@ -1,9 +1,8 @@
 //! One command. Depends on tsdb_serving, tsdb_querying and tsdb_rewriting.
-ghost use Rattle.std.specs.Prelude.{◌≡◌, ◌≢◌, ◌⊎◌, ◌+◌, ◌≤◌, ℕ, true};
+ghost use Rattle.std.specs.Prelude.{◌≡◌, ◌≢◌, ℕ, true};
 ghost use Rattle.tsdb_base.specs.declared.answers.Answer.{Answer as AnswerOf};
 ghost use Rattle.tsdb_base.specs.declared.ids.Space.TheVariants.{Sequence as SequenceSpace};
 ghost use Rattle.tsdb_querying.specs.Beginnings.{IsCrossRuns, IsInnerRuns};
-ghost use Rattle.tsdb_querying.specs.Core.{next_of};
 ghost use Rattle.tsdb_querying.specs.Listings.{TellsStore};
 ghost use Rattle.tsdb_history.specs.Reach.{max_drawn};
 ghost use Rattle.tsdb_history.specs.Serves.{HasCompacted, HasFlushed};
@@ -13,8 +12,8 @@ ghost use Rattle.tsdb_model.specs.declared.reply.Listing.{Listing};
 ghost use Rattle.tsdb_model.specs.declared.reply.Reply.{Reply as ReplyOf};
 ghost use Rattle.tsdb_base.specs.Causes.{Rose};
 ghost use Rattle.tsdb_rewriting.specs.Rewriting.{IsCompacted};
-ghost use Rattle.tsdb_querying.specs.Flushing.{IsReady, faults_under};
-ghost use Rattle.tsdb_querying.specs.Serving.{ServesCommand, HasFullCause, IsSure, StaysInPlace};
+ghost use Rattle.tsdb_querying.specs.Flushing.{HasCountedFault, IsReady, Serves};
+ghost use Rattle.tsdb_querying.specs.Serving.{ServesCommand, HasFullCause, IsSure};
 ghost use Rattle.tsdb_querying.specs.Sweeping.{LeavesNothing, StaysEmpty};
 
 use std::alloc::Global;
@@ -35,16 +34,10 @@ pub fn serve<J: Journal, F: Files>(
     requires well_formed { IsWellFormed command.now }
     requires ready { IsReady (F.Port.store port.old) core.old }
     ensures answers { (F.Port.store port.old).tells ≡ true → ServesCommand core.old core.new command.now result }
-    ensures ready { IsReady (F.Port.store port.old) core.new }
-    ensures stays { StaysInPlace core.old core.new }
-    ensures draws { next_of core.new ≤ next_of core.old + max_drawn }
+    ensures serves { Serves F.Port.store F.Port.faults port.old port.new core.old core.new max_drawn }
     ensures full { HasFullCause core.new result }
-    ensures same_store { F.Port.store port.new ≡ F.Port.store port.old }
     ensures cause { IsSure (F.Port.store port.old) core.old → result ≡ ReplyOf.Plain AnswerOf.Device
-        → Rose (faults_under core.old) (faults_under core.new)
-        ⊎ Rose (F.Port.faults port.old) (F.Port.faults port.new) }
-    ensures later { (faults_under core.old ≤ faults_under core.new)
-        × (F.Port.faults port.old ≤ F.Port.faults port.new) }
+        → HasCountedFault F.Port.faults port.old port.new core.old core.new }
     ensures flushed { command.now ≡ CommandOf.Flush → result ≡ ReplyOf.Plain AnswerOf.Done → HasFlushed core.new }
     ensures compacted { result ≡ ReplyOf.Plain AnswerOf.Done → HasCompacted command.now core.old core.new }
     ensures listed { (listing : Listing) → command.now ≡ CommandOf.ShowFiles → result ≡ ReplyOf.Files listing
@@ -79,15 +72,10 @@ fn query<J: Journal, F: Files>(
 ) -> Reply
     requires ready { IsReady (F.Port.store port.old) core.old }
     ensures answers { ServesCommand core.old core.new (CommandOf.Select device.now items.now range.now) result }
-    ensures ready { IsReady (F.Port.store port.old) core.new }
-    ensures stays { StaysInPlace core.old core.new }
-    ensures draws { next_of core.new ≡ next_of core.old }
+    ensures serves { Serves F.Port.store F.Port.faults port.old port.new core.old core.new 0 }
     ensures no_full { (counter : ℕ) → result ≢ ReplyOf.Plain (AnswerOf.Full counter) }
-    ensures same_store { F.Port.store port.new ≡ F.Port.store port.old }
     ensures cause { IsSure (F.Port.store port.old) core.old → result ≡ ReplyOf.Plain AnswerOf.Device
         → Rose (F.Port.faults port.old) (F.Port.faults port.new) }
-    ensures faults { faults_under core.new ≡ faults_under core.old }
-    ensures later { F.Port.faults port.old ≤ F.Port.faults port.new }
     ensures swept { LeavesNothing (F.Port.faults port.old) (F.Port.faults port.new) core.new }
 {
     if ask_aggregates(items) {
@@ -105,15 +93,9 @@ fn serve_flush<J: Journal, F: Files>(
     requires ready { IsReady (F.Port.store port.old) core.old }
     ensures answers { (F.Port.store port.old).tells ≡ true
         → ServesCommand core.old core.new CommandOf.Flush (ReplyOf.Plain result) }
-    ensures ready { IsReady (F.Port.store port.old) core.new }
-    ensures stays { StaysInPlace core.old core.new }
-    ensures draws { next_of core.new ≤ next_of core.old + 6 }
+    ensures serves { Serves F.Port.store F.Port.faults port.old port.new core.old core.new 6 }
     ensures full { HasFullCause core.new (ReplyOf.Plain result) }
-    ensures same_store { F.Port.store port.new ≡ F.Port.store port.old }
-    ensures cause { result ≡ AnswerOf.Device → Rose (faults_under core.old) (faults_under core.new)
-        ⊎ Rose (F.Port.faults port.old) (F.Port.faults port.new) }
-    ensures later { (faults_under core.old ≤ faults_under core.new)
-        × (F.Port.faults port.old ≤ F.Port.faults port.new) }
+    ensures cause { result ≡ AnswerOf.Device → HasCountedFault F.Port.faults port.old port.new core.old core.new }
     ensures flushed { result ≡ AnswerOf.Done → HasFlushed core.new }
     ensures swept { LeavesNothing (F.Port.faults port.old) (F.Port.faults port.new) core.new }
 {
@@ -133,16 +115,10 @@ fn serve_inner<J: Journal, F: Files>(
     requires ready { IsReady (F.Port.store port.old) core.old }
     ensures answers { (F.Port.store port.old).tells ≡ true
         → ServesCommand core.old core.new (CommandOf.CompactInner space) (ReplyOf.Plain result) }
-    ensures ready { IsReady (F.Port.store port.old) core.new }
-    ensures stays { StaysInPlace core.old core.new }
-    ensures draws { next_of core.new ≤ next_of core.old + 1 }
+    ensures serves { Serves F.Port.store F.Port.faults port.old port.new core.old core.new 1 }
     ensures full { HasFullCause core.new (ReplyOf.Plain result) }
-    ensures same_store { F.Port.store port.new ≡ F.Port.store port.old }
     ensures cause { IsSure (F.Port.store port.old) core.old → result ≡ AnswerOf.Device
-        → Rose (faults_under core.old) (faults_under core.new)
-        ⊎ Rose (F.Port.faults port.old) (F.Port.faults port.new) }
-    ensures later { (faults_under core.old ≤ faults_under core.new)
-        × (F.Port.faults port.old ≤ F.Port.faults port.new) }
+        → HasCountedFault F.Port.faults port.old port.new core.old core.new }
     ensures compacted { result ≡ AnswerOf.Done → IsCompacted (IsInnerRuns space core.old) space core.old core.new }
     ensures swept { LeavesNothing (F.Port.faults port.old) (F.Port.faults port.new) core.new }
 {
@@ -161,16 +137,10 @@ fn serve_cross<J: Journal, F: Files>(
     requires ready { IsReady (F.Port.store port.old) core.old }
     ensures answers { (F.Port.store port.old).tells ≡ true
         → ServesCommand core.old core.new CommandOf.CompactCross (ReplyOf.Plain result) }
-    ensures ready { IsReady (F.Port.store port.old) core.new }
-    ensures stays { StaysInPlace core.old core.new }
-    ensures draws { next_of core.new ≤ next_of core.old + 1 }
+    ensures serves { Serves F.Port.store F.Port.faults port.old port.new core.old core.new 1 }
     ensures full { HasFullCause core.new (ReplyOf.Plain result) }
-    ensures same_store { F.Port.store port.new ≡ F.Port.store port.old }
     ensures cause { IsSure (F.Port.store port.old) core.old → result ≡ AnswerOf.Device
-        → Rose (faults_under core.old) (faults_under core.new)
-        ⊎ Rose (F.Port.faults port.old) (F.Port.faults port.new) }
-    ensures later { (faults_under core.old ≤ faults_under core.new)
-        × (F.Port.faults port.old ≤ F.Port.faults port.new) }
+        → HasCountedFault F.Port.faults port.old port.new core.old core.new }
     ensures compacted { result ≡ AnswerOf.Done → IsCompacted (IsCrossRuns core.old) SequenceSpace core.old core.new }
     ensures swept { LeavesNothing (F.Port.faults port.old) (F.Port.faults port.new) core.new }
 {

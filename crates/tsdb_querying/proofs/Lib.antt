@@ -8,6 +8,7 @@ pub use Rattle.tsdb_serving.proofs.Held
 pub use Rattle.tsdb_serving.proofs.Differing
 pub use Rattle.tsdb_serving.proofs.Parts
 pub use Rattle.tsdb_serving.proofs.Steps
+pub use Rattle.tsdb_serving.proofs.Flushes
 pub use Rattle.tsdb_serving.proofs.Swept
 pub use Rattle.tsdb_serving.proofs.Answered as ServingAnswered
 pub use Rattle.tsdb_serving.proofs.Full as ServingFull

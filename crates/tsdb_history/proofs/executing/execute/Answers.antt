@@ -84,7 +84,7 @@ loop-numbered-preserved g c =
     c.loop-numbered.invariant.so_far c.loop-numbered.invariant.long within refl index counts_are in
     let same : c.push.new.self.items ≡ c.loop-numbered.history.items ++ told ∷ [] = c.in-Ok.ensures.items in
     let same_store = c.loop-numbered.invariant.same_store in
-    let later = c.serve-reply.ensures.later in
+    let later = c.serve-reply.ensures.serves.later in
     let sofar_later = c.loop-numbered.invariant.later in
     record {
       long = ap length whole ∙ long;
@@ -94,14 +94,14 @@ loop-numbered-preserved g c =
       so_far = subst (λ s. SoFar s c.push.new.self.items more (take c.loop-numbered.counts.len (new ++ drop (length new) old))) (sym next)
           (subst (λ h. SoFar (take at script ++ numbered ∷ []) h more (take c.loop-numbered.counts.len (new ++ drop (length new) old))) (sym same)
           (subst (SoFar (take at script ++ numbered ∷ []) (c.loop-numbered.history.items ++ told ∷ []) more) (sym whole) pushed));
-      same_store = c.serve-reply.ensures.same_store ∙ same_store;
-      ready = subst (λ s. IsReady s core) same_store c.serve-reply.ensures.ready;
-      stays = stays_on first mid core c.loop-numbered.invariant.stays c.serve-reply.ensures.stays;
-      drawn = (let drawn = c.loop-numbered.invariant.drawn in let one = c.serve-reply.ensures.draws in
+      same_store = c.serve-reply.ensures.serves.same_store ∙ same_store;
+      ready = subst (λ s. IsReady s core) same_store c.serve-reply.ensures.serves.ready;
+      stays = stays_on first mid core c.loop-numbered.invariant.stays c.serve-reply.ensures.serves.stays;
+      drawn = (let drawn = c.loop-numbered.invariant.drawn in let one = c.serve-reply.ensures.serves.draws in
           omega (arith, drawn, one));
       served = λ tells files start serving. one_more_served g.J.Disk.lawful first mid core files start entries
           numbered.command told.reply (c.loop-numbered.invariant.served tells files start serving)
-          c.loop-numbered.invariant.stays c.serve-reply.ensures.stays c.serve-reply.ensures.full
+          c.loop-numbered.invariant.stays c.serve-reply.ensures.serves.stays c.serve-reply.ensures.full
           (c.serve-reply.ensures.answers (ap (λ s. s.tells) same_store ∙ tells)) c.serve-reply.ensures.listed
           c.serve-reply.ensures.flushed c.serve-reply.ensures.shown;
       sure = λ sure. sure_still store mid core numbered.command told.reply

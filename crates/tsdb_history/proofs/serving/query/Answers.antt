@@ -1,3 +1,4 @@
+use Rattle.std.proofs.Common.{arith}
 use Rattle.tsdb_history.proofs.Replies.{sure_cause}
 use Rattle.tsdb_base.specs.Causes.{Rose}
 use Rattle.tsdb_history.proofs.serving.query.Goals as goal
@@ -17,3 +18,27 @@ returns-then-ask_aggregates-clause-answers g c = c.select_aggregates.ensures.ans
 
 pub returns-clause-answers : goal.returns-clause-answers
 returns-clause-answers g c = c.select_rows.ensures.answers
+
+pub returns-then-ask_aggregates-clause-serves : goal.returns-then-ask_aggregates-clause-serves
+returns-then-ask_aggregates-clause-serves g c =
+    let faults = c.select_aggregates.ensures.faults in
+    let next = c.select_aggregates.ensures.draws in
+    record {
+      ready = c.select_aggregates.ensures.ready;
+      stays = c.select_aggregates.ensures.stays;
+      draws = omega (arith, next);
+      same_store = c.select_aggregates.ensures.same_store;
+      later = (omega (arith, faults), c.select_aggregates.ensures.later);
+    }
+
+pub returns-clause-serves : goal.returns-clause-serves
+returns-clause-serves g c =
+    let faults = c.select_rows.ensures.faults in
+    let next = c.select_rows.ensures.draws in
+    record {
+      ready = c.select_rows.ensures.ready;
+      stays = c.select_rows.ensures.stays;
+      draws = omega (arith, next);
+      same_store = c.select_rows.ensures.same_store;
+      later = (omega (arith, faults), c.select_rows.ensures.later);
+    }

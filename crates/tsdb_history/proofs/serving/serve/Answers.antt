@@ -1,9 +1,10 @@
-use Rattle.std.proofs.Common.{◌∙◌, ap, refl, subst, sym}
+use Rattle.std.proofs.Common.{◌∙◌, ap, arith, refl, subst, sym}
 use Rattle.tsdb_model.specs.declared.command.Command.TheVariants.{Select}
 use Rattle.tsdb_model.specs.declared.reply.Reply.TheVariants.{Plain}
 use Rattle.tsdb_querying.specs.Serving.{ServesCommand}
 use Rattle.tsdb_fileset.specs.Files.{KeptFiles}
 use Rattle.tsdb_querying.proofs.ServingFull.{no_full}
+use Rattle.tsdb_querying.proofs.Flushes.{serves_alone, serves_within}
 use Rattle.tsdb_querying.proofs.Swept.{empty_without_faults}
 use Rattle.tsdb_history.proofs.serving.serve.Goals as goal
 
@@ -11,9 +12,6 @@ pub returns-in-Create-clause-answers : goal.returns-in-Create-clause-answers
 returns-in-Create-clause-answers g c = λ tells.
     subst (λ command. ServesCommand c.args.core.now c.create.new.core command (Plain c.create.result)) (sym c.in-Create.is)
     c.create.ensures.answers
-
-pub returns-in-Create-clause-ready : goal.returns-in-Create-clause-ready
-returns-in-Create-clause-ready g c = c.create.ensures.ready (g.F.Port.Port.store c.args.port.now) c.requires.ready
 
 pub returns-in-Insert-clause-answers : goal.returns-in-Insert-clause-answers
 returns-in-Insert-clause-answers g c = λ tells.
@@ -24,9 +22,6 @@ pub returns-in-Delete-clause-answers : goal.returns-in-Delete-clause-answers
 returns-in-Delete-clause-answers g c = λ tells.
     subst (λ command. ServesCommand c.args.core.now c.delete.new.core command (Plain c.delete.result)) (sym c.in-Delete.is)
     c.delete.ensures.answers
-
-pub returns-in-Delete-clause-ready : goal.returns-in-Delete-clause-ready
-returns-in-Delete-clause-ready g c = c.delete.ensures.ready (g.F.Port.Port.store c.args.port.now) c.requires.ready
 
 pub returns-in-Select-clause-answers : goal.returns-in-Select-clause-answers
 returns-in-Select-clause-answers g c = λ tells.
@@ -137,3 +132,43 @@ returns-in-CompactInner-clause-swept g c = λ empty. empty_without_faults c.serv
 pub returns-in-CompactCross-clause-swept : goal.returns-in-CompactCross-clause-swept
 returns-in-CompactCross-clause-swept g c = λ empty. empty_without_faults c.serve_cross.new.core (g.F.Port.Counted.faults c.args.port.now)
     (g.F.Port.Counted.faults c.serve_cross.new.port) c.serve_cross.ensures.swept
+
+pub returns-in-Create-clause-serves : goal.returns-in-Create-clause-serves
+returns-in-Create-clause-serves g c = serves_within g.F.Port.Port.store g.F.Port.Counted.faults c.args.port.now c.args.port.now
+    c.args.core.now c.create.new.core 0 6 (omega arith)
+    (serves_alone g.F.Port.Port.store g.F.Port.Counted.faults c.args.port.now c.args.core.now c.create.new.core
+    (c.create.ensures.ready (g.F.Port.Port.store c.args.port.now) c.requires.ready) c.create.ensures.stays
+    c.create.ensures.draws c.create.ensures.later)
+
+pub returns-in-Delete-clause-serves : goal.returns-in-Delete-clause-serves
+returns-in-Delete-clause-serves g c = serves_within g.F.Port.Port.store g.F.Port.Counted.faults c.args.port.now c.args.port.now
+    c.args.core.now c.delete.new.core 0 6 (omega arith)
+    (serves_alone g.F.Port.Port.store g.F.Port.Counted.faults c.args.port.now c.args.core.now c.delete.new.core
+    (c.delete.ensures.ready (g.F.Port.Port.store c.args.port.now) c.requires.ready) c.delete.ensures.stays
+    c.delete.ensures.draws c.delete.ensures.later)
+
+pub returns-in-Insert-clause-serves : goal.returns-in-Insert-clause-serves
+returns-in-Insert-clause-serves g c = serves_within g.F.Port.Port.store g.F.Port.Counted.faults c.args.port.now
+    c.insert.new.port c.args.core.now c.insert.new.core 2 6 (omega arith) c.insert.ensures.serves
+
+pub returns-in-Select-clause-serves : goal.returns-in-Select-clause-serves
+returns-in-Select-clause-serves g c = serves_within g.F.Port.Port.store g.F.Port.Counted.faults c.args.port.now
+    c.query.new.port c.args.core.now c.query.new.core 0 6 (omega arith) c.query.ensures.serves
+
+pub returns-in-Flush-clause-serves : goal.returns-in-Flush-clause-serves
+returns-in-Flush-clause-serves g c = serves_within g.F.Port.Port.store g.F.Port.Counted.faults c.args.port.now
+    c.serve_flush.new.port c.args.core.now c.serve_flush.new.core 6 6 (omega arith) c.serve_flush.ensures.serves
+
+pub returns-in-CompactInner-clause-serves : goal.returns-in-CompactInner-clause-serves
+returns-in-CompactInner-clause-serves g c = serves_within g.F.Port.Port.store g.F.Port.Counted.faults c.args.port.now
+    c.serve_inner.new.port c.args.core.now c.serve_inner.new.core 1 6 (omega arith) c.serve_inner.ensures.serves
+
+pub returns-in-CompactCross-clause-serves : goal.returns-in-CompactCross-clause-serves
+returns-in-CompactCross-clause-serves g c = serves_within g.F.Port.Port.store g.F.Port.Counted.faults c.args.port.now
+    c.serve_cross.new.port c.args.core.now c.serve_cross.new.core 1 6 (omega arith) c.serve_cross.ensures.serves
+
+pub returns-in-ShowFiles-clause-serves : goal.returns-in-ShowFiles-clause-serves
+returns-in-ShowFiles-clause-serves g c = serves_within g.F.Port.Port.store g.F.Port.Counted.faults c.args.port.now c.args.port.now
+    c.args.core.now c.args.core.now 0 6 (omega arith)
+    (serves_alone g.F.Port.Port.store g.F.Port.Counted.faults c.args.port.now c.args.core.now c.args.core.now c.requires.ready
+    (record { slot = refl; next = omega arith }) refl (omega arith))

@@ -10,7 +10,7 @@ returns-in-Ok-clause-answers g c = λ tells. writing_done _ writes_cross c.args.
 
 pub returns-in-Err-clause-answers : goal.returns-in-Err-clause-answers
 returns-in-Err-clause-answers g c = λ tells. writing_failed _ writes_cross c.args.core.now c.compact_cross.new.core
-    (c.compact_cross.ensures.goes_on.keeps tells) c.in-Err.fault c.in-Err.ensures.full
+    (c.compact_cross.ensures.goes_on.keeps tells) c.in-Err.fault (λ counter is. (c.in-Err.ensures.full counter is).0)
     c.answer.result c.answer.ensures
 
 pub returns-in-Err-clause-compacted : goal.returns-in-Err-clause-compacted
@@ -25,4 +25,10 @@ returns-in-Ok-clause-full g c = no_full c.compact_cross.new.core (Plain Done) (�
 
 pub returns-in-Err-clause-full : goal.returns-in-Err-clause-full
 returns-in-Err-clause-full g c = by_number c.args.core.now c.compact_cross.new.core c.answer.result
-    (λ counter is. c.in-Err.ensures.counter counter (full_fault c.in-Err.fault counter (sym c.answer.ensures ∙ is)))
+    (λ counter is. (c.in-Err.ensures.full counter (full_fault c.in-Err.fault counter (sym c.answer.ensures ∙ is))).1)
+
+pub returns-in-Ok-clause-serves : goal.returns-in-Ok-clause-serves
+returns-in-Ok-clause-serves g c = c.compact_cross.ensures.goes_on.serves
+
+pub returns-in-Err-clause-serves : goal.returns-in-Err-clause-serves
+returns-in-Err-clause-serves g c = c.compact_cross.ensures.goes_on.serves

@@ -23,3 +23,9 @@ returns-in-Ok-clause-full g c = no_full c.flush.new.core (Plain Done) (λ counte
 pub returns-in-Err-clause-full : goal.returns-in-Err-clause-full
 returns-in-Err-clause-full g c = by_number c.args.core.now c.flush.new.core c.answer.result
     (next_counter _ _ _ _ _ c.in-Err.fault c.in-Err.ensures.cause c.answer.result c.answer.ensures)
+
+pub returns-in-Ok-clause-serves : goal.returns-in-Ok-clause-serves
+returns-in-Ok-clause-serves g c = c.flush.ensures.goes_on.serves
+
+pub returns-in-Err-clause-serves : goal.returns-in-Err-clause-serves
+returns-in-Err-clause-serves g c = c.flush.ensures.goes_on.serves
