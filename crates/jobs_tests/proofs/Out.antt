@@ -1,6 +1,6 @@
 -- What each call of a core hands on of the rights that are out.
 use Rattle.std.proofs.Common.{◌≡◌, ◌∙◌, ◌⊎◌, List, [], ◌++◌, Option, None, Some, Result, Ok, Err, inl, inr}
-use Rattle.std.proofs.Common.{ap, sym, subst}
+use Rattle.std.proofs.Common.{ap, false, sym, subst}
 use Rattle.std.specs.List.{AllByRecursion as Each}
 use Rattle.std.specs.Option.{option_map}
 use Rattle.std.specs.Prelude.{ℕ, ◌≤◌, IfSome}
@@ -22,10 +22,10 @@ use Rattle.tsdb_core.proofs.Out.{no_pin as not_pinned}
 use Rattle.tsdb_core.specs.Out.{nothing_out, with_job, with_pin}
 use Rattle.tsdb_core.specs.Beginnings.{IsBegunOrNot}
 use Rattle.tsdb_core.specs.Compactions.{IsHandedOut, IsJobOut}
-use Rattle.tsdb_core.specs.Core.{IsAboveNumbers, KeepsJobs, files_of}
+use Rattle.tsdb_core.specs.Core.{IsAboveNumbers, KeepsJobs, files_of, is_sequence_claimed}
 use Rattle.tsdb_core.specs.Flushes as flushes
 use Rattle.tsdb_core.specs.Flushes.{IsOut, IsFlushTakenOrNot, TakesMemory}
-use Rattle.tsdb_core.specs.Loans.{KeepsLoans}
+use Rattle.tsdb_core.specs.Loans.{AreUnclaimed, KeepsLoans}
 use Rattle.tsdb_core.specs.Pins.{IsNotPinned, IsPinned, IsUnpinned}
 use Rattle.tsdb_core.specs.Replacements as ends
 use Rattle.tsdb_core.specs.declared.commit.Commit.{Commit}
@@ -296,9 +296,13 @@ module _ {J F S R P : Type 0} {means : disk.Ghosts J} {counts : counted.Ghosts J
   new_store core store none = subst (λ (files : KeptFiles). AreOfStore store files.places) (sym none) (λ n. tt)
 
   pub new_loans : (core : Core J F S R P means counts) → KeepsJobs core [] [] → files_of core ≡ none_kept
-      → KeepsLoans core [] [] []
-  new_loans core jobs none = nothing_lent core [] jobs
+      → is_sequence_claimed core ≡ false → KeepsLoans core [] [] []
+  new_loans core jobs none free = nothing_lent core [] jobs
       (subst (λ (files : KeptFiles). AreUnread files.places) (sym none) (λ n. tt))
+      (record {
+        sequence = free;
+        late = subst (λ (files : KeptFiles). AreUnclaimed files.unsequence) (sym none) tt;
+      })
 
   pub new_kept : (core : Core J F S R P means counts) (store : Store) → KeepsLoans core [] [] []
       → AreOfStore store (files_of core).places → IsKept store core

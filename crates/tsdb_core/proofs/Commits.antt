@@ -18,7 +18,7 @@ use Rattle.tsdb_tasks.specs.Files.{with_files}
 use Rattle.tsdb_core.proofs.Claims.{after_commit, claims_stay, same_lists}
 use Rattle.tsdb_core.proofs.Parts.{both_come, both_lists}
 use Rattle.tsdb_core.proofs.OutputsBuilt.{room_first, room_second}
-use Rattle.tsdb_core.proofs.Loans.{AreUnreadYet, all_same, flush_loans}
+use Rattle.tsdb_core.proofs.Loans.{AreFresh, AreUnreadYet, all_same, flush_loans}
 use Rattle.tsdb_core.proofs.Jobs.{drawn_is, is_open, others_kept, parts_apart, places, same_kept}
 use Rattle.tsdb_core.proofs.Seen.{jobs_stay}
 use Rattle.tsdb_core.specs.Core.{AreClaimed, IsSeen, KeepsJobs}
@@ -141,7 +141,8 @@ module _ {J F S R P : Type 0} {means : disk.Ghosts J} {counts : counted.Ghosts J
       (first : PartEnds commit Sequence job.sequence files.sequence core.files mid)
       (second : PartEnds commit Unsequence job.unsequence files.unsequence mid new)
       (drawn_first : Each (λ file. Among (file_number file) (numbers_if job.sequence)) (if_some files.sequence))
-      (drawn : Each (λ file. Among (file_number file) (drawn_for job)) (all_of files)) (unread : AreUnreadYet files) where
+      (drawn : Each (λ file. Among (file_number file) (drawn_for job)) (all_of files)) (unread : AreUnreadYet files)
+      (fresh : AreFresh files) where
     come : HaveCome (drawn_for job) files core.files new
     come = both_come commit job.sequence job.unsequence files.sequence files.unsequence core.files mid new first second
         (parts_apart core job out.flush out.others out.flushes out.compactions out.numbers out.out out.keeps)
@@ -158,7 +159,7 @@ module _ {J F S R P : Type 0} {means : disk.Ghosts J} {counts : counted.Ghosts J
           is_out keeps files new come drawn (second.room ∙ ap (less_if Unsequence job.unsequence) first.room);
       loans = λ flush others flushes compactions lent has is_out keeps. flush_loans core new commit (drawn_for job) files
           (both_lists commit job.sequence job.unsequence files.sequence files.unsequence core.files mid new first
-          second) come drawn unread (is_open core job flush others flushes compactions has is_out keeps.jobs) others flushes
+          second) come drawn unread fresh (is_open core job flush others flushes compactions has is_out keeps.jobs) others flushes
           compactions lent
           (others_kept core job flush others flushes compactions has is_out keeps.jobs files new come drawn
           (second.room ∙ ap (less_if Unsequence job.unsequence) first.room)) keeps;

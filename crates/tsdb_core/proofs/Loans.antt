@@ -1,5 +1,5 @@
 -- What a core keeps for jobs and pins that are out, over the calls that end none of its compactions.
-use Rattle.std.proofs.Common.{◌≡◌, ℕ, Bool, List, [], ◌∷◌, ◌++◌, map, Option, None, Some}
+use Rattle.std.proofs.Common.{◌≡◌, ℕ, Bool, List, [], ◌∷◌, ◌++◌, map, Option, None, Some, false}
 use Rattle.std.proofs.Common.{ap, refl, sym, subst, ◌∙◌}
 use Rattle.std.proofs.lemmas.List.{map-append}
 use Rattle.std.specs.List.{AllByRecursion as Each, flat_map}
@@ -25,7 +25,7 @@ use Rattle.tsdb_fileset.specs.Sweeps.{LeavesWithout, free_numbers}
 use Rattle.tsdb_fileset.specs.declared.files.Outgoing.{Outgoing}
 use Rattle.tsdb_fileset.specs.Built.{Built}
 use Rattle.tsdb_fileset.specs.Flushed.{Flushed}
-use Rattle.tsdb_base.proofs.Lists.{each_append, each_both}
+use Rattle.tsdb_base.proofs.Lists.{each_append, each_both, each_map, each_right}
 use Rattle.tsdb_base.specs.Lists.{Among, IsWithOne, count, if_some}
 use Rattle.tsdb_outside.specs.Files.{NamedFile}
 use Rattle.tsdb_outside.specs.declared.disk.Disk as disk
@@ -38,6 +38,7 @@ use Rattle.tsdb_tasks.specs.Column.{Column}
 use Rattle.tsdb_tasks.specs.Pin.{Pin}
 use Rattle.tsdb_tasks.specs.PinnedSource.{PinnedSource}
 use Rattle.tsdb_tasks.specs.TheVariants.{File, Part}
+use Rattle.tsdb_plan.specs.declared.entry.FileEntry.{FileEntry}
 use Rattle.tsdb_state.specs.State.{Compaction, FlushState}
 
 -- a right to the file that is kept, both ways
@@ -116,16 +117,23 @@ module _ {F S R P : Type 0} (name : S → NamedFile) where
       (if_some (option_map (file_built name) files.sequence)) (if_some (option_map (file_built name) files.unsequence))
       (unread_one files.sequence) (unread_one files.unsequence)
 
+-- no job has claimed the files
+abbrev pub AreFresh : NewFiles → Type 0
+AreFresh files = Each (λ (file : NewFile). file.entry.claimed ≡ false) (all_of files)
+
 inputs_after : (commit : Commit) (files : NewFiles) (old new : KeptFiles) (claimed : Bool)
-    (compactions : List Compaction) → AreAfterCommit commit files old new → KeepsInputs old claimed compactions
-    → KeepsInputs new claimed compactions
-inputs_after Done files old new claimed compactions after = inputs_grown old new
+    (compactions : List Compaction) → AreFresh files → AreAfterCommit commit files old new
+    → KeepsInputs old claimed compactions → KeepsInputs new claimed compactions
+inputs_after Done files old new claimed compactions fresh after = inputs_grown old new
     (map (λ (file : NewFile). file.entry) (if_some files.sequence))
     (map (λ (file : NewFile). file.entry) (if_some files.unsequence)) claimed compactions after.sequence
     after.unsequence
-inputs_after Gone files old new claimed compactions after =
+    (each_map (λ (entry : FileEntry). entry.claimed ≡ false) (λ (file : NewFile). file.entry) (if_some files.unsequence)
+    (each_right (λ (file : NewFile). file.entry.claimed ≡ false) (if_some files.sequence) (if_some files.unsequence)
+    fresh))
+inputs_after Gone files old new claimed compactions fresh after =
     inputs_same old new claimed compactions after.sequence after.unsequence
-inputs_after Device files old new claimed compactions after =
+inputs_after Device files old new claimed compactions fresh after =
     inputs_same old new claimed compactions after.sequence after.unsequence
 
 module _ {J F S R P : Type 0} {means : disk.Ghosts J} {counts : counted_by.Ghosts J} where
@@ -166,15 +174,15 @@ module _ {J F S R P : Type 0} {means : disk.Ghosts J} {counts : counted_by.Ghost
   -- a flush ends: its files get places that no right is on
   pub flush_loans : (old : Core J F S R P means counts) (kept : KeptFiles) (commit : Commit) (drawn : List ℕ)
       (files : NewFiles) → AreAfterCommit commit files old.files kept → HaveCome drawn files old.files kept
-      → Each (λ file. Among (file_number file) drawn) (all_of files) → AreUnreadYet files
+      → Each (λ file. Among (file_number file) drawn) (all_of files) → AreUnreadYet files → AreFresh files
       → ((n : ℕ) → Among n drawn → IsOpen n old.files) → (others flushes : List FlushState)
       (compactions : List Compaction) (lent : List (List LentRight))
       → KeepsJobs (record old { files = kept }) others compactions → KeepsLoans old flushes compactions lent
       → KeepsLoans (record old { files = kept }) others compactions lent
-  flush_loans old kept commit drawn files after come of_drawn unread is_open others flushes compactions lent jobs keeps =
+  flush_loans old kept commit drawn files after come of_drawn unread fresh is_open others flushes compactions lent jobs keeps =
       record {
         jobs = jobs;
-        inputs = inputs_after commit files old.files kept old.sequence_claimed compactions after keeps.inputs;
+        inputs = inputs_after commit files old.files kept old.sequence_claimed compactions fresh after keeps.inputs;
         rights = rights_pass old.files kept (all_lent lent) (all_lent lent) (λ right among. among)
             (λ n some. name_same (kept_file n old.files) (kept_file n kept) (ap file_at (come.others n (λ among.
             no_right_on old.files (all_lent lent) keeps.rights n (ap file_at (is_open n among)) some))))

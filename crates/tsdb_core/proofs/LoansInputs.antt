@@ -1,5 +1,5 @@
 -- The inputs of compactions that are out stand in the lists, whatever else is done with these.
-use Rattle.std.proofs.Common.{◌≡◌, ℕ, ◌+◌, ◌-◌, ◌≤◌, Bool, true, false, cond, List, [], ◌∷◌, ◌++◌, drop}
+use Rattle.std.proofs.Common.{◌≡◌, ◌⊎◌, ℕ, ◌+◌, ◌-◌, ◌≤◌, Bool, true, false, cond, List, [], ◌∷◌, ◌++◌, drop}
 use Rattle.std.proofs.Common.{length, map, take, Option, inl, inr, ⊎_elim, ap, append_assoc, arith, length-append}
 use Rattle.std.proofs.Common.{refl, sym, subst, ◌∙◌}
 use Rattle.std.proofs.lemmas.Bool.{false≢true}
@@ -12,13 +12,15 @@ use Rattle.tsdb_base.specs.declared.ids.Space.{Space}
 use Rattle.tsdb_base.specs.declared.ids.Space.TheVariants.{Sequence, Unsequence}
 use Rattle.tsdb_tasks.proofs.InState.{counted_among}
 use Rattle.tsdb_tasks.specs.Finishing.{IsRunOf, StandInSequence}
-use Rattle.tsdb_core.specs.Loans.{AreJobNumbersApart, KeepsInputs, StandClaimed, StandFrom, StandsIn}
+use Rattle.tsdb_core.proofs.Jobs.{is_counted}
+use Rattle.tsdb_core.specs.Loans.{AreJobNumbersApart, IsOwned, KeepsInputs, StandClaimed, StandFrom, StandsIn}
 use Rattle.tsdb_core.specs.Replacements.{without_claim}
+use Rattle.tsdb_memory.proofs.Counts.{among_either}
 use Rattle.tsdb_fileset.proofs.Replaced.{run_parts}
 use Rattle.tsdb_fileset.specs.Files.{KeptFiles, entry_numbers}
 use Rattle.tsdb_fileset.specs.Replacing.{IsWithin, claim_run, output_in, replace_run, with_claim}
-use Rattle.tsdb_base.proofs.Lists.{among_left, among_map, among_right, each_all, each_among, each_both}
-use Rattle.tsdb_base.proofs.Lists.{each_map, each_weaker, runs_apart}
+use Rattle.tsdb_base.proofs.Lists.{among_left, among_map, among_right, count_append, each_all, each_among, each_append}
+use Rattle.tsdb_base.proofs.Lists.{each_both, each_from_among, each_left, each_map, each_right, each_weaker, runs_apart}
 use Rattle.tsdb_base.proofs.Lists.{with_one_apart, with_one_each, with_one_pairs}
 use Rattle.tsdb_base.specs.Lists.{Among, EachPair, IsRun, IsWithOne, count, if_some}
 use Rattle.tsdb_plan.specs.declared.entry.FileEntry.{FileEntry}
@@ -55,10 +57,17 @@ grown_sequence Sequence place numbers old more (run, at) =
     (grown_run numbers (entry_numbers old) (entry_numbers more) run, at)
 grown_sequence Unsequence place numbers old more is = is
 
+-- nothing that is not claimed has an owner
+pub fresh_owned : (compactions : List Compaction) (entries : List FileEntry)
+    → Each (λ (entry : FileEntry). entry.claimed ≡ false) entries → Each (IsOwned compactions) entries
+fresh_owned compactions entries fresh = each_weaker (λ (entry : FileEntry). entry.claimed ≡ false) (IsOwned compactions)
+    (λ entry none some. absurd (false≢true (sym none ∙ some))) entries fresh
+
 pub inputs_grown : (old new : KeptFiles) (a b : List FileEntry) (claimed : Bool) (compactions : List Compaction)
     → new.sequence ≡ old.sequence ++ a → new.unsequence ≡ old.unsequence ++ b
+    → Each (λ (entry : FileEntry). entry.claimed ≡ false) b
     → KeepsInputs old claimed compactions → KeepsInputs new claimed compactions
-inputs_grown old new a b claimed compactions first second keeps = record {
+inputs_grown old new a b claimed compactions first second fresh keeps = record {
   stand = each_weaker (StandsIn old) (StandsIn new) (λ job stands. record {
     late = subst (StandClaimed (numbers_of job.unsequence)) (sym second)
         (grown_late (numbers_of job.unsequence) old.unsequence b stands.late);
@@ -67,6 +76,9 @@ inputs_grown old new a b claimed compactions first second keeps = record {
   }) compactions keeps.stand;
   apart = keeps.apart;
   free = keeps.free;
+  taken = keeps.taken;
+  owned = subst (Each (IsOwned compactions)) (sym second)
+      (each_append (IsOwned compactions) old.unsequence b keeps.owned (fresh_owned compactions b fresh));
 }
 
 pub inputs_same : (old new : KeptFiles) (claimed : Bool) (compactions : List Compaction)
@@ -80,6 +92,8 @@ inputs_same old new claimed compactions first second keeps = record {
   }) compactions keeps.stand;
   apart = keeps.apart;
   free = keeps.free;
+  taken = keeps.taken;
+  owned = subst (Each (IsOwned compactions)) (sym second) keeps.owned;
 }
 
 -- ---- the inputs of a job in the lists, both ways
@@ -229,17 +243,107 @@ others_free Sequence claimed job others compactions is out apart free now =
 others_free Unsequence claimed job others compactions is out apart free now =
     with_one_each (λ other. other.space ≡ Sequence → ⊥) job others compactions out (free now)
 
+no_space : Sequence ≡ Unsequence → ⊥
+no_space is = cc
+
+-- a job of late files leaves the sequence list as it is
+still_taken : (space : Space) (claimed : Bool) (job : Compaction) (others compactions : List Compaction)
+    → job.space ≡ space → IsWithOne job others compactions → (claimed ≡ true → ¬ IsSequenceFree compactions)
+    → without_claim space claimed ≡ true → ¬ IsSequenceFree others
+still_taken Sequence claimed job others compactions is out taken now = absurd (false≢true now)
+still_taken Unsequence claimed job others compactions is out taken now = λ free.
+    let both : Each IsLate (out.before ++ out.behind) = subst (Each IsLate) out.without free in
+    taken now (subst (Each IsLate) (sym out.with_it)
+    (each_append IsLate out.before (job ∷ out.behind) (each_left IsLate out.before out.behind both)
+    ((λ same. no_space (sym same ∙ is)), each_right IsLate out.before out.behind both)))
+  where
+    IsLate : Compaction → Type 0
+    IsLate other = other.space ≡ Sequence → ⊥
+
+-- one of all compactions is this one, or one of the others
+this_or_other : (job made : Compaction) (others compactions : List Compaction) → IsWithOne made others compactions
+    → Among job compactions → (made ≡ job) ⊎ Among job others
+this_or_other job made others compactions out among =
+    ⊎_elim (λ before. inr (subst (Among job) (sym out.without) (among_left out.before out.behind job before)))
+    (λ rest. ⊎_elim (λ this. inl this)
+    (λ behind. inr (subst (Among job) (sym out.without) (among_right out.before out.behind job behind))) rest)
+    (among_either out.before (made ∷ out.behind) job (subst (Among job) out.with_it among))
+
+-- Files of the run of a job that ends are replaced by others that have an owner, if they are claimed: so has each file
+-- behind that, since no number stands twice.
+pub owned_left : (run : Run) (these old new : List FileEntry) (made : Compaction) (others compactions : List Compaction)
+    → IsWithin run old → entry_numbers (slice_range old run.first run.end) ≡ numbers_of made.unsequence
+    → ((n : ℕ) → count n (entry_numbers old) ≤ 1) → IsWithOne made others compactions
+    → Each (IsOwned others) these → new ≡ replace_run run these old → Each (IsOwned compactions) old
+    → Each (IsOwned others) new
+owned_left run these old new made others compactions within mine once out owned is all =
+    subst (Each (IsOwned others)) (sym is)
+    (each_append (IsOwned others) front (these ++ back)
+    (each_from_among (IsOwned others) front (λ entry among. passed entry
+    (each_among (IsOwned compactions) front entry (each_left (IsOwned compactions) front (mid ++ back) parts) among)
+    (λ n is_n inside. twice entry.number.0 (counted_among front entry among) (counts_in n inside is_n))))
+    (each_append (IsOwned others) these back owned
+    (each_from_among (IsOwned others) back (λ entry among. passed entry
+    (each_among (IsOwned compactions) back entry (each_right (IsOwned compactions) mid back
+    (each_right (IsOwned compactions) front (mid ++ back) parts)) among)
+    (λ n is_n inside. behind entry.number.0 (counted_among back entry among) (counts_in n inside is_n))))))
+  where
+    front : List FileEntry
+    front = take run.first old
+
+    mid : List FileEntry
+    mid = slice_range old run.first run.end
+
+    back : List FileEntry
+    back = drop run.end old
+
+    whole : front ++ (mid ++ back) ≡ old
+    whole = run_parts run.first run.end old within.rises
+
+    parts : Each (IsOwned compactions) (front ++ (mid ++ back))
+    parts = subst (Each (IsOwned compactions)) (sym whole) all
+
+    counts : (n : ℕ) → count n (entry_numbers old)
+        ≡ count n (entry_numbers front) + (count n (entry_numbers mid) + count n (entry_numbers back))
+    counts n = ap (λ (list : List FileEntry). count n (entry_numbers list)) (sym whole)
+        ∙ ap (count n) (map-append (λ (e : FileEntry). e.number.0) front (mid ++ back))
+        ∙ count_append n (entry_numbers front) (entry_numbers (mid ++ back))
+        ∙ ap (λ m. count n (entry_numbers front) + m) (ap (count n) (map-append (λ (e : FileEntry). e.number.0) mid back)
+        ∙ count_append n (entry_numbers mid) (entry_numbers back))
+
+    counts_in : (n : ℕ) {m : ℕ} → Among n (entry_numbers mid) → n ≡ m → 1 ≤ count m (entry_numbers mid)
+    counts_in n inside same = subst (λ k. 1 ≤ count k (entry_numbers mid)) same (is_counted n (entry_numbers mid) inside)
+
+    twice : (n : ℕ) → 1 ≤ count n (entry_numbers front) → 1 ≤ count n (entry_numbers mid) → ⊥
+    twice n first second = omega (arith, first, second, counts n, once n)
+
+    behind : (n : ℕ) → 1 ≤ count n (entry_numbers back) → 1 ≤ count n (entry_numbers mid) → ⊥
+    behind n first second = omega (arith, first, second, counts n, once n)
+
+    passed : (entry : FileEntry) → IsOwned compactions entry
+        → ((n : ℕ) → n ≡ entry.number.0 → Among n (entry_numbers mid) → ⊥) → IsOwned others entry
+    passed entry owner outside some =
+        let has = owner some in
+        ⊎_elim
+        (λ this. absurd (outside entry.number.0 refl (subst (Among entry.number.0) (sym mine)
+        (subst (λ (c : Compaction). Among entry.number.0 (numbers_of c.unsequence)) (sym this) has.input))))
+        (λ other. record { job = has.job; among = other; input = has.input })
+        (this_or_other has.job made others compactions out has.among)
+
 -- the inputs of each other stand where they do of each that is apart from the one that ends
 pub inputs_left : (old new : KeptFiles) (space : Space) (claimed : Bool) (job : Compaction)
     (others compactions : List Compaction) → job.space ≡ space → IsWithOne job others compactions
     → ((other : Compaction) → AreJobNumbersApart job other → StandsIn old other → StandsIn new other)
+    → Each (IsOwned others) new.unsequence
     → KeepsInputs old claimed compactions → KeepsInputs new (without_claim space claimed) others
-inputs_left old new space claimed job others compactions is out still keeps = record {
+inputs_left old new space claimed job others compactions is out still owned keeps = record {
   stand = each_both (AreJobNumbersApart job) (StandsIn old) (StandsIn new) still others
       (with_one_apart AreJobNumbersApart turn job others compactions out keeps.apart)
       (with_one_each (StandsIn old) job others compactions out keeps.stand);
   apart = with_one_pairs AreJobNumbersApart job others compactions out keeps.apart;
   free = others_free space claimed job others compactions is out keeps.apart keeps.free;
+  taken = still_taken space claimed job others compactions is out keeps.taken;
+  owned = owned;
 }
 
 -- ---- a compaction that begins
@@ -312,3 +416,41 @@ run_stands_claimed run old new is = record {
   where
     mid : List FileEntry
     mid = slice_range old run.first run.end
+
+-- and each late file that is claimed then is an input of the job, or of one of those before it
+pub owned_more : (run : Run) (old new : List FileEntry) (made : Compaction) (compactions : List Compaction)
+    → IsWithin run old → numbers_of made.unsequence ≡ entry_numbers (slice_range old run.first run.end)
+    → new ≡ claim_run run true old → Each (IsOwned compactions) old → Each (IsOwned (made ∷ compactions)) new
+owned_more run old new made compactions within mine is all =
+    subst (Each All) (sym is)
+    (each_append All front (map (with_claim true) mid ++ back)
+    (each_weaker (IsOwned compactions) All later front (each_left (IsOwned compactions) front (mid ++ back) parts))
+    (each_append All (map (with_claim true) mid) back
+    (each_map All (with_claim true) mid (each_from_among (λ (e : FileEntry). All (with_claim true e)) mid
+    (λ entry among some. record {
+      job = made;
+      among = inl refl;
+      input = subst (Among entry.number.0) (sym mine) (among_map (λ (e : FileEntry). e.number.0) mid entry among);
+    })))
+    (each_weaker (IsOwned compactions) All later back (each_right (IsOwned compactions) mid back
+    (each_right (IsOwned compactions) front (mid ++ back) parts)))))
+  where
+    All : FileEntry → Type 0
+    All = IsOwned (made ∷ compactions)
+
+    front : List FileEntry
+    front = take run.first old
+
+    mid : List FileEntry
+    mid = slice_range old run.first run.end
+
+    back : List FileEntry
+    back = drop run.end old
+
+    parts : Each (IsOwned compactions) (front ++ (mid ++ back))
+    parts = subst (Each (IsOwned compactions)) (sym (run_parts run.first run.end old within.rises)) all
+
+    later : (entry : FileEntry) → IsOwned compactions entry → All entry
+    later entry owner some =
+        let has = owner some in
+        record { job = has.job; among = inr has.among; input = has.input }

@@ -21,8 +21,8 @@ use Rattle.tsdb_tasks.specs.Jobs.{IsCompactionOf, IsJobFormed, input_file}
 use Rattle.tsdb_tasks.specs.Input.{Input}
 use Rattle.tsdb_tasks.specs.Job.{Job}
 use Rattle.tsdb_core.proofs.Loans.{named_right}
-use Rattle.tsdb_core.proofs.LoansInputs.{free_apart, from_stands, inputs_left, late_beside, none_there, run_stands_claimed}
-use Rattle.tsdb_core.proofs.LoansInputs.{sequence_beside}
+use Rattle.tsdb_core.proofs.LoansInputs.{free_apart, fresh_owned, from_stands, inputs_left, late_beside, none_there}
+use Rattle.tsdb_core.proofs.LoansInputs.{owned_left, owned_more, run_stands_claimed, sequence_beside}
 use Rattle.tsdb_core.proofs.LoansRights.{IsNamedIn, fewer_counted, no_right_on, none_of_others, rights_given}
 use Rattle.tsdb_core.proofs.LoansRights.{rights_taken}
 use Rattle.tsdb_core.specs.Beginnings.{ArePlanned, claimed_by}
@@ -36,7 +36,7 @@ use Rattle.tsdb_fileset.proofs.Replaced.{run_parts}
 use Rattle.tsdb_fileset.specs.Files.{AreKept, IsOpen, KeptFiles, entry_numbers, kept_file}
 use Rattle.tsdb_fileset.specs.Places.{KeptFile, file_at, place_of_number}
 use Rattle.tsdb_fileset.specs.Replacing.{IsWithin, claim_run, output_in, with_claim}
-use Rattle.tsdb_base.proofs.Lists.{each_among, each_from_among, each_weaker}
+use Rattle.tsdb_base.proofs.Lists.{each_all, each_among, each_from_among, each_map, each_weaker}
 use Rattle.tsdb_base.specs.Lists.{Among, IsWithOne, count, if_some}
 use Rattle.tsdb_outside.specs.Files.{NamedFile, plain_numbers}
 use Rattle.tsdb_outside.specs.declared.disk.Disk as disk
@@ -45,6 +45,7 @@ use Rattle.tsdb_outside.specs.declared.faults.Failed.{Failed}
 use Rattle.tsdb_tasks.specs.Changes.{fewer_rights, more_rights}
 use Rattle.tsdb_plan.specs.declared.entry.FileEntry.{FileEntry}
 use Rattle.tsdb_plan.specs.declared.entry.Run.{Run}
+use Rattle.tsdb_state.specs.Plans.{IsSequenceFree}
 use Rattle.tsdb_state.specs.Records.{numbers_of}
 use Rattle.tsdb_state.specs.State.{Compaction}
 
@@ -172,6 +173,8 @@ module _ {F S R P : Type 0} where
           λ same. not_free job.space (sym now ∙ none) (sym is.space ∙ same),
           keeps.free (was_free job.space (sym now ∙ none)),
         );
+        taken = λ some. is_taken job.space refl (sym now ∙ some);
+        owned = owned_more run old.unsequence new.unsequence made compactions within mine late keeps.owned;
       }
     where
       mid : List FileEntry
@@ -189,6 +192,11 @@ module _ {F S R P : Type 0} where
       not_free : (space : Space) → claimed_by space claimed ≡ false → space ≡ Sequence → ⊥
       not_free Sequence none same = false≢true (sym none)
       not_free Unsequence none same = no_space (sym same)
+
+      is_taken : (space : Space) → job.space ≡ space → claimed_by space claimed ≡ true
+          → ¬ IsSequenceFree (made ∷ compactions)
+      is_taken Sequence same some free = free.0 (is.space ∙ same)
+      is_taken Unsequence same some free = keeps.taken some free.1
 
       was_free : (space : Space) → claimed_by space claimed ≡ false → claimed ≡ false
       was_free Sequence none = absurd (false≢true (sym none))
@@ -240,9 +248,17 @@ module _ {F S R P : Type 0} where
     late_output formed none output Unsequence same = absurd (formed.some (no_inputs job.inputs
         (formed.numbers ∙ (λ i. plain_numbers (none_early same i) ++ none i))))
 
-    pub finished_inputs : IsJobFormed job → (runs : InputRuns) (file : Option NewFile) → AreRunsOf job runs old
+    -- the output of a job, where it comes to the late files, is one that no job has claimed
+    fresh_output : (space : Space) (file : Option NewFile) → IfSome file (λ one. one.entry.claimed ≡ false)
+        → Each IsUnclaimed (if_some (output_in Unsequence space (option_map (λ (one : NewFile). one.entry) file)))
+    fresh_output Sequence file fresh = tt
+    fresh_output Unsequence None fresh = tt
+    fresh_output Unsequence (Some one) fresh = (fresh, tt)
+
+    pub finished_inputs : IsJobFormed job → AreKept old → (runs : InputRuns) (file : Option NewFile)
+        → IfSome file (λ one. one.entry.claimed ≡ false) → AreRunsOf job runs old
         → Finishes old new job runs file → LeavesInputs job old new claimed
-    finished_inputs formed runs file stand up made others compactions is out =
+    finished_inputs formed kept runs file fresh stand up made others compactions is out keeps =
         inputs_left old new job.space claimed made others compactions is.space out (λ other apart there. record {
           late = late_beside (plain_numbers job.unsequence) (numbers_of other.unsequence) runs.unsequence
               (if_some (output_in Unsequence job.space output)) old.unsequence new.unsequence
@@ -255,12 +271,17 @@ module _ {F S R P : Type 0} where
               (λ first second. apart.one (is.space ∙ first) second) none_early stand.sequence up.lists.sequence_is
               there.sequence;
         })
+        (owned_left runs.unsequence (if_some (output_in Unsequence job.space output)) old.unsequence new.unsequence made
+        others compactions stand.unsequence.within (stand.unsequence.are ∙ sym is.unsequence) (once_late old kept) out
+        (fresh_owned others (if_some (output_in Unsequence job.space output)) (fresh_output job.space file fresh))
+        up.lists.unsequence_is keeps.owned) keeps
       where
         output : Option FileEntry
         output = option_map (λ (one : NewFile). one.entry) file
 
-    pub given_up_inputs : (file : Option NewFile) → GivesUp old new job file → LeavesInputs job old new claimed
-    given_up_inputs file up made others compactions is out =
+    pub given_up_inputs : AreKept old → (file : Option NewFile) → GivesUp old new job file
+        → LeavesInputs job old new claimed
+    given_up_inputs kept file up made others compactions is out keeps =
         inputs_left old new job.space claimed made others compactions is.space out (λ other apart there. record {
           late = late_beside (plain_numbers job.unsequence) (numbers_of other.unsequence) up.unsequence.run
               (map (with_claim false) mid) old.unsequence new.unsequence up.unsequence.within up.unsequence.are
@@ -270,11 +291,17 @@ module _ {F S R P : Type 0} where
           sequence = subst (λ es. StandFrom other.space other.place (numbers_of other.sequence) (entry_numbers es))
               (sym up.sequence) there.sequence;
         })
+        (owned_left up.unsequence.run (map (with_claim false) mid) old.unsequence new.unsequence made others compactions
+        up.unsequence.within (up.unsequence.are ∙ sym is.unsequence) (once_late old kept) out
+        (fresh_owned others (map (with_claim false) mid) (each_map IsUnclaimed (with_claim false) mid
+        (each_all (λ (entry : FileEntry). IsUnclaimed (with_claim false entry)) (λ entry. refl) mid)))
+        up.unsequence.is keeps.owned) keeps
       where
         mid : List FileEntry
         mid = slice_range old.unsequence up.unsequence.run.first up.unsequence.run.end
 
-    pub left_as : IsJobFormed job → (runs : InputRuns) (file : Option NewFile) (outcome : Result (Unit {0}) Failed)
+    pub left_as : IsJobFormed job → AreKept old → (runs : InputRuns) (file : Option NewFile)
+        → IfSome file (λ one. one.entry.claimed ≡ false) → (outcome : Result (Unit {0}) Failed)
         → AreRunsOf job runs old → EndsFiles job runs file old new outcome → LeavesInputs job old new claimed
-    left_as formed runs file (Ok done) stand up = finished_inputs formed runs file stand up
-    left_as formed runs file (Err fault) stand up = given_up_inputs file up
+    left_as formed kept runs file fresh (Ok done) stand up = finished_inputs formed kept runs file fresh stand up
+    left_as formed kept runs file fresh (Err fault) stand up = given_up_inputs kept file up

@@ -1,6 +1,7 @@
 -- A flush, a compaction or a pin that is among those for which a core keeps is out, as its end asks for it.
 use Rattle.std.proofs.Common.{◌≡◌, ◌≢◌, ℕ, ◌≤◌, List, [], ◌∷◌, ◌++◌, length, map}
 use Rattle.std.proofs.Common.{ap, arith, drop, refl, sym, subst, take, ◌∙◌}
+use Rattle.std.proofs.lemmas.Bool.{false≢true}
 use Rattle.std.proofs.Math.Seq.{drop-append_seam, take-append_seam}
 use Rattle.std.proofs.lemmas.List.{drop-map, length-map, map-append, take-append-drop, take-map}
 use Rattle.std.specs.List.{AllByRecursion as Each, flat_map}
@@ -15,12 +16,12 @@ use Rattle.tsdb_tasks.specs.Input.{Input}
 use Rattle.tsdb_tasks.specs.Job.{Job}
 use Rattle.tsdb_core.proofs.Jobs.{one_of}
 use Rattle.tsdb_core.proofs.Loans.{right_named}
-use Rattle.tsdb_core.proofs.LoansInputs.{stands_from}
+use Rattle.tsdb_core.proofs.LoansInputs.{fresh_owned, stands_from}
 use Rattle.tsdb_core.proofs.LoansRights.{IsNamedIn, named_of}
 use Rattle.tsdb_core.specs.Compactions.{IsHandedOut, IsJobOut, job_rights}
 use Rattle.tsdb_core.specs.Core.{KeepsJobs, files_of}
 use Rattle.tsdb_core.specs.Flushes.{HasNumbersOf, IsOut}
-use Rattle.tsdb_core.specs.Loans.{KeepsLoans, LentRight, StandClaimed, StandFrom, StandsIn}
+use Rattle.tsdb_core.specs.Loans.{IsNothingClaimed, KeepsLoans, LentRight, StandClaimed, StandFrom, StandsIn}
 use Rattle.tsdb_core.specs.Out.{compaction_of}
 use Rattle.tsdb_core.specs.Pins.{pin_rights, source_rights}
 use Rattle.tsdb_core.specs.declared.engine.Core.{Core}
@@ -126,10 +127,16 @@ module _ {F S R P : Type 0} (name : R → NamedFile) where
 module _ {J F S R P : Type 0} {means : disk.Ghosts J} {counts : counted_by.Ghosts J} where
   -- where no compaction and no right is out, nothing is kept but for flushes
   pub nothing_lent : (core : Core J F S R P means counts) (flushes : List FlushState) → KeepsJobs core flushes []
-      → AreUnread (files_of core).places → KeepsLoans core flushes [] []
-  nothing_lent core flushes jobs unread = record {
+      → AreUnread (files_of core).places → IsNothingClaimed core → KeepsLoans core flushes [] []
+  nothing_lent core flushes jobs unread none = record {
     jobs = jobs;
-    inputs = record { stand = tt; apart = tt; free = λ none. tt };
+    inputs = record {
+      stand = tt;
+      apart = tt;
+      free = λ free. tt;
+      taken = λ some. absurd (false≢true (sym none.sequence ∙ some));
+      owned = fresh_owned [] (files_of core).unsequence none.late;
+    };
     rights = record { named = tt; counted = unread };
   }
 

@@ -12,7 +12,7 @@ use Rattle.tsdb_core.specs.Commands.{KeepsFiles}
 use Rattle.tsdb_core.specs.Compactions.{IsHandedOut, IsJobKept, IsJobOut, job_rights}
 use Rattle.tsdb_core.specs.Core.{KeepsJobs, files_of}
 use Rattle.tsdb_core.specs.Flushes.{HasEndedFlush, HasNumbersOf, IsNotTaken, IsOut, IsFlushTaken, TakesMemory}
-use Rattle.tsdb_core.specs.Loans.{KeepsLoans}
+use Rattle.tsdb_core.specs.Loans.{IsNothingClaimed, KeepsLoans}
 use Rattle.tsdb_core.specs.Out.{HandsOn, IsWithJob, KeepsOut, Loans, compaction_of, flush_of, nothing_out, with_flush}
 use Rattle.tsdb_core.specs.Out.{with_job, with_pin}
 use Rattle.tsdb_core.specs.Pins.{IsNotPinned, IsPinned, IsUnpinned, pin_rights}
@@ -80,9 +80,10 @@ module _ {J F S R P : Type 0} {means : disk.Ghosts J} {counts : counted.Ghosts J
   -- ---- nothing is out
 
   pub none_out : (core : Core J F S R P means counts) (store : Store) → KeepsJobs core [] []
-      → AreUnread (files_of core).places → AreOfStore store (files_of core).places → KeepsOut store nothing_out core
-  none_out core store jobs unread of_store =
-      record { loans = nothing_lent core [] jobs unread; of_store = of_store }
+      → AreUnread (files_of core).places → IsNothingClaimed core → AreOfStore store (files_of core).places
+      → KeepsOut store nothing_out core
+  none_out core store jobs unread none of_store =
+      record { loans = nothing_lent core [] jobs unread none; of_store = of_store }
 
   pub none_read : (core : Core J F S R P means counts) (store : Store) → KeepsOut store nothing_out core
       → AreUnread (files_of core).places

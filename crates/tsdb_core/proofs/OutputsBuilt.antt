@@ -1,5 +1,6 @@
 -- The files that a call is given are those of its job.
 use Rattle.std.proofs.Common.{◌≡◌, ℕ, ◌+◌, ◌≤◌, List, [], ◌∷◌, ◌++◌, length, Option, None, Some, inl, inr, ⊎_elim}
+use Rattle.std.proofs.Common.{false}
 use Rattle.std.proofs.Common.{arith, refl, subst, sym, ◌∙◌}
 use Rattle.std.specs.List.{AllByRecursion as Each}
 use Rattle.std.specs.Option.{option_map}
@@ -11,6 +12,7 @@ use Rattle.tsdb_tasks.specs.Coming.{outgoing_of}
 use Rattle.tsdb_tasks.specs.Files.{AreAllThere, AreDone, AreDoneSoFar, AreFilesOfJob, IsOfPart, all_of, file_built}
 use Rattle.tsdb_tasks.specs.Files.{new_files}
 use Rattle.tsdb_tasks.specs.Files.{NewFile, file_number}
+use Rattle.tsdb_core.proofs.Loans.{AreFresh}
 use Rattle.tsdb_core.proofs.Parts.{part_listed, part_sent, some_is}
 use Rattle.tsdb_core.specs.Ending.{IsNumberedOutput, PartEnds, drawn_for, less_if, numbers_if}
 use Rattle.tsdb_core.specs.declared.commit.Commit.{Commit}
@@ -80,6 +82,15 @@ module _ {F S R P : Type 0} (file : S → NamedFile) (rights : S → ℕ) where
         subst (λ (b : Option (Built F S R P)). IfSome b (IsNumberedOutput rights number)) (sym none) tt
     numbered number built (inr done) = numbered_done number built done
 
+  -- no job has claimed the file of a part
+  fresh_part : (store : Store) (born : ℕ) (part : List Filled) (number : Option FileNumber)
+      (built : Option (Built F S R P)) → (built ≡ None) ⊎ IsPartDone file rights store born part number built
+      → Each (λ (f : NewFile). f.entry.claimed ≡ false) (if_some (option_map (file_built file) built))
+  fresh_part store born part number None done = tt
+  fresh_part store born part number (Some built) (inl none) = absurd cc
+  fresh_part store born part None (Some built) (inr done) = absurd done
+  fresh_part store born part (Some number) (Some built) (inr done) = (done.kept.free, tt)
+
   pub drawn_part : (number : Option FileNumber) (built : Option (Built F S R P)) → IfSome built (IsNumberedOutput rights
       number)
       → Each (λ (f : NewFile). Among (file_number f) (numbers_if number)) (if_some (option_map (file_built file) built))
@@ -122,6 +133,12 @@ module _ {F S R P : Type 0} (file : S → NamedFile) (rights : S → ℕ) where
       pub unsequence_numbered : IfSome files.unsequence (IsNumberedOutput rights job.unsequence)
       unsequence_numbered =
           numbered done.store job.born.0 (job_part Unsequence job) job.unsequence files.unsequence done.unsequence
+
+      pub all_fresh : AreFresh (new_files file files)
+      all_fresh = each_append (λ (f : NewFile). f.entry.claimed ≡ false)
+          (if_some (option_map (file_built file) files.sequence)) (if_some (option_map (file_built file) files.unsequence))
+          (fresh_part done.store job.born.0 (job_part Sequence job) job.sequence files.sequence done.sequence)
+          (fresh_part done.store job.born.0 (job_part Unsequence job) job.unsequence files.unsequence done.unsequence)
 
       pub all_drawn : Each (λ (f : NewFile). Among (file_number f) (drawn_for job)) (all_of (new_files file files))
       all_drawn = each_append _ (if_some (option_map (file_built file) files.sequence))

@@ -1,5 +1,6 @@
 -- What the end of a compaction makes of the states that a core shows.
 use Rattle.std.proofs.Common.{◌≡◌, ◌⊎◌, ℕ, ◌+◌, ◌≤◌, List, [], length, Option, None, Some, Result, Ok, Err, inl, inr}
+use Rattle.std.proofs.Common.{false}
 use Rattle.std.proofs.Common.{ap, arith, length-append, refl, sym, subst, ◌∙◌}
 use Rattle.std.proofs.lemmas.List.{length-map}
 use Rattle.std.specs.FinMap.{empty}
@@ -86,6 +87,13 @@ made_unread : {F S R P : Type 0} (sealed : S → NamedFile) (o : Option (Built F
     → IfSome (made_of sealed o) (λ one. one.token.rights ≡ 0)
 made_unread sealed None = tt
 made_unread sealed (Some one) = refl
+
+-- no job has claimed it
+made_fresh : {F S R P : Type 0} (name : R → NamedFile) (sealed : S → NamedFile) (rights : S → ℕ) (job : Job F S R P)
+    (o : Option (Built F S R P)) → IsOutputOf name sealed rights job o
+    → IfSome (made_of sealed o) (λ one. one.entry.claimed ≡ false)
+made_fresh name sealed rights job None of = tt
+made_fresh name sealed rights job (Some one) of = of.file_is.kept.free
 
 -- the born of the output, where there is one
 same_born : {F S R P : Type 0} (sealed : S → NamedFile) (o : Option (Built F S R P))
@@ -359,8 +367,9 @@ module _ {J F S R P : Type 0} {means : disk.Ghosts J} {counts : counted.Ghosts J
     is_commit old logged kept runs outcome job_out are_kept of stand appends up = record {
       ends = ends_job old logged kept job (made_of sealed built) name job_out are_kept appends.replaced.room
           (gone_as job runs (made_of sealed built) old.files kept outcome up)
-          (left_as job old.files kept old.sequence_claimed job_out.kept.stands job_out.kept.formed runs
-          (made_of sealed built) outcome stand up) (made_unread sealed built);
+          (left_as job old.files kept old.sequence_claimed job_out.kept.stands job_out.kept.formed are_kept runs
+          (made_of sealed built) (made_fresh name sealed rights job built of) outcome stand up)
+          (made_unread sealed built);
       runs = runs;
       stand = stand;
       files = up;
@@ -435,7 +444,8 @@ module _ {J F S R P : Type 0} {means : disk.Ghosts J} {counts : counted.Ghosts J
       logged = refl;
       ends = ends_job old old.logged kept job (made_of sealed built) name job_out are_kept (omega arith)
           (gone_up job (made_of sealed built) old.files kept up)
-          (given_up_inputs job old.files kept old.sequence_claimed job_out.kept.stands (made_of sealed built) up)
+          (given_up_inputs job old.files kept old.sequence_claimed job_out.kept.stands are_kept (made_of sealed built)
+          up)
           (made_unread sealed built);
       files = up;
       step = step;

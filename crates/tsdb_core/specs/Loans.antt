@@ -57,14 +57,35 @@ pub record AreJobNumbersApart (job other : Compaction) : Type 0 where
   pub one : job.space ≡ Sequence → other.space ≡ Sequence → ⊥
   pub late : (number : ℕ) → Among number (numbers_of job.unsequence) → Among number (numbers_of other.unsequence) → ⊥
 
--- The inputs of the compactions stand in the lists, no two of them share one, and the sequence list is claimed where
--- one of them has it.
+-- one of the compactions has the late file of this number as an input
+pub record HasLate (compactions : List Compaction) (number : ℕ) : Type 0 where
+  pub job : Compaction
+  pub among : Among job compactions
+  pub input : Among number (numbers_of job.unsequence)
+
+-- a late file that is claimed is an input of one of the compactions
+abbrev pub IsOwned : List Compaction → FileEntry → Type 0
+IsOwned compactions entry = entry.claimed ≡ true → HasLate compactions entry.number.0
+
+-- no job has claimed the files
+abbrev pub AreUnclaimed : List FileEntry → Type 0
+AreUnclaimed entries = Each (λ (entry : FileEntry). entry.claimed ≡ false) entries
+
+-- The inputs of the compactions stand in the lists, and no two of them share one. The sequence list is claimed exactly
+-- where one of them has it, and a late file where one of them reads it.
 pub record KeepsInputs (files : KeptFiles) (claimed : Bool) (compactions : List Compaction) : Type 0 where
   pub stand : Each (StandsIn files) compactions
   pub apart : EachPair AreJobNumbersApart compactions
   pub free : claimed ≡ false → IsSequenceFree compactions
+  pub taken : claimed ≡ true → ¬ IsSequenceFree compactions
+  pub owned : Each (IsOwned compactions) files.unsequence
 
 module _ {J F S R P : Type 0} {means : disk.Ghosts J} {counts : counted.Ghosts J} where
+  -- no job has claimed anything
+  pub record IsNothingClaimed (core : Core J F S R P means counts) : Type 0 where
+    pub sequence : is_sequence_claimed core ≡ false
+    pub late : AreUnclaimed (files_of core).unsequence
+
   -- What a core keeps for these flushes and compactions, and for the rights of these jobs and pins. A flush, a
   -- compaction or a pin that is among them can be ended, whichever calls come before its end.
   pub record KeepsLoans (core : Core J F S R P means counts) (flushes : List FlushState) (compactions : List Compaction)

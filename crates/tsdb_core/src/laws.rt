@@ -6,7 +6,7 @@ ghost use Rattle.tsdb_tasks.specs.Jobs.{IsCompactionOf};
 ghost use Rattle.tsdb_core.specs.Compactions.{AreOnInputs, IsHandedOut, IsJobOut, job_rights};
 ghost use Rattle.tsdb_core.specs.Core.{KeepsJobs, files_of};
 ghost use Rattle.tsdb_core.specs.Flushes.{HasNumbersOf, IsOut};
-ghost use Rattle.tsdb_core.specs.Loans.{KeepsLoans, LentRight};
+ghost use Rattle.tsdb_core.specs.Loans.{IsNothingClaimed, KeepsLoans, LentRight};
 ghost use Rattle.tsdb_core.specs.Pins.{AreOnColumns, pin_rights};
 ghost use Rattle.tsdb_fileset.specs.Places.{AreUnread};
 ghost use Rattle.tsdb_base.specs.Lists.{Among, IsWithOne};
@@ -19,10 +19,10 @@ use tsdb_fileset::FlushJob;
 use tsdb_outside::{Files, Journal};
 use tsdb_tasks::{Job, Pin};
 
-/// Where no compaction and no right is out, what is kept for flushes is all.
+/// Where no compaction and no right is out and nothing is claimed, what is kept for flushes is all.
 pub fn nothing_is_lent<J: Journal, F: Files>(_core: &Core<J, F>)
     ensures { (flushes : List state.FlushState) → KeepsJobs _core.now flushes [] → AreUnread (files_of _core.now).places
-        → KeepsLoans _core.now flushes [] [] }
+        → IsNothingClaimed _core.now → KeepsLoans _core.now flushes [] [] }
 {}
 
 /// Where no job and no pin has a right, none is out: so the core can be closed.

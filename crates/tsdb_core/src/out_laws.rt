@@ -7,6 +7,7 @@ ghost use Rattle.tsdb_core.specs.Commands.{KeepsFiles};
 ghost use Rattle.tsdb_core.specs.Compactions.{IsHandedOut, IsJobOut};
 ghost use Rattle.tsdb_core.specs.Core.{KeepsJobs, files_of};
 ghost use Rattle.tsdb_core.specs.Flushes.{HasEndedFlush, IsNotTaken, IsOut, IsFlushTaken, TakesMemory};
+ghost use Rattle.tsdb_core.specs.Loans.{IsNothingClaimed};
 ghost use Rattle.tsdb_core.specs.Out.{HandsOn, IsWithJob, KeepsOut, Loans, nothing_out, with_flush, with_job, with_pin};
 ghost use Rattle.tsdb_core.specs.Pins.{IsNotPinned, IsPinned, IsUnpinned};
 ghost use Rattle.tsdb_core.specs.Replacements.{HasEndedJob};
@@ -25,10 +26,11 @@ use tsdb_fileset::FlushJob;
 use tsdb_outside::{Files, Journal};
 use tsdb_tasks::{Job, Pin};
 
-/// Of a core that keeps nothing for anybody nothing is out; and where nothing is out, no right is.
+/// Of a core that keeps and has claimed nothing for anybody nothing is out; and where nothing is out, no right is.
 pub fn nothing_is_out<J: Journal, F: Files>(_core: &Core<J, F>)
     ensures none { (store : Store) → KeepsJobs _core.now [] [] → AreUnread (files_of _core.now).places
-        → AreOfStore store (files_of _core.now).places → KeepsOut store nothing_out _core.now }
+        → IsNothingClaimed _core.now → AreOfStore store (files_of _core.now).places
+        → KeepsOut store nothing_out _core.now }
     ensures unread { (store : Store) → KeepsOut store nothing_out _core.now → AreUnread (files_of _core.now).places }
 {}
 

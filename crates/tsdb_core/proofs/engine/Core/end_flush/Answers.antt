@@ -1,6 +1,6 @@
 use Rattle.tsdb_tasks.specs.Files.{file_built, new_files}
 use Rattle.std.specs.Option.{option_map}
-use Rattle.tsdb_core.proofs.OutputsBuilt.{all_drawn, drawn_part, sequence_numbered, unsequence_numbered}
+use Rattle.tsdb_core.proofs.OutputsBuilt.{all_drawn, all_fresh, drawn_part, sequence_numbered, unsequence_numbered}
 use Rattle.tsdb_core.proofs.Commits.{ends_flush, first_place, first_room, second_place, second_room}
 use Rattle.tsdb_core.proofs.Loans.{unread_yet}
 use Rattle.tsdb_core.proofs.engine.Core.end_flush.Goals as goal
@@ -13,6 +13,7 @@ returns-clause-ends g c = ends_flush c.args.self.now c.args.job.now (new_files g
     c.requires.done))
     (all_drawn g.F.Sealed.SealedFile.file g.F.Sealed.SealedFile.rights c.args.job.now c.args.files c.requires.done)
     (unread_yet g.F.Sealed.SealedFile.file c.args.files)
+    (all_fresh g.F.Sealed.SealedFile.file g.F.Sealed.SealedFile.rights c.args.job.now c.args.files c.requires.done)
 
 pub end_part-requires-clause-place : goal.end_part-requires-clause-place
 end_part-requires-clause-place g c = λ lifetimes lives. first_place c.args.self.now c.args.job.now c.requires.out
