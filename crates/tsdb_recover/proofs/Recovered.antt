@@ -137,11 +137,11 @@ module _ (opening : Opening) (items : List LogRecord) (recorded : Recorded) (goo
     pub is_recovered : (state : DiskState) (rest : Option (List StoredFile)) (seen : Option Image) → state.seen ≡ seen
         → IfSome seen (λ image. HasRecords (map spelling items) image.a)
         → (IsSettled A state → IfSome seen (λ image. IsLog log (map spelling items) None)) → Opens rest
-        → IfSome seen (λ image. IfSome rest (λ stored. (at : plain.State) → AreStored stored
+        → IfSome seen (λ image. IfSome rest (λ stored. AreStored stored → (at : plain.State)
         → IsSound A state (kept_bytes stored) at → IsRecovered core image.a stored at))
     is_recovered state rest None is records settled opens = tt
     is_recovered state None (Some image) is records settled opens = tt
-    is_recovered state (Some stored) (Some image) is records settled opens = λ at are sound.
+    is_recovered state (Some stored) (Some image) is records settled opens = λ are at sound.
         let stands = sound.stands image is in
         let same = same_replay image stands.recorded records stands.replayed in
         let store = subst (λ (r : Recorded). IsStoreOf (kept_bytes stored) r.store at) same stands.store in
@@ -158,11 +158,11 @@ module _ (opening : Opening) (items : List LogRecord) (recorded : Recorded) (goo
 
     pub is_next : (rest : Option (List StoredFile)) (seen : Option Image)
         → IfSome seen (λ image. HasRecords (map spelling items) image.a) → Opens rest
-        → IfSome seen (λ image. (recorded : Recorded) → IsReplayOf store_steps image.a recorded
-        → IfSome rest (λ stored. AreStored stored → IsNextNumber (next_of core) stored recorded.named))
+        → IfSome seen (λ image. IfSome rest (λ stored. AreStored stored → (recorded : Recorded)
+        → IsReplayOf store_steps image.a recorded → IsNextNumber (next_of core) stored recorded.named))
     is_next rest None records opens = tt
-    is_next None (Some image) records opens = λ other is. tt
-    is_next (Some stored) (Some image) records opens = λ other is are.
+    is_next None (Some image) records opens = tt
+    is_next (Some stored) (Some image) records opens = λ are other is.
         subst (λ (r : Recorded). IsNextNumber (next_of core) stored r.named) (sym (same_replay image other records is))
         (opens items recorded replay are).next
 
@@ -177,11 +177,11 @@ module _ (opening : Opening) (items : List LogRecord) (recorded : Recorded) (goo
       → IfSome rest (λ stored. (items : List LogRecord) (recorded : Recorded) → IsReplay opening items recorded
       → AreStored stored → (part : Part) (at : ℕ) → answer ≡ fault.Damaged part at
       → IsFileDamaged (kept_bytes stored) recorded.store part at)
-      → IfSome seen (λ image. IfSome rest (λ stored. (part : Part) (at : ℕ) → AreStored stored
+      → IfSome seen (λ image. IfSome rest (λ stored. AreStored stored → (part : Part) (at : ℕ)
       → answer ≡ fault.Damaged part at → IsDamagedIn (kept_bytes stored) image.a part at))
   file_damage rest None answer records damaged = tt
   file_damage None (Some image) answer records damaged = tt
-  file_damage (Some stored) (Some image) answer records damaged = λ part at are is.
+  file_damage (Some stored) (Some image) answer records damaged = λ are part at is.
       by part at (damaged items recorded replay are part at is)
     where
       by : (part : Part) (at : ℕ) → IsFileDamaged (kept_bytes stored) recorded.store part at
@@ -274,12 +274,12 @@ module _ (opening : Opening) (items : List LogRecord) (recorded : Recorded) (goo
         → IfErr result (λ refused. IfSome rest (λ stored. (items : List LogRecord) (recorded : Recorded)
         → IsReplay opening items recorded → AreStored stored → (part : Part) (at : ℕ)
         → refused.fault ≡ fault.Damaged part at → IsFileDamaged (kept_bytes stored) recorded.store part at))
-        → IfSome seen (λ image. IfSome rest (λ stored. (part : Part) (at : ℕ) → AreStored stored → HaveLengths stored
+        → IfSome seen (λ image. IfSome rest (λ stored. AreStored stored → (part : Part) (at : ℕ) → HaveLengths stored
         → IsDamagedIn (kept_bytes stored) image.a part at
         → IsErrAnd result (λ refused. AnswersDamageIn part at refused.fault)))
     each_answered result rest None records opens damages = tt
     each_answered result None (Some image) records opens damages = tt
-    each_answered (Ok core) (Some stored) (Some image) records opens damages = λ part at are lengths damaged.
+    each_answered (Ok core) (Some stored) (Some image) records opens damages = λ are part at lengths damaged.
         none part at (damage_of image stored part at records damaged) (opens items recorded here are).whole
       where
         here : IsReplay opening items recorded
@@ -290,7 +290,7 @@ module _ (opening : Opening) (items : List LogRecord) (recorded : Recorded) (goo
         none parts.Log at damaged all = damaged
         none (parts.File number) at damaged all =
             none_damaged (kept_bytes stored) recorded.store number.0 at all damaged
-    each_answered (Err refused) (Some stored) (Some image) records opens damages = λ part at are lengths damaged.
+    each_answered (Err refused) (Some stored) (Some image) records opens damages = λ are part at lengths damaged.
         one_answer stored part at refused.fault lengths (damage_of image stored part at records damaged)
         (damages items recorded (record { shown = shown; replayed = replayed }) are)
 
@@ -299,13 +299,13 @@ pub log_answered : (rest : Option (List StoredFile)) (seen : Option Image) (answ
     → IfSome seen (λ image. (part : Part) (at : ℕ) → answer ≡ fault.Damaged part at
     → (part ≡ parts.Log) × log_damage.IsDamaged store_steps at image.a)
     → IfSome seen (λ image. (at : ℕ) → log_damage.IsDamaged store_steps at image.a → AnswersDamage at answer)
-    → IfSome seen (λ image. IfSome rest (λ stored. (part : Part) (at : ℕ) → AreStored stored → HaveLengths stored
+    → IfSome seen (λ image. IfSome rest (λ stored. AreStored stored → (part : Part) (at : ℕ) → HaveLengths stored
     → IsDamagedIn (kept_bytes stored) image.a part at → AnswersDamageIn part at answer))
 log_answered rest None answer damaged each = tt
 log_answered None (Some image) answer damaged each = tt
-log_answered (Some stored) (Some image) fault.Failed damaged each = λ part at are lengths is. tt
-log_answered (Some stored) (Some image) fault.Memory damaged each = λ part at are lengths is. tt
-log_answered (Some stored) (Some image) (fault.Damaged other place) damaged each = λ part at are lengths is. by part at is
+log_answered (Some stored) (Some image) fault.Failed damaged each = λ are part at lengths is. tt
+log_answered (Some stored) (Some image) fault.Memory damaged each = λ are part at lengths is. tt
+log_answered (Some stored) (Some image) (fault.Damaged other place) damaged each = λ are part at lengths is. by part at is
   where
     by : (part : Part) (at : ℕ) → IsDamagedIn (kept_bytes stored) image.a part at
         → AnswersDamageIn part at (fault.Damaged other place)

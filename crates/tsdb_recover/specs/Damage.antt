@@ -49,6 +49,10 @@ IsDamagedIn files bytes part.Log at = log.IsDamaged store_steps at bytes
 IsDamagedIn files bytes (part.File number) at = (recorded : Recorded) × IsReplayOf store_steps bytes recorded
     × IsDamagedFile files recorded.store number.0 at
 
+-- where the fault is damage of a part at a place, this holds of the two
+abbrev pub WhereDamaged : OpenFault → (Part → ℕ → Type 0) → Type 0
+WhereDamaged why Holds = (part : Part) (at : ℕ) → why ≡ fault.Damaged part at → Holds part at
+
 -- a fault that may be answered of a store that is damaged in this part at this place: these alone, or no place
 abbrev pub AnswersDamageIn : Part → ℕ → OpenFault → Type 0
 AnswersDamageIn part at fault.Failed = Unit {0}

@@ -1,5 +1,5 @@
 -- What a store shows that was opened.
-use Rattle.std.specs.Prelude.{◌≡◌, ℕ, ◌+◌, List, [], ◌++◌, false, map, nat_eq, Option, None, Some}
+use Rattle.std.specs.Prelude.{◌≡◌, ℕ, ◌+◌, List, [], ◌++◌, false, map, nat_eq, IfSome, Option, None, Some}
 use Rattle.std.specs.List.{All, AllByRecursion as Each, filter, list_any}
 use Rattle.tsdb_recover.specs.Adopting.{HaveNoClaims}
 use Rattle.tsdb_core.specs.Core.{IsSeen, files_of, is_sequence_claimed, next_of}
@@ -17,6 +17,7 @@ use Rattle.tsdb_outside.specs.Files.{StoredFile, stored_file_numbers}
 use Rattle.tsdb_outside.specs.declared.disk.Disk as disk
 use Rattle.tsdb_outside.specs.declared.faults.Counted as counted
 use Rattle.tsdb_recover.specs.Damage.{IsTreeFile}
+use Rattle.tsdb_recover.specs.StoredFiles.{AreStored}
 use Rattle.tsdb_state.specs.Replays.{IsReplayOf, Replays}
 use Rattle.tsdb_state.specs.Stores.{IsStateOf, Recorded, store_steps}
 use Rattle.tsdb_state.specs.NewStore.{opened}
@@ -56,6 +57,13 @@ IsNextNumber next stored named = next ≡ greatest (stored_file_numbers stored +
 pub record IsReplay (opening : Opening) (items : List LogRecord) (recorded : Recorded) : Type 0 where
   pub shown : IsOpeningOf opening recorded
   pub replayed : Replays store_steps store_steps.new_store items recorded
+
+-- where the files at rest are told, and are stored as files are, this holds of them, and of records and their state that
+-- the opening is a replay of
+abbrev pub WhereReplayed : Opening → Option (List StoredFile)
+    → (List LogRecord → Recorded → List StoredFile → Type 0) → Type 0
+WhereReplayed opening at_rest Holds = IfSome at_rest (λ stored. (items : List LogRecord) (recorded : Recorded)
+    → IsReplay opening items recorded → AreStored stored → Holds items recorded stored)
 
 -- the core with the listed ones of these files shows the state, once what they hold is told
 pub record IsShown {J F S R P : Type 0} {means : disk.Ghosts J} {counts : counted.Ghosts J}

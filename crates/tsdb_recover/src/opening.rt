@@ -1,5 +1,5 @@
 //! The opening of a store. Depends on `taking`, `strays`, `fault`, `log`, `adopting` and tsdb_core.
-ghost use Rattle.std.specs.Prelude.{◌≡◌, ◌⊎◌, ◌≤◌, [], ℕ, IfErr, IfOk, IfSome, IsErrAnd, IsErrOf, List, OnErr, OnOk};
+ghost use Rattle.std.specs.Prelude.{◌≡◌, ◌⊎◌, ◌≤◌, [], ℕ, IfErr, IfOk, IsErrAnd, IsErrOf, List, OnErr, OnOk};
 ghost use Rattle.std.specs.Prelude.{Some, false};
 ghost use Rattle.std.specs.declared.option.Option.{Option};
 ghost use Rattle.std.specs.List.Sorted.{IsStrictlyIncreasing};
@@ -20,14 +20,15 @@ ghost use Rattle.tsdb_outside.specs.Files.{StoredFile, plain_numbers};
 ghost use Rattle.tsdb_outside.specs.declared.disk.Slot.TheVariants as slots;
 ghost use Rattle.tsdb_recover.specs.Files.{HasFilesCause};
 ghost use Rattle.tsdb_recover.specs.declared.fault.Part as store_part;
-ghost use Rattle.tsdb_recover.specs.Damage.{AnswersDamageIn, IsDamagedIn, IsFileDamaged};
+ghost use Rattle.tsdb_recover.specs.Damage.{AnswersDamageIn, IsDamagedIn, IsFileDamaged, WhereDamaged};
 ghost use Rattle.tsdb_recover.specs.OpenedStore.{HasOpened, IsNextNumber, IsRecovered, IsReplay, IsUnclaimed};
+ghost use Rattle.tsdb_recover.specs.OpenedStore.{WhereReplayed};
 ghost use Rattle.tsdb_recover.specs.Strays.{AreLeft, IsStray, IsUnlisted, NoneMayGo};
 ghost use Rattle.tsdb_recover.specs.Taking.{AreGoneIn, KeepsAdopting, HasLeft, HasOpenCause, HasTakenMore, HasTakenUp};
 ghost use Rattle.tsdb_recover.specs.Taking.{HaveLengths, IsGreatestNumber, IsTakingUp};
 ghost use Rattle.tsdb_state.specs.Replays.{IsReplayOf};
 ghost use Rattle.tsdb_state.specs.Stores.{IsSound, Recorded, store_steps};
-ghost use Rattle.tsdb_recover.specs.StoredFiles.{AreStored};
+ghost use Rattle.tsdb_recover.specs.StoredFiles.{WhereFilesTold, WhereStoreTold};
 
 use crate::adopting::Adopting;
 use crate::fault::{OpenFault, OpenRefused};
@@ -51,28 +52,25 @@ pub fn recover<J: Journal, F: Files>(
     options: Options,
 ) -> Result<Core<J, F>, OpenRefused<J>>
     requires limit { IsPairLimit options.pair_points }
-    ensures seen { IfOk result (λ core. IfSome (J.state journal).seen (λ image. IfSome (F.at_rest files.old) (λ stored.
-        (at : plain.State) → AreStored stored → IsSound slots.A (J.state journal) (kept_bytes stored) at
-        → IsRecovered core image.a stored at))) }
-    ensures next { IfOk result (λ core. IfSome (J.state journal).seen (λ image. (recorded : Recorded)
-        → IsReplayOf store_steps image.a recorded → IfSome (F.at_rest files.old) (λ stored. AreStored stored
-        → IsNextNumber (next_of core) stored recorded.named))) }
-    ensures strays { IfOk result (λ core. IfSome (F.at_rest files.old) (λ stored. AreStored stored
-        → F.at_rest files.new ≡ Some [])) }
-    ensures damaged { IfErr result (λ refused. IfSome (J.state journal).seen (λ image. IfSome (F.at_rest files.old)
-        (λ stored. (part : store_part.Part) (at : ℕ) → AreStored stored
-        → refused.fault ≡ OpenFault.Damaged part at → IsDamagedIn (kept_bytes stored) image.a part at))) }
-    ensures each { IfSome (J.state journal).seen (λ image. IfSome (F.at_rest files.old) (λ stored.
-        (part : store_part.Part) (at : ℕ) → AreStored stored → HaveLengths stored
-        → IsDamagedIn (kept_bytes stored) image.a part at
-        → IsErrAnd result (λ refused. AnswersDamageIn part at refused.fault))) }
-    ensures left { IfErr result (λ refused. IfSome (J.state journal).seen (λ image. IfSome (F.at_rest files.old)
-        (λ stored. AreStored stored → IsSomeAnd (F.at_rest files.new) (AreLeft (IsStray image.a) stored)))) }
+    ensures seen { IfOk result (λ core. WhereStoreTold (J.state journal) (F.at_rest files.old) (λ log stored.
+        (at : plain.State) → IsSound slots.A (J.state journal) (kept_bytes stored) at
+        → IsRecovered core log stored at)) }
+    ensures next { IfOk result (λ core. WhereStoreTold (J.state journal) (F.at_rest files.old) (λ log stored.
+        (recorded : Recorded) → IsReplayOf store_steps log recorded
+        → IsNextNumber (next_of core) stored recorded.named)) }
+    ensures strays { IfOk result (λ core. WhereFilesTold (F.at_rest files.old)
+        (λ stored. F.at_rest files.new ≡ Some [])) }
+    ensures damaged { IfErr result (λ refused. WhereStoreTold (J.state journal) (F.at_rest files.old) (λ log stored.
+        WhereDamaged refused.fault (IsDamagedIn (kept_bytes stored) log))) }
+    ensures each { WhereStoreTold (J.state journal) (F.at_rest files.old) (λ log stored. (part : store_part.Part)
+        (at : ℕ) → HaveLengths stored → IsDamagedIn (kept_bytes stored) log part at
+        → IsErrAnd result (λ refused. AnswersDamageIn part at refused.fault)) }
+    ensures left { IfErr result (λ refused. WhereStoreTold (J.state journal) (F.at_rest files.old) (λ log stored.
+        IsSomeAnd (F.at_rest files.new) (AreLeft (IsStray log) stored))) }
 
     // Strays go last: where something is damaged each file of the store is as it was.
-    ensures damaged_keeps { IfErr result (λ refused. IfSome (F.at_rest files.old) (λ stored. AreStored stored
-        → (part : store_part.Part) (at : ℕ) → refused.fault ≡ OpenFault.Damaged part at
-        → IsSomeAnd (F.at_rest files.new) (AreLeft NoneMayGo stored))) }
+    ensures damaged_keeps { IfErr result (λ refused. WhereFilesTold (F.at_rest files.old) (λ stored.
+        WhereDamaged refused.fault (λ part at. IsSomeAnd (F.at_rest files.new) (AreLeft NoneMayGo stored)))) }
 
     // Nothing is in doubt, nothing is out, claimed or on its way out, and all files are of the store.
     ensures no_doubt { IfOk result (λ core. is_in_doubt (log_of (logged_of core)) ≡ false) }
@@ -110,18 +108,15 @@ fn open_files<J: Journal, F: Files>(
 ) -> Result<Core<J, F>, OpenRefused<J>>
     requires some { (items : List LogRecord) × (recorded : Recorded) × IsReplay opening items recorded }
     requires limit { IsPairLimit options.pair_points }
-    ensures opened { IfOk result (λ core. IfSome (F.at_rest files.old) (λ stored. (items : List LogRecord)
-        (recorded : Recorded) → IsReplay opening items recorded → AreStored stored
-        → HasOpened core log stored (F.at_rest files.new) items recorded)) }
-    ensures damaged { IfErr result (λ refused. IfSome (F.at_rest files.old) (λ stored. (items : List LogRecord)
-        (recorded : Recorded) → IsReplay opening items recorded → AreStored stored → (part : store_part.Part) (at : ℕ)
-        → refused.fault ≡ OpenFault.Damaged part at → IsFileDamaged (kept_bytes stored) recorded.store part at)) }
-    ensures left { IfErr result (λ refused. IfSome (F.at_rest files.old) (λ stored. (items : List LogRecord)
-        (recorded : Recorded) → IsReplay opening items recorded → AreStored stored
-        → IsSomeAnd (F.at_rest files.new) (AreLeft (IsUnlisted recorded.store) stored))) }
-    ensures damaged_keeps { IfErr result (λ refused. IfSome (F.at_rest files.old) (λ stored. (items : List LogRecord)
-        (recorded : Recorded) → IsReplay opening items recorded → AreStored stored → (part : store_part.Part) (at : ℕ)
-        → refused.fault ≡ OpenFault.Damaged part at → IsSomeAnd (F.at_rest files.new) (AreLeft NoneMayGo stored))) }
+    ensures opened { IfOk result (λ core. WhereReplayed opening (F.at_rest files.old) (λ items recorded stored.
+        HasOpened core log stored (F.at_rest files.new) items recorded)) }
+    ensures damaged { IfErr result (λ refused. WhereReplayed opening (F.at_rest files.old) (λ items recorded stored.
+        WhereDamaged refused.fault (IsFileDamaged (kept_bytes stored) recorded.store))) }
+    ensures left { IfErr result (λ refused. WhereReplayed opening (F.at_rest files.old) (λ items recorded stored.
+        IsSomeAnd (F.at_rest files.new) (AreLeft (IsUnlisted recorded.store) stored))) }
+    ensures damaged_keeps { IfErr result (λ refused. WhereReplayed opening (F.at_rest files.old)
+        (λ items recorded stored. WhereDamaged refused.fault
+        (λ part at. IsSomeAnd (F.at_rest files.new) (AreLeft NoneMayGo stored)))) }
     ensures log { IfOk result (λ core. log_of (logged_of core) ≡ log) }
     ensures quiet { IfOk result (λ core. KeepsJobs core [] []) }
     ensures unclaimed { IfOk result (λ core. IsUnclaimed core) }

@@ -137,20 +137,20 @@ same_refused old new stored now status keeps same why =
 
 -- why a store was not opened, where what is answered of its damage is so
 opening_why : (state : DiskState) (stored start : Option (List StoredFile)) (reason : OpenFault) → start ≡ stored
-    → IfSome state.seen (λ image. IfSome start (λ files. (which : Part) (at : ℕ) → AreStored files
+    → IfSome state.seen (λ image. IfSome start (λ files. AreStored files → (which : Part) (at : ℕ)
     → reason ≡ fault.Damaged which at → IsDamagedIn (kept_bytes files) image.a which at))
     → IsOpeningStatus (contents state stored) (opening_status reason)
 opening_why state stored start fault.Failed begins damaged = tt
 opening_why state stored start fault.Memory begins damaged = tt
 opening_why state stored start (fault.Damaged part place) begins damaged = λ image files tells.
-    told_both (λ i l. (which : Part) (at : ℕ) → AreStored l → fault.Damaged part place ≡ fault.Damaged which at
-    → IsDamagedIn (kept_bytes l) i.a which at) state.seen start image files tells.slots (begins ∙ tells.told) damaged part
-    place tells.are_stored refl
+    told_both (λ i l. AreStored l → (which : Part) (at : ℕ) → fault.Damaged part place ≡ fault.Damaged which at
+    → IsDamagedIn (kept_bytes l) i.a which at) state.seen start image files tells.slots (begins ∙ tells.told) damaged
+    tells.are_stored part place refl
 
 -- what an opening that failed leaves
 pub opening_refused : (state new : DiskState) (stored start mid now : Option (List StoredFile)) (reason : OpenFault)
     → start ≡ stored → now ≡ mid → Keeps state new
-    → IfSome state.seen (λ image. IfSome start (λ files. (which : Part) (at : ℕ) → AreStored files
+    → IfSome state.seen (λ image. IfSome start (λ files. AreStored files → (which : Part) (at : ℕ)
     → reason ≡ fault.Damaged which at → IsDamagedIn (kept_bytes files) image.a which at))
     → IfSome state.seen (λ image. IfSome start (λ files. AreStored files
     → IsSomeAnd mid (AreLeft (IsStray image.a) files)))
@@ -176,17 +176,17 @@ answers_reports part at fault.Memory is = inr (inl refl)
 -- where the store is damaged, what is said of each damage is said of this one
 damage_of : (state : DiskState) (stored start : Option (List StoredFile)) (part : Part) (at : ℕ)
     (Answered : Part → ℕ → Type 0) → start ≡ stored
-    → IfSome state.seen (λ image. IfSome start (λ files. (which : Part) (place : ℕ) → AreStored files
+    → IfSome state.seen (λ image. IfSome start (λ files. AreStored files → (which : Part) (place : ℕ)
     → HaveLengths files → IsDamagedIn (kept_bytes files) image.a which place → Answered which place))
     → HasDamage (contents state stored) part at → Answered part at
 damage_of state stored start part at Answered begins each has =
-    told_both (λ i l. (which : Part) (place : ℕ) → AreStored l → HaveLengths l
+    told_both (λ i l. AreStored l → (which : Part) (place : ℕ) → HaveLengths l
     → IsDamagedIn (kept_bytes l) i.a which place → Answered which place) state.seen start has.image has.files
-    has.tells.slots (begins ∙ has.tells.told) each part at has.tells.are_stored has.lengths has.damaged
+    has.tells.slots (begins ∙ has.tells.told) each has.tells.are_stored part at has.lengths has.damaged
 
 -- a damaged store was opened, which cannot be
 pub never_opened : (state : DiskState) (stored start : Option (List StoredFile)) (part : Part) (at : ℕ) → start ≡ stored
-    → IfSome state.seen (λ image. IfSome start (λ files. (which : Part) (place : ℕ) → AreStored files
+    → IfSome state.seen (λ image. IfSome start (λ files. AreStored files → (which : Part) (place : ℕ)
     → HaveLengths files → IsDamagedIn (kept_bytes files) image.a which place → ⊥))
     → ¬ HasDamage (contents state stored) part at
 never_opened state stored start part at = damage_of state stored start part at (λ which place. ⊥)
@@ -194,7 +194,7 @@ never_opened state stored start part at = damage_of state stored start part at (
 -- it was not opened
 pub reports : (state : DiskState) (stored start : Option (List StoredFile)) (part : Part) (at : ℕ) (reason : OpenFault)
     → start ≡ stored
-    → IfSome state.seen (λ image. IfSome start (λ files. (which : Part) (place : ℕ) → AreStored files
+    → IfSome state.seen (λ image. IfSome start (λ files. AreStored files → (which : Part) (place : ℕ)
     → HaveLengths files → IsDamagedIn (kept_bytes files) image.a which place → AnswersDamageIn which place reason))
     → HasDamage (contents state stored) part at → ReportsDamage (opening_status reason) part at
 reports state stored start part at reason begins each has = answers_reports part at reason

@@ -105,27 +105,28 @@ module _ {J F S R P : Type 0} {means : disk.Ghosts J} {counts : counted.Ghosts J
   slots : state.seen ≡ Some image
   slots = (tells_sound state stored start sound).1.slots
 
-  pub opened : IfSome state.seen (λ i. IfSome now (λ l. (at : plain.State) → AreStored l
+  pub opened : IfSome state.seen (λ i. IfSome now (λ l. AreStored l → (at : plain.State)
       → replay.IsSound A state (kept_bytes l) at → IsRecovered core i.a l at)) → IsRecovered core image.a sound.files start
   opened seen =
-      told_both (λ i l. (at : plain.State) → AreStored l → replay.IsSound A state (kept_bytes l) at → IsRecovered core i.a l at)
-      state.seen now image sound.files slots (same ∙ sound.told) seen start sound.are_stored sound.sound
+      told_both (λ i l. AreStored l → (at : plain.State) → replay.IsSound A state (kept_bytes l) at → IsRecovered core i.a l at)
+      state.seen now image sound.files slots (same ∙ sound.told) seen sound.are_stored start sound.sound
 
   pub next_is : (recorded : Recorded) → IsReplayOf store_steps image.a recorded
-      → IfSome state.seen (λ i. (recorded : Recorded) → IsReplayOf store_steps i.a recorded → IfSome now (λ l. AreStored l
-      → IsNextNumber (next_of core) l recorded.named)) → IsNextNumber (next_of core) sound.files recorded.named
+      → IfSome state.seen (λ i. IfSome now (λ l. AreStored l → (recorded : Recorded)
+      → IsReplayOf store_steps i.a recorded → IsNextNumber (next_of core) l recorded.named))
+      → IsNextNumber (next_of core) sound.files recorded.named
   next_is recorded replayed next =
-      if_some (λ l. AreStored l → IsNextNumber (next_of core) l recorded.named) now sound.files (same ∙ sound.told)
-      (if_some (λ (i : Image). (recorded : Recorded) → IsReplayOf store_steps i.a recorded → IfSome now (λ l. AreStored l
-      → IsNextNumber (next_of core) l recorded.named)) state.seen image slots next recorded replayed) sound.are_stored
+      told_both (λ i l. AreStored l → (recorded : Recorded) → IsReplayOf store_steps i.a recorded
+      → IsNextNumber (next_of core) l recorded.named) state.seen now image sound.files slots (same ∙ sound.told) next
+      sound.are_stored recorded replayed
 
   some_is : (a b : Image) → Some a ≡ Some b → a ≡ b
   some_is a b same = cc
 
   -- the number that a core draws next is that of the store
   pub next_same : (next : ℕ) → IsNextNumberOf (contents state stored) sound.files next
-      → IfSome state.seen (λ i. (recorded : Recorded) → IsReplayOf store_steps i.a recorded → IfSome now (λ l. AreStored l
-      → IsNextNumber (next_of core) l recorded.named)) → next_of core ≡ next
+      → IfSome state.seen (λ i. IfSome now (λ l. AreStored l → (recorded : Recorded)
+      → IsReplayOf store_steps i.a recorded → IsNextNumber (next_of core) l recorded.named)) → next_of core ≡ next
   next_same next is number =
       let here = some_is is.image image (sym is.slots ∙ slots) in
       next_is is.recorded (subst (λ (i : Image). IsReplayOf store_steps i.a is.recorded) here is.replayed) number
