@@ -3,7 +3,7 @@
 //!
 //! `specs/Parts.antt` says which series a part of a pair has, and `specs/BuiltFile.antt` when a file is that of a part.
 //!
-//! `Part` is a file in the making, for whoever writes one series by series, or point by point.
+//! `PartBuilder` is a file in the making, for whoever writes one series by series, or point by point.
 //!
 //! What a file that a flush built is to the engine state: the points of its tree are those of the part, and what is
 //! kept of it says so.

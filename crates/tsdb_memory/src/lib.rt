@@ -15,7 +15,7 @@
 //! The rows of inserts against what is in memory: how a row is read, when it fits the working pair, and that it can
 //! then be put.
 //!
-//! An insert takes four calls: `cells_of` reads the row, or refuses it as the plain map does; `fits` says whether the
+//! An insert takes four calls: `cells_of` reads the row, or refuses it as the plain map does; `fits_pair` says whether the
 //! working pair has to be frozen first; and then the record is written with the cells that were read. Laws say that the
 //! state after the first three has what that record needs.
 //!
