@@ -12,7 +12,7 @@ use Rattle.tsdb_base.specs.declared.ids.Space.{Space}
 use Rattle.tsdb_base.specs.declared.ids.Space.TheVariants.{Sequence, Unsequence}
 use Rattle.tsdb_tasks.proofs.InState.{counted_among}
 use Rattle.tsdb_tasks.specs.Finishing.{IsRunOf, StandInSequence}
-use Rattle.tsdb_core.proofs.Jobs.{is_counted}
+use Rattle.tsdb_core.proofs.LoansRights.{is_counted}
 use Rattle.tsdb_core.specs.Loans.{AreJobNumbersApart, IsOwned, KeepsInputs, StandClaimed, StandFrom, StandsIn}
 use Rattle.tsdb_core.specs.Replacements.{without_claim}
 use Rattle.tsdb_memory.proofs.Counts.{among_either}

@@ -61,7 +61,7 @@ counted_changed k l change a b is counts all =
     by None all = tt
     by (Some file) all = counts file all
 
-is_counted : (n : ℕ) (numbers : List ℕ) → Among n numbers → 1 ≤ count n numbers
+pub is_counted : (n : ℕ) (numbers : List ℕ) → Among n numbers → 1 ≤ count n numbers
 is_counted n numbers among = counted n numbers (any_among (nat_eq n) numbers n among (eq-eqb n n refl))
 
 -- some of the rights that were out go on to be

@@ -3,8 +3,8 @@ use Rattle.std.proofs.lemmas.Bool.{false≢true}
 use Rattle.tsdb_log.proofs.ShortFields.{bad_near, no_beginning, whole_near}
 use Rattle.tsdb_log.proofs.reading.may_begin.Goals as goal
 
-pub returns-then-size-clause-near : goal.returns-then-size-clause-near
-returns-then-size-clause-near c = λ may at furthest. omega arith
+pub returns-then-size-lt-MAX_FIELD_BYTES-clause-near : goal.returns-then-size-lt-MAX_FIELD_BYTES-clause-near
+returns-then-size-lt-MAX_FIELD_BYTES-clause-near c = λ may at furthest. omega arith
 
 pub returns-in-Ok-clause-near : goal.returns-in-Ok-clause-near
 returns-in-Ok-clause-near c = λ may. whole_near c.args.bytes.now c.in-Ok.item c.in-Ok.ensures.record c.in-Ok.ensures.found
