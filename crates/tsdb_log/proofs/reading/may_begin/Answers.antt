@@ -1,5 +1,4 @@
-use Rattle.std.proofs.Common.{◌≡◌, arith, rules, sym}
-use Rattle.std.proofs.lemmas.Bool.{false≢true}
+use Rattle.std.proofs.Common.{◌≡◌, ◌-◌, arith, length, ltb-false, ltb-true, rules}
 use Rattle.tsdb_log.proofs.ShortFields.{bad_near, no_beginning, whole_near}
 use Rattle.tsdb_log.proofs.reading.may_begin.Goals as goal
 
@@ -11,8 +10,14 @@ returns-in-Ok-clause-near c = λ may. whole_near c.args.bytes.now c.in-Ok.item c
 
 pub returns-in-Err-Bad-clause-none : goal.returns-in-Err-Bad-clause-none
 returns-in-Err-Bad-clause-none c = λ may.
-    no_beginning c.args.bytes.now c.in-Err-Bad.at (c.in-Err-Bad.ensures.bad c.in-Err-Bad.at (search rules)).place (omega arith)
+    let bytes = c.args.bytes.now in
+    let at = c.in-Err-Bad.at in
+    let far = ltb-false (length bytes - 65537) at may in
+    no_beginning bytes at (c.in-Err-Bad.ensures.bad at (search rules)).place (omega (arith, far, c.if-size-lt-MAX_FIELD_BYTES.false))
 
 pub returns-in-Err-Bad-clause-near : goal.returns-in-Err-Bad-clause-near
 returns-in-Err-Bad-clause-near c = λ may.
-    bad_near c.args.bytes.now c.in-Err-Bad.at (c.in-Err-Bad.ensures.bad c.in-Err-Bad.at (search rules)).place (omega arith)
+    let bytes = c.args.bytes.now in
+    let at = c.in-Err-Bad.at in
+    let near = ltb-true (length bytes - 65537) at may in
+    bad_near bytes at (c.in-Err-Bad.ensures.bad at (search rules)).place (omega (arith, near, c.if-size-lt-MAX_FIELD_BYTES.false))

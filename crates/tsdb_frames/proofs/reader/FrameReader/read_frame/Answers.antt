@@ -114,7 +114,8 @@ returns-in_err-read_on-clause-stays g c =
 
 pub returns-in_err-read_on-clause-cause : goal.returns-in_err-read_on-clause-cause
 returns-in_err-read_on-clause-cause g c =
-    let later = omega (arith, c.loop-frame.invariant.later, c.next.ensures.faults) in
+    let later : faults_read c.args.self.now ≤ faults_read c.next.new.self =
+    omega (arith, c.loop-frame.invariant.later, c.next.ensures.faults) in
     record {
       later = not_before _ _ _ later c.read_on.ensures.cause.later;
       failed = λ is.
