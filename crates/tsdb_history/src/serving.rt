@@ -12,7 +12,7 @@ ghost use Rattle.tsdb_model.specs.declared.reply.Listing.{Listing};
 ghost use Rattle.tsdb_model.specs.declared.reply.Reply.{Reply as ReplyOf};
 ghost use Rattle.tsdb_base.specs.Causes.{Rose};
 ghost use Rattle.tsdb_rewriting.specs.Rewriting.{IsCompacted};
-ghost use Rattle.tsdb_querying.specs.Flushing.{HasCountedFault, IsReady, Serves};
+ghost use Rattle.tsdb_querying.specs.Flushing.{HasCountedFault, IsReady, Serves, faults_under};
 ghost use Rattle.tsdb_querying.specs.Serving.{ServesCommand, HasFullCause, IsSure};
 ghost use Rattle.tsdb_querying.specs.Sweeping.{LeavesNothing, StaysEmpty};
 
@@ -76,6 +76,7 @@ fn query<J: Journal, F: Files>(
     ensures no_full { (counter : ℕ) → result ≢ ReplyOf.Plain (AnswerOf.Full counter) }
     ensures cause { IsSure (F.Port.store port.old) core.old → result ≡ ReplyOf.Plain AnswerOf.Device
         → Rose (F.Port.faults port.old) (F.Port.faults port.new) }
+    ensures faults { faults_under core.new ≡ faults_under core.old }
     ensures swept { LeavesNothing (F.Port.faults port.old) (F.Port.faults port.new) core.new }
 {
     if ask_aggregates(items) {
