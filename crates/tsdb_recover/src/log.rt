@@ -66,11 +66,15 @@ fn replay<J: Journal>(alloc: Global, reader: &mut FrameReader<J>) -> Result<Open
     let mut opening = Opening::new(alloc);
     loop {
         match reader.next(alloc) {
-            Ok(Next::Whole(frame)) => redo(&mut opening, alloc, &frame)?,
-            Ok(Next::Part) => read_on(alloc, reader)?,
+            Ok(Next::Whole(frame)) => {
+                redo(&mut opening, alloc, &frame)?;
+                continue;
+            }
+            Ok(Next::Part) => {}
             Ok(Next::End) => return Ok(opening),
             Err(fault) => return Err(log_fault(fault)),
         }
+        read_on(alloc, reader)?;
     }
 }
 

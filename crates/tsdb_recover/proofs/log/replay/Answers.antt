@@ -37,8 +37,8 @@ loop-frame-init g c = record {
   later = omega arith;
 }
 
-pub loop-frame-preserved-in_ok-redo-in-Ok-Whole : goal.loop-frame-preserved-in_ok-redo-in-Ok-Whole
-loop-frame-preserved-in_ok-redo-in-Ok-Whole g c =
+pub loop-frame-preserved-in-Ok-Whole : goal.loop-frame-preserved-in-Ok-Whole
+loop-frame-preserved-in-Ok-Whole g c =
     let l = c.loop-frame in
     let reads = subst (λ (n : Next). IsNext n l.reader c.next.new.self) c.in-Ok-Whole.field-0-is c.in-Ok-Whole.ensures.next in
     record {
@@ -49,8 +49,8 @@ loop-frame-preserved-in_ok-redo-in-Ok-Whole g c =
       later = omega (arith, l.invariant.later, c.next.ensures.faults);
     }
 
-pub loop-frame-smaller-in_ok-redo-in-Ok-Whole : goal.loop-frame-smaller-in_ok-redo-in-Ok-Whole
-loop-frame-smaller-in_ok-redo-in-Ok-Whole g c =
+pub loop-frame-smaller-in-Ok-Whole : goal.loop-frame-smaller-in-Ok-Whole
+loop-frame-smaller-in-Ok-Whole g c =
     let l = c.loop-frame in
     let new = c.next.new.self in
     let reads = subst (λ (n : Next). IsNext n l.reader c.next.new.self) c.in-Ok-Whole.field-0-is c.in-Ok-Whole.ensures.next in
@@ -76,7 +76,7 @@ loop-frame-smaller g c =
     let held = ap (λ reader. unheld_of reader) part.0 in
     smaller_part (unread_of new) (unread_of l.reader) (unheld_of new) (unheld_of l.reader)
     (ap (λ n. 2 ^ 63 - n) c.read_on.ensures.gate ∙ ap (λ reader. unread_of reader) part.0)
-    (omega (arith, held, c.in_ok-read_on-in-Ok-Part.ensures.forward))
+    (omega (arith, held, c.in_ok-read_on.ensures.forward))
 
 pub returns-in-Ok-End-clause-read : goal.returns-in-Ok-End-clause-read
 returns-in-Ok-End-clause-read g c = λ journal unread.
@@ -113,13 +113,13 @@ returns-in_err-redo-in-Ok-Whole-clause-keeps g c =
     let so_far = l.invariant.replaying journal unread in
     (reads.0 journal A so_far.frames so_far.reading).keeps)
 
-pub returns-in_err-read_on-in-Ok-Part-clause-damaged : goal.returns-in_err-read_on-in-Ok-Part-clause-damaged
-returns-in_err-read_on-in-Ok-Part-clause-damaged g c = λ at_part at is.
+pub returns-in_err-read_on-clause-damaged : goal.returns-in_err-read_on-clause-damaged
+returns-in_err-read_on-clause-damaged g c = λ at_part at is.
     let l = c.loop-frame in
-    let p = err_from_is_err_and c.from_residual-in_err-read_on-in-Ok-Part.result c.from_residual-in_err-read_on-in-Ok-Part.ensures.1 in
+    let p = err_from_is_err_and c.from_residual-in_err-read_on.result c.from_residual-in_err-read_on.ensures.1 in
     let passed_on = rw (p.1, p.2) at is in
-    let fault : c.in_err-read_on-in-Ok-Part.field-0.0 ≡ Damaged at_part at = cc in
-    let found = c.in_err-read_on-in-Ok-Part.ensures.damaged at_part at (ap (λ x. Err x) fault) in
+    let fault : c.in_err-read_on.field-0.0 ≡ Damaged at_part at = cc in
+    let found = c.in_err-read_on.ensures.damaged at_part at (ap (λ x. Err x) fault) in
     let part = subst (λ (n : Next). IsNext n l.reader c.next.new.self) c.in-Ok-Part.field-0-is c.in-Ok-Part.ensures.next in (
       found.0,
       λ journal unread.
@@ -128,26 +128,26 @@ returns-in_err-read_on-in-Ok-Part-clause-damaged g c = λ at_part at is.
           found.1 part.1 journal so_far.frames l.opening here so_far.read,
     )
 
-pub returns-in_err-read_on-in-Ok-Part-clause-keeps : goal.returns-in_err-read_on-in-Ok-Part-clause-keeps
-returns-in_err-read_on-in-Ok-Part-clause-keeps g c =
+pub returns-in_err-read_on-clause-keeps : goal.returns-in_err-read_on-clause-keeps
+returns-in_err-read_on-clause-keeps g c =
     let l = c.loop-frame in
     let part = subst (λ (n : Next). IsNext n l.reader c.next.new.self) c.in-Ok-Part.field-0-is c.in-Ok-Part.ensures.next in
-    always_on_err c.from_residual-in_err-read_on-in-Ok-Part.result (λ journal unread.
+    always_on_err c.from_residual-in_err-read_on.result (λ journal unread.
     let so_far = l.invariant.replaying journal unread in
     let here = subst (λ reader. IsReading journal A reader so_far.frames) (sym part.0) so_far.reading in
     (c.read_on.ensures.stays journal A so_far.frames here).keeps)
 
-pub returns-in_err-read_on-in-Ok-Part-clause-later : goal.returns-in_err-read_on-in-Ok-Part-clause-later
-returns-in_err-read_on-in-Ok-Part-clause-later g c =
+pub returns-in_err-read_on-clause-later : goal.returns-in_err-read_on-clause-later
+returns-in_err-read_on-clause-later g c =
     omega (arith, c.loop-frame.invariant.later, c.next.ensures.faults, c.read_on.ensures.later)
 
-pub returns-in_err-read_on-in-Ok-Part-clause-failed : goal.returns-in_err-read_on-in-Ok-Part-clause-failed
-returns-in_err-read_on-in-Ok-Part-clause-failed g c = λ is.
-    let p = err_from_is_err_and c.from_residual-in_err-read_on-in-Ok-Part.result c.from_residual-in_err-read_on-in-Ok-Part.ensures.1 in
+pub returns-in_err-read_on-clause-failed : goal.returns-in_err-read_on-clause-failed
+returns-in_err-read_on-clause-failed g c = λ is.
+    let p = err_from_is_err_and c.from_residual-in_err-read_on.result c.from_residual-in_err-read_on.ensures.1 in
     let passed_on = rw (p.1, p.2) at is in
-    let fault : c.in_err-read_on-in-Ok-Part.field-0.0 ≡ Failed = cc in
+    let fault : c.in_err-read_on.field-0.0 ≡ Failed = cc in
     rose_later _ _ _ (omega (arith, c.loop-frame.invariant.later, c.next.ensures.faults))
-    (c.in_err-read_on-in-Ok-Part.ensures.failed (ap (λ x. Err x) fault))
+    (c.in_err-read_on.ensures.failed (ap (λ x. Err x) fault))
 
 pub returns-in-Err-clause-damaged : goal.returns-in-Err-clause-damaged
 returns-in-Err-clause-damaged g c = λ part at is.

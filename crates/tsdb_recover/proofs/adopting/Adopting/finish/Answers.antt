@@ -53,4 +53,4 @@ returns-clause-none_leaving g c = subst (λ (files : KeptFiles). files.outgoing 
     c.requires.all.is.first.outgoing
 
 pub returns-clause-kept : goal.returns-clause-kept
-returns-clause-kept g c = c.tell_kept.ensures
+returns-clause-kept g c = c.sound.ensures
