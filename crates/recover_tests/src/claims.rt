@@ -8,11 +8,24 @@ use tsdb_base::limits::END_OF_SLOT;
 use tsdb_outside::{Counted, Disk, Failed, Journal, Slot};
 use tsdb_recover::{OpenFault, Part, read_log};
 
-/// A journal that tells nothing. Its slot A has an open gate, the length FFFFFFFF, so many bytes, and else zeros.
+/// A journal that tells nothing. Its slot A has an open gate, the length FFFFFFFF, so many bytes, and else zeros. Each
+/// write fails.
 #[derive(Drop)]
 struct Claiming {
     first: &'static [u8],
     read: u64,
+    faults: u64,
+}
+
+impl Claiming {
+    /// No byte is read yet.
+    fn new(first: &'static [u8]) -> Claiming {
+        Claiming {
+            first,
+            read: 0,
+            faults: 0,
+        }
+    }
 }
 
 /// The bytes of an open gate and of the greatest length.
@@ -25,7 +38,7 @@ const LENGTH: u64 = 4_294_967_301;
 const MOST: u64 = 196_608;
 
 impl Counted for Claiming {
-    ghost faults = { λ _. 0 };
+    ghost faults = { λ claiming. claiming.faults };
 }
 
 impl Disk for Claiming {
@@ -56,7 +69,8 @@ impl Journal for Claiming {
     }
 
     fn write_at(&mut self, _slot: Slot, _at: u64, _bytes: &[u8]) -> Result<(), Failed> {
-        Ok(())
+        self.faults = self.faults.saturating_add(1);
+        Err(Failed)
     }
 
     fn sync(&mut self, _slot: Slot) -> Result<(), Failed> {
@@ -84,7 +98,7 @@ const FIRSTS: [&[u8]; 10] = [
 
 /// Whether the log that begins so is damaged at its first gate, and few of its bytes are read.
 fn is_damaged_at_once(alloc: Global, first: &'static [u8]) -> bool {
-    match read_log(alloc, Claiming { first, read: 0 }) {
+    match read_log(alloc, Claiming::new(first)) {
         Ok(_) => false,
         Err(refused) => {
             let damaged = OpenFault::Damaged {
