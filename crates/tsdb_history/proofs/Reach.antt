@@ -1,5 +1,5 @@
 -- How far the numbers of files have come, over one command and then another.
-use Rattle.std.proofs.Common.{◌≡◌, ◌⊎◌, ℕ, ◌≤◌, List, [], ◌∷◌, ◌++◌, inl, inr, ⊎_elim, arith, subst}
+use Rattle.std.proofs.Common.{ℕ, ◌≤◌, List, [], ◌∷◌, ◌++◌, inl, inr, ⊎_elim, arith, subst}
 use Rattle.tsdb_history.proofs.Prefixes.{entry_of}
 use Rattle.tsdb_history.specs.Reach.{AreFullWithin, IsFullWithin}
 use Rattle.tsdb_model.specs.History.{Entry, IsLegal, state_after}

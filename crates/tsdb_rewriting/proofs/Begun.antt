@@ -1,16 +1,15 @@
 -- A job that has begun, and what its end makes of the whole.
-use Rattle.std.proofs.Common.{◌≡◌, ◌⊎◌, ℕ, ◌+◌, ◌<◌, ◌≤◌, Bool, true, false, List, [], ◌∷◌, ◌++◌, Option, None, Some}
+use Rattle.std.proofs.Common.{◌≡◌, ◌⊎◌, ℕ, ◌≤◌, true, List, [], ◌++◌, Option, None, Some}
 use Rattle.std.proofs.Common.{Result, Ok, Err, inl, inr, ap, arith, refl, sym, subst, ◌∙◌}
 use Rattle.std.proofs.lemmas.Bool.{false≢true}
 use Rattle.std.specs.List.{AllByRecursion as Each}
-use Rattle.std.specs.Option.{option_map}
 use Rattle.std.specs.Prelude.{IfErr, IfSome, IsSome, is_some}
 use Rattle.tsdb_serving.specs.InputRuns.{InputRuns}
 use Rattle.tsdb_compactions.specs.Outputs.{TellsTruth}
 use Rattle.tsdb_compactions.specs.declared.job.Input.{Input}
 use Rattle.tsdb_compactions.specs.declared.job.Job.{Job}
 use Rattle.tsdb_serving.specs.Beginnings.{IsBegun, IsNotBegun}
-use Rattle.tsdb_serving.specs.Core.{files_of, logged_of, next_of}
+use Rattle.tsdb_serving.specs.Core.{files_of}
 use Rattle.tsdb_serving.specs.CoreType.{Core}
 use Rattle.tsdb_base.specs.declared.ids.Space.{Space}
 use Rattle.tsdb_frames.specs.Frames.{disk_of, faults_of, slot_of}
@@ -20,7 +19,6 @@ use Rattle.tsdb_fileset.specs.Files.{kept_file}
 use Rattle.tsdb_fileset.specs.Places.{KeptFile}
 use Rattle.tsdb_fileset.specs.Rights.{IsRightTo}
 use Rattle.tsdb_base.proofs.Lists.{each_weaker}
-use Rattle.tsdb_memory.specs.LogState.{log_of}
 use Rattle.tsdb_model.specs.State as plain
 use Rattle.tsdb_base.specs.Causes.{Rose}
 use Rattle.tsdb_outside.specs.Disk.{IsLawful}

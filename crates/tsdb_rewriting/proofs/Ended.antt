@@ -1,26 +1,25 @@
 -- The end of a job.
-use Rattle.std.proofs.Common.{◌≡◌, ℕ, ◌≤◌, true, List, ◌++◌, Option, None, Some, Result, Ok, Err, refl, sym, ap, arith, subst, ◌∙◌}
-use Rattle.std.specs.Option.{option_map}
-use Rattle.std.specs.Prelude.{IfSome, IsSome, OnOk}
+use Rattle.std.proofs.Common.{◌≡◌, ℕ, ◌≤◌, true, Option, None, Result, Ok, Err, sym, ap, arith, subst}
+use Rattle.std.specs.Prelude.{IfSome}
 use Rattle.tsdb_serving.specs.TasksFiles.{NewFile}
 use Rattle.tsdb_serving.specs.InputRuns.{InputRuns}
 use Rattle.tsdb_compactions.specs.declared.job.Job.{Job}
-use Rattle.tsdb_serving.specs.Core.{files_of, logged_of}
-use Rattle.tsdb_serving.specs.Replacements.{EndsFiles, HasEndedJob, IsJobAbandoned, IsJobCommit, TellsNew}
+use Rattle.tsdb_serving.specs.Core.{files_of}
+use Rattle.tsdb_serving.specs.Replacements.{EndsFiles, IsJobAbandoned, IsJobCommit, TellsNew}
 use Rattle.tsdb_serving.specs.CoreType.{Core}
 use Rattle.tsdb_frames.specs.Frames.{faults_of, slot_of}
 use Rattle.tsdb_memory.specs.LogState.{log_of}
 use Rattle.tsdb_memory.specs.declared.logged_memory.LoggedMemory.{LoggedMemory}
 use Rattle.tsdb_outside.specs.Causes.{HasCause}
 use Rattle.tsdb_outside.specs.Disk.{IsLawful}
-use Rattle.tsdb_outside.specs.Files.{NamedFile, Store, StoredFile}
+use Rattle.tsdb_outside.specs.Files.{NamedFile, Store}
 use Rattle.tsdb_outside.specs.declared.disk.Disk as disk
 use Rattle.tsdb_outside.specs.declared.faults.Counted as counted
 use Rattle.tsdb_outside.specs.declared.faults.Failed.{Failed}
 use Rattle.std.specs.FinMap.{empty}
 use Rattle.tsdb_rewriting.proofs.Ready.{EndsTokens, ready_ended}
 use Rattle.tsdb_rewriting.proofs.States.{abandoned, served}
-use Rattle.tsdb_rewriting.specs.Rewriting.{EndsRewrite, IsRewriting, IsServingRewrite}
+use Rattle.tsdb_rewriting.specs.Rewriting.{EndsRewrite, IsRewriting}
 use Rattle.tsdb_serving.specs.Flushing.{faults_under}
 
 module _ {J F S R P : Type 0} {means : disk.Ghosts J} {counts : counted.Ghosts J}

@@ -1,5 +1,5 @@
 -- What is known of the output of a job before it is listed, and why a job fails.
-use Rattle.std.proofs.Common.{◌≡◌, ◌≢◌, ◌⊎◌, ℕ, ◌+◌, ◌<◌, ◌≤◌, true, List, [], Option, None, Some, Result, Ok, Err, inl, inr, arith, zero, suc}
+use Rattle.std.proofs.Common.{◌≡◌, ◌≢◌, ◌⊎◌, ℕ, ◌+◌, ◌<◌, ◌≤◌, true, List, Option, None, Some, Result, Ok, Err, inl, inr, arith, zero, suc}
 use Rattle.std.proofs.Common.{ap, refl, sym, subst, ◌∙◌, Bool, false, nat_eq}
 use Rattle.std.proofs.lemmas.Bool.{false≢true}
 use Rattle.std.proofs.lemmas.Bool.Decides.{nat_tests}
@@ -9,7 +9,7 @@ use Rattle.tsdb_serving.specs.TasksFiles.{file_built}
 use Rattle.tsdb_serving.specs.Finishing.{AreRunsOf}
 use Rattle.tsdb_serving.specs.InputRuns.{InputRuns}
 use Rattle.tsdb_serving.specs.Beginnings.{IsBeginAnswer}
-use Rattle.tsdb_serving.specs.Core.{files_of, next_of}
+use Rattle.tsdb_serving.specs.Core.{files_of}
 use Rattle.tsdb_serving.specs.Replacements.{EndsFiles, TellsNew}
 use Rattle.tsdb_serving.specs.CoreFault.{CoreFault}
 use Rattle.tsdb_serving.specs.TheVariants as core_fault

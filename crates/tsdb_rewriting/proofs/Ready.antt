@@ -1,5 +1,5 @@
 -- A core that is ready begins a job, and is ready again once the job has ended.
-use Rattle.std.proofs.Common.{◌≡◌, ◌≢◌, ℕ, ◌-◌, Bool, true, false, List, [], ◌∷◌, ◌++◌, map, Option, None, Some, length}
+use Rattle.std.proofs.Common.{◌≡◌, ◌≢◌, ℕ, Bool, true, false, [], ◌∷◌, ◌++◌, Option, None, Some, length}
 use Rattle.std.proofs.Common.{ap, arith, refl, sym, subst, ◌∙◌, take, drop}
 use Rattle.std.proofs.Math.Seq.{drop-append_seam, take-append_seam}
 use Rattle.std.proofs.lemmas.Bool.{eqb-true}
@@ -28,7 +28,6 @@ use Rattle.tsdb_serving.specs.Changes.{fewer_rights, more_rights}
 use Rattle.tsdb_rewriting.specs.Rewriting.{IsRewriting}
 use Rattle.tsdb_base.specs.declared.ids.Space.{Space}
 use Rattle.tsdb_serving.specs.Flushing.{IsReady}
-use Rattle.tsdb_state.specs.Records.{numbers_of}
 use Rattle.tsdb_state.specs.State.{Compaction, File}
 
 -- ---- the compaction of a job

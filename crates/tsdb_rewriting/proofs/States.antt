@@ -4,10 +4,10 @@ use Rattle.std.proofs.Common.{ap, subst, ◌∙◌}
 use Rattle.std.specs.List.{AllByRecursion as Each, flat_map}
 use Rattle.tsdb_base.specs.declared.ids.Space.{Space}
 use Rattle.tsdb_base.specs.declared.ids.Space.TheVariants.{Sequence, Unsequence}
-use Rattle.tsdb_serving.specs.TasksFiles.{NewFile, all_of, file_number, stored_of}
+use Rattle.tsdb_serving.specs.TasksFiles.{NewFile, all_of, stored_of}
 use Rattle.tsdb_serving.specs.States.{sent_files}
 use Rattle.tsdb_compactions.specs.declared.job.Job.{Job}
-use Rattle.tsdb_serving.specs.Core.{IsSeen, logged_of}
+use Rattle.tsdb_serving.specs.Core.{IsSeen}
 use Rattle.tsdb_serving.specs.Replacements.{CommitsIn, IsJobAbandoned, IsOutputIn, IsSeenAfterEnd, with_new}
 use Rattle.tsdb_serving.specs.CoreType.{Core}
 use Rattle.tsdb_frames.proofs.MomentLemmas.{weaker}
@@ -37,7 +37,6 @@ use Rattle.tsdb_state.specs.Order.{all_files as state_files_of}
 use Rattle.tsdb_state.specs.Records.{after}
 use Rattle.tsdb_state.specs.State.{Compaction, EngineState, File, StoreState}
 use Rattle.tsdb_state.specs.Steps.{committed, compaction_record, ended, failed, file_numbers, output_number, settled}
-use Rattle.tsdb_state.specs.Worlds.{KeepsWorld}
 
 -- what the output is stored as, where there is one and its token tells its bytes
 abbrev pub put_of : Option NewFile → List StoredFile

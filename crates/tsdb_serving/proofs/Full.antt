@@ -1,5 +1,5 @@
 -- Where a counter is at its end.
-use Rattle.std.proofs.Common.{◌≡◌, ◌≢◌, ◌⊎◌, ℕ, ◌++◌, ◌≤◌, length, length-append, Option, None, Some, inl, inr, ap, arith, subst, sym}
+use Rattle.std.proofs.Common.{◌≡◌, ◌≢◌, ℕ, ◌≤◌, length, length-append, Option, None, Some, inl, inr, ap, arith, subst, sym}
 use Rattle.tsdb_base.specs.declared.answers.Answer.{Answer}
 use Rattle.tsdb_base.specs.declared.answers.Answer.TheVariants as answer
 use Rattle.tsdb_base.specs.declared.ids.FileNumber.{FileNumber}

@@ -10,7 +10,7 @@ use Rattle.tsdb_core.proofs.Stored.{numbers_differ, one_at_most, told_same, worl
 use Rattle.tsdb_core.specs.Files.{AreFilesOfJob, IsOutAs, NewFiles, TellBytes, all_of, state_files}
 use Rattle.tsdb_core.specs.Files.{stored_of, told_after_flush, with_files}
 use Rattle.tsdb_core.specs.Commands.{IsCoreCommand, IsSeenAfter}
-use Rattle.tsdb_core.specs.Core.{IsSeen, files_of, logged_of}
+use Rattle.tsdb_core.specs.Core.{IsSeen, logged_of}
 use Rattle.tsdb_core.specs.Flushes.{IsAbandoned, IsCommit, IsCommitAnswer, IsOldestPair, IsSeenAfterCommit}
 use Rattle.tsdb_core.specs.Flushes.{IsFlushTaken}
 use Rattle.tsdb_core.specs.Rows.{CanFreezeNow}

@@ -1,5 +1,5 @@
 -- A sweep, and what a command leaves that sweeps at its end.
-use Rattle.std.proofs.Common.{◌≡◌, ℕ, ◌+◌, ◌≤◌, false, List, [], ◌++◌, length, Option, Result, Ok, Err, arith, refl, sym, ap, subst, ◌∙◌}
+use Rattle.std.proofs.Common.{◌≡◌, ℕ, ◌≤◌, false, List, [], ◌++◌, length, Option, Result, Ok, Err, arith, refl, sym, ap, subst, ◌∙◌}
 use Rattle.std.specs.Prelude.{OnOk}
 use Rattle.tsdb_base.proofs.Lists.{each_weaker}
 use Rattle.tsdb_base.specs.Causes.{Rose}
@@ -31,7 +31,7 @@ use Rattle.tsdb_serving.proofs.Causes.{rose_later}
 use Rattle.tsdb_serving.proofs.Held.{held_without}
 use Rattle.tsdb_serving.proofs.Jobs.{drawn_first}
 use Rattle.tsdb_serving.specs.Flushing.{GoesOn, IsReady, faults_under, frozen_under}
-use Rattle.tsdb_serving.specs.Serving.{ServesCommand, IsDrawn, IsServedBy, IsServing, LeavesEither, StaysInPlace, disk_under}
+use Rattle.tsdb_serving.specs.Serving.{ServesCommand, IsDrawn, IsServedBy, LeavesEither, StaysInPlace, disk_under}
 use Rattle.tsdb_serving.specs.Serving.{slot_under}
 use Rattle.tsdb_serving.specs.Sweeping.{KeepsAllButOutgoing, LeavesNothing}
 use Rattle.tsdb_serving.specs.declared.fault.FlushFault.{FlushFault}

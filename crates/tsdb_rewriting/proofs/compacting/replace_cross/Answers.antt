@@ -1,7 +1,7 @@
-use Rattle.std.proofs.Common.{◌≡◌, Ok, ap, inl, inr, refl, subst, sym, ◌∙◌}
+use Rattle.std.proofs.Common.{◌≡◌, Ok, ap, inr, refl, subst, sym, ◌∙◌}
 use Rattle.tsdb_base.specs.declared.ids.Space.TheVariants.{Sequence}
 use Rattle.tsdb_serving.proofs.Beginnings.{plan_fits}
-use Rattle.tsdb_serving.specs.Beginnings.{HaveHulls, IsBeginAnswer, IsBegunOrNot, IsCrossRuns, IsInnerRuns}
+use Rattle.tsdb_serving.specs.Beginnings.{HaveHulls, IsBeginAnswer, IsBegunOrNot, IsCrossRuns}
 use Rattle.tsdb_serving.specs.Core.{next_of}
 use Rattle.tsdb_serving.specs.TheVariants.{Memory as NoMemory}
 use Rattle.tsdb_rewriting.proofs.Begun.{cause_of, not_begun, rewritten, sure_truth}

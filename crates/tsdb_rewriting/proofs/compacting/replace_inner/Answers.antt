@@ -1,13 +1,11 @@
 use Rattle.std.proofs.Common.{◌≡◌, Ok, ap, inl, inr, refl, subst, sym, ◌∙◌}
-use Rattle.tsdb_base.specs.declared.ids.Space.TheVariants.{Sequence}
 use Rattle.tsdb_serving.proofs.Beginnings.{plan_fits}
-use Rattle.tsdb_serving.specs.Beginnings.{HaveHulls, IsBeginAnswer, IsBegunOrNot, IsCrossRuns, IsInnerRuns}
+use Rattle.tsdb_serving.specs.Beginnings.{IsBeginAnswer, IsBegunOrNot, IsInnerRuns}
 use Rattle.tsdb_serving.specs.Core.{next_of}
-use Rattle.tsdb_serving.specs.TheVariants.{Memory as NoMemory}
 use Rattle.tsdb_rewriting.proofs.Begun.{cause_of, not_begun, rewritten, sure_truth}
 use Rattle.tsdb_rewriting.proofs.Outputs.{counter_is, full_counter, not_device}
 use Rattle.tsdb_rewriting.proofs.Ready.{is_rewriting}
-use Rattle.tsdb_rewriting.proofs.Whole.{compacted, no_full, no_plan}
+use Rattle.tsdb_rewriting.proofs.Whole.{compacted, no_full}
 use Rattle.tsdb_serving.specs.declared.fault.FlushFault.TheVariants as fault
 use Rattle.tsdb_rewriting.proofs.compacting.replace_inner.Goals as goal
 
