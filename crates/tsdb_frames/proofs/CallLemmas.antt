@@ -13,7 +13,7 @@ use Rattle.tsdb_frames.specs.declared.frames.Frames.{Frames}
 use Rattle.tsdb_frames.specs.declared.aside.Aside.{Aside}
 use Rattle.tsdb_frames.specs.declared.aside.Aside.TheVariants.{Settled, Closed, Unsettled, Doubted}
 use Rattle.tsdb_frames.specs.Asides.{HasRecordsOrNone, IsAsideOn, LeftInSlot, is_doubted, records_settled}
-use Rattle.tsdb_frames.specs.Calls.{IsAsideClosed, KeepsAside, KeepsLog, Lengthens, SettlesAside}
+use Rattle.tsdb_frames.specs.Calls.{IsAsideClosed, KeepsAside, KeepsLog, KeepsToSlot, LeavesAside, Lengthens, SettlesAside}
 use Rattle.tsdb_frames.specs.Frames.{IsAside, IsLog, disk_of, is_aside_in_doubt, settled_aside, slot_of}
 use Rattle.tsdb_frames.specs.Log.{HasRecordsOrOneMore, IsLogOn}
 use Rattle.tsdb_frames.specs.Slots.{HasRecords}
@@ -205,11 +205,41 @@ module _ {J : Type 0} {means : disk.Ghosts J} {counts : counted.Ghosts J} where
         };
       }
 
-  pub unchanged_untouched : (old mid : Frames J means counts) → IsLawful (disk_of old) → mid ≡ old
-      → LeavesOnly (disk_of old) (disk_of mid) (IsUntouched (slot_of old) (disk_of old))
-  unchanged_untouched old mid laws same =
-      subst (λ (m : Frames J means counts). LeavesOnly (disk_of old) (disk_of m) (IsUntouched (slot_of old) (disk_of old))) (sym same)
-      (leaves_untouched (slot_of old) (disk_of old) (disk_of old) (idle_leaves (other (slot_of old)) (disk_of old) laws))
+  -- a call that keeps to the slot of a log, and then one that leaves the slot aside alone
+  pub leaves_aside_on : (old mid : Frames J means counts) (new : DiskState) → IsLawful new → KeepsToSlot old mid → LeavesAside mid new
+      → LeavesAside old new
+  leaves_aside_on old mid new laws first second none =
+      elsewhere_on (slot_of old) (disk_of old) (disk_of mid) new (means.lawful mid.journal) laws (first.aside none)
+      (subst (λ (s : Slot). LeavesOnly (disk_of mid) new (IsUntouched s (disk_of mid))) first.same (second (first.no_doubt none)))
+
+  -- A call keeps to the slot of a log: it does nothing where no gate of the slot aside is in doubt; it does nothing; it
+  -- leaves the slot aside alone; it is one call and then another.
+  pub idle_keeps_to_slot : (old new : Frames J means counts) → slot_of new ≡ slot_of old
+      → (is_aside_in_doubt old ≡ false → new ≡ old) → KeepsToSlot old new
+  idle_keeps_to_slot old new same idle = record {
+    same = same;
+    aside = λ none. subst (λ (m : Frames J means counts). LeavesOnly (disk_of old) (disk_of m) (IsUntouched (slot_of old) (disk_of old)))
+        (sym (idle none)) (leaves_untouched (slot_of old) (disk_of old) (disk_of old)
+        (idle_leaves (other (slot_of old)) (disk_of old) (means.lawful old.journal)));
+    no_doubt = λ none. ap is_aside_in_doubt (idle none) ∙ none;
+  }
+
+  pub same_keeps_to_slot : (old new : Frames J means counts) → new ≡ old → KeepsToSlot old new
+  same_keeps_to_slot old new same = idle_keeps_to_slot old new (ap slot_of same) (λ none. same)
+
+  pub aside_keeps_to_slot : (old new : Frames J means counts) → KeepsAside old new → KeepsToSlot old new
+  aside_keeps_to_slot old new keeps = record {
+    same = keeps.slot;
+    aside = λ none. leaves_untouched (slot_of old) (disk_of old) (disk_of new) keeps.leaves;
+    no_doubt = λ none. ap is_doubted keeps.aside ∙ none;
+  }
+
+  pub keeps_to_slot_on : (old mid new : Frames J means counts) → KeepsToSlot old mid → KeepsToSlot mid new → KeepsToSlot old new
+  keeps_to_slot_on old mid new first second = record {
+    same = second.same ∙ first.same;
+    aside = λ none. leaves_aside_on old mid (disk_of new) (means.lawful new.journal) first second.aside none;
+    no_doubt = λ none. second.no_doubt (first.no_doubt none);
+  }
 
   -- what the slot aside has behind a settling, and then behind a call that leaves it alone
   module _ (first mid last : Frames J means counts) (laws : IsLawful (disk_of last)) (same : slot_of mid ≡ slot_of first) where
@@ -226,16 +256,12 @@ module _ {J : Type 0} {means : disk.Ghosts J} {counts : counted.Ghosts J} where
         same two))
 
     -- a settling of the slot aside, and then a call that leaves it alone
-    pub settles_then : IsLawful (disk_of mid) → KeepsAside mid last
-        → (is_aside_in_doubt first ≡ false → LeavesOnly (disk_of first) (disk_of mid) (IsUntouched (slot_of first) (disk_of first)))
+    pub settles_then : KeepsAside mid last
         → ((records : Option (List (List ℕ))) → IsAside first records → IsAside mid (settled_aside first records))
         → ((records : Option (List (List ℕ))) → IsAside first records → LeavesOnly (disk_of first) (disk_of mid)
         (λ image. HasRecordsOrNone records (in_slot (other (slot_of first)) image)))
         → (outcome : Result (Unit {0}) Failed) → SettlesAside first last outcome
-    settles_then mid_laws keeps alone settled moments outcome = record {
-      alone = λ none. elsewhere_on (slot_of first) (disk_of first) (disk_of mid) (disk_of last) mid_laws laws (alone none)
-          (subst (λ (p : Slot). LeavesOnly (disk_of mid) (disk_of last) (IsUntouched p (disk_of mid))) same
-          (leaves_untouched (slot_of mid) (disk_of mid) (disk_of last) keeps.leaves));
+    settles_then keeps settled moments outcome = record {
       settled = always_on_ok outcome (λ records aside. now records aside);
       failed = always_on_err outcome (λ records aside. inr (now records aside));
       moments = λ records aside. settled_then records (moments records aside)

@@ -1,10 +1,11 @@
 -- What an append of a record leaves of a log, at its end and at each moment of it.
-use Rattle.std.specs.Prelude.{◌≡◌, ◌⊎◌, List, [], ◌∷◌, ◌++◌, ℕ, Option, None, Some, Result, OnOk, OnErr}
+use Rattle.std.specs.Prelude.{◌⊎◌, List, [], ◌∷◌, ◌++◌, ℕ, Option, None, Some, Result, OnOk, OnErr}
 use Rattle.tsdb_outside.specs.Causes.{HasCause}
 use Rattle.tsdb_outside.specs.Disk.{in_slot}
 use Rattle.tsdb_outside.specs.declared.disk.Disk as disk
 use Rattle.tsdb_outside.specs.declared.faults.Counted as counted
 use Rattle.tsdb_outside.specs.declared.faults.Failed.{Failed}
+use Rattle.tsdb_frames.specs.Calls.{KeepsToSlot}
 use Rattle.tsdb_frames.specs.Frames.{disk_of, faults_of, slot_of, IsLog}
 use Rattle.tsdb_frames.specs.Log.{HasRecordsOrOneMore}
 use Rattle.tsdb_outside.specs.Moments.{LeavesFirstThen}
@@ -24,5 +25,5 @@ module _ {J : Type 0} {means : disk.Ghosts J} {counts : counted.Ghosts J} where
         → LeavesFirstThen (disk_of old) (disk_of new)
         (λ image. HasRecordsOrOneMore acknowledged in_doubt (in_slot (slot_of old) image))
         (λ image. HasRecordsOrOneMore acknowledged (Some payload) (in_slot (slot_of old) image))
-    pub slot : slot_of new ≡ slot_of old
+    pub slot : KeepsToSlot old new
     pub cause : HasCause (faults_of old) (faults_of new) outcome

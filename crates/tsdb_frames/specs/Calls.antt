@@ -1,8 +1,8 @@
--- What private calls keep of a log, of its own slot and of the slot aside.
+-- What calls keep of a log, of its own slot and of the slot aside.
 use Rattle.std.specs.Prelude.{◌≡◌, ◌⊎◌, ℕ, false, List, [], None, IsSome, Result, OnErr, OnOk}
 use Rattle.std.specs.declared.option.Option.{Option}
 use Rattle.tsdb_outside.specs.declared.disk.Disk as disk
-use Rattle.tsdb_outside.specs.Disk.{in_slot}
+use Rattle.tsdb_outside.specs.Disk.{DiskState, in_slot}
 use Rattle.tsdb_outside.specs.Moments.{IsUntouched, LeavesOnly, other}
 use Rattle.tsdb_outside.specs.declared.faults.Counted as counted
 use Rattle.tsdb_frames.specs.declared.aside.Aside.TheVariants.{Closed}
@@ -28,11 +28,21 @@ module _ {J : Type 0} {means : disk.Ghosts J} {counts : counted.Ghosts J} where
     pub aside : new.aside ≡ old.aside
     pub leaves : LeavesSlot (other (slot_of old)) (disk_of old) (disk_of new)
 
-  -- A call leaves the slot aside alone, but for a gate in doubt there, which it closes: at each moment the slot has the
-  -- records that it had, or none; behind the call it has what it has once the doubt is closed, or is as before.
+  -- where no gate of the slot aside is in doubt, a stop at any moment leaves that slot as it might have left it before
+  abbrev pub LeavesAside : Frames J means counts → DiskState → Type 0
+  LeavesAside log disk = is_aside_in_doubt log ≡ false
+      → LeavesOnly (disk_of log) disk (IsUntouched (slot_of log) (disk_of log))
+
+  -- A call keeps to the slot of a log: the log stays in it, and the slot aside is left alone, with no gate in doubt
+  -- where none was.
+  pub record KeepsToSlot (old new : Frames J means counts) : Type 0 where
+    pub same : slot_of new ≡ slot_of old
+    pub aside : LeavesAside old (disk_of new)
+    pub no_doubt : is_aside_in_doubt old ≡ false → is_aside_in_doubt new ≡ false
+
+  -- A call leaves the records of the slot aside, but for a gate in doubt there, which it closes: at each moment the slot
+  -- has the records that it had, or none; behind the call it has what it has once the doubt is closed, or is as before.
   pub record SettlesAside (old new : Frames J means counts) (outcome : Result (Unit {0}) Failed) : Type 0 where
-    pub alone : is_aside_in_doubt old ≡ false
-        → LeavesOnly (disk_of old) (disk_of new) (IsUntouched (slot_of old) (disk_of old))
     pub settled : OnOk outcome ((records : Option (List (List ℕ))) → IsAside old records
         → IsAside new (settled_aside old records))
     pub failed : OnErr outcome ((records : Option (List (List ℕ))) → IsAside old records

@@ -52,12 +52,12 @@ pub struct ScanRefused<J> {
 
 impl<J: Journal> Frames<J> {
     ghost use Rattle.tsdb_frames.specs.Asides.{HasRecordsOrNone, IsAsideOn};
-    ghost use Rattle.tsdb_frames.specs.Calls.{KeepsLog, KeepsAside, IsAsideClosed, Lengthens, SettlesAside};
+    ghost use Rattle.tsdb_frames.specs.Calls.{KeepsLog, KeepsAside, KeepsToSlot, IsAsideClosed, Lengthens, SettlesAside};
     ghost use Rattle.tsdb_frames.specs.Firsts.{IsFirst};
     ghost use Rattle.tsdb_frames.specs.Frames.{journal_of, disk_of, faults_of, slot_of, is_in_doubt, IsLog};
     ghost use Rattle.tsdb_frames.specs.Frames.{is_aside_in_doubt, IsAside, settled_aside};
     ghost use Rattle.tsdb_frames.specs.Log.{IsFrame, payload_of, HasRecordsOrOneMore, IsSettled};
-    ghost use Rattle.tsdb_outside.specs.Moments.{LeavesOnly, LeavesFirstThen, IsUntouched, other};
+    ghost use Rattle.tsdb_outside.specs.Moments.{LeavesOnly, LeavesFirstThen, other};
     ghost use Rattle.tsdb_frames.specs.Readers.{HasNextGate, IsWholeRead};
     ghost use Rattle.tsdb_frames.specs.Scans.{IsScanned, IsScanRefused};
     ghost use Rattle.tsdb_frames.specs.declared.record.Frame.{Frame};
@@ -148,7 +148,7 @@ impl<J: Journal> Frames<J> {
 
         // It leaves the slot aside alone, but for a gate in doubt there, which it closes.
         ensures aside { SettlesAside self.old self.new result }
-        ensures slot { slot_of self.new ≡ slot_of self.old }
+        ensures slot { KeepsToSlot self.old self.new }
         ensures cause { HasCause (faults_of self.old) (faults_of self.new) result }
     {
         self.settle()?;
@@ -411,7 +411,7 @@ impl<J: Journal> Frames<J> {
 
         // It leaves the slot aside alone, but for a gate in doubt there, which it closes.
         ensures aside { SettlesAside self.old self.new result }
-        ensures slot { slot_of self.new ≡ slot_of self.old }
+        ensures slot { KeepsToSlot self.old self.new }
         ensures cause { HasCause (faults_of self.old) (faults_of self.new) result }
     {
         self.settle_aside()?;

@@ -2,7 +2,7 @@ use Rattle.std.proofs.Common.{inl, rules, sym, ◌∙◌}
 use Rattle.tsdb_outside.specs.Disk.{in_slot}
 use Rattle.tsdb_frames.specs.Frames.{disk_of, slot_of}
 use Rattle.tsdb_frames.specs.Log.{HasRecordsOrOneMore}
-use Rattle.tsdb_frames.proofs.CallLemmas.{settles_then, unchanged_untouched, either_same, err_is_not_ok, first_false, first_true, keeps_log, keeps_moments, moved_moments, on_err, on_ok, second_false}
+use Rattle.tsdb_frames.proofs.CallLemmas.{aside_keeps_to_slot, idle_keeps_to_slot, keeps_to_slot_on, settles_then, either_same, err_is_not_ok, first_false, first_true, keeps_log, keeps_moments, moved_moments, on_err, on_ok, second_false}
 use Rattle.tsdb_frames.proofs.LogLemmas.{always_on_err}
 use Rattle.tsdb_frames.proofs.MomentLemmas.{leaves_on}
 use Rattle.tsdb_frames.proofs.StepLemmas.{cause_of_second}
@@ -62,14 +62,24 @@ returns-clause-moments g c acknowledged in_doubt log =
     (c.settle_gate.ensures.moments acknowledged in_doubt (keeps_log old mid mid_laws c.settle_aside.ensures.log acknowledged in_doubt log)))
 
 pub returns-clause-slot : goal.returns-clause-slot
-returns-clause-slot g c = c.settle_gate.ensures.aside.slot ∙ c.settle_aside.ensures.log.slot
+returns-clause-slot g c =
+    let old = c.args.self.now in
+    let mid = c.settle_aside.new.self in
+    let new = c.settle_gate.new.self in
+    keeps_to_slot_on old mid new
+    (idle_keeps_to_slot old mid c.settle_aside.ensures.log.slot (λ none. (c.settle_aside.ensures.idle none).1))
+    (aside_keeps_to_slot mid new c.settle_gate.ensures.aside)
+
+pub returns-in_err-settle_aside-clause-slot : goal.returns-in_err-settle_aside-clause-slot
+returns-in_err-settle_aside-clause-slot g c =
+    idle_keeps_to_slot c.args.self.now c.settle_aside.new.self c.settle_aside.ensures.log.slot
+    (λ none. (c.settle_aside.ensures.idle none).1)
 
 pub returns-clause-cause : goal.returns-clause-cause
 returns-clause-cause g c = cause_of_second _ _ _ c.settle_gate.result c.settle_aside.ensures.cause.later c.settle_gate.ensures.cause
 
 pub returns-in_err-settle_aside-clause-aside : goal.returns-in_err-settle_aside-clause-aside
 returns-in_err-settle_aside-clause-aside g c = record {
-  alone = λ none. absurd (err_is_not_ok c.settle_aside.result c.in_err-settle_aside.field-0.0 c.in_err-settle_aside.was (c.settle_aside.ensures.idle none).0);
   settled = search rules;
   failed = always_on_err c.from_residual.result (λ records aside. inl (c.in_err-settle_aside.ensures.failed records aside));
   moments = c.settle_aside.ensures.moments;
@@ -80,6 +90,5 @@ returns-clause-aside g c =
     let old = c.args.self.now in
     let mid = c.settle_aside.new.self in
     settles_then old mid c.settle_gate.new.self (g.J.Disk.lawful c.settle_gate.new.self.journal) c.settle_aside.ensures.log.slot
-    (g.J.Disk.lawful mid.journal) c.settle_gate.ensures.aside
-    (λ none. unchanged_untouched old mid (g.J.Disk.lawful old.journal) (c.settle_aside.ensures.idle none).1)
+    c.settle_gate.ensures.aside
     c.in_ok-settle_aside.ensures.aside c.settle_aside.ensures.moments c.settle_gate.result

@@ -35,7 +35,7 @@ returns-in_err-length-clause-failed g c = always_on_err c.from_residual-in_err-l
 
 pub returns-in_err-length-clause-same_slot : goal.returns-in_err-length-clause-same_slot
 returns-in_err-length-clause-same_slot g c = always_on_err c.from_residual-in_err-length.result
-    (c.close_aside.ensures.log.slot ∙ c.settle.ensures.slot)
+    (c.close_aside.ensures.log.slot ∙ c.settle.ensures.slot.same)
 
 pub returns-in_err-length-clause-aside_failed : goal.returns-in_err-length-clause-aside_failed
 returns-in_err-length-clause-aside_failed g c = always_on_err c.from_residual-in_err-length.result (λ records aside.
@@ -51,14 +51,14 @@ returns-in_err-length-clause-moments g c acknowledged in_doubt log =
     (λ image. HasRecordsOrOneMore acknowledged in_doubt (in_slot (slot_of old) image))
     (λ image. HasRecords acknowledged (in_slot (slot_of old) image))
     (c.settle.ensures.moments acknowledged in_doubt log)
-    (moved_moments (disk_of mid) (disk_of new) (slot_of mid) (slot_of old) c.settle.ensures.slot (HasRecords acknowledged)
+    (moved_moments (disk_of mid) (disk_of new) (slot_of mid) (slot_of old) c.settle.ensures.slot.same (HasRecords acknowledged)
     (keeps_moments mid new (g.J.Disk.lawful new.journal) c.close_aside.ensures.log acknowledged None
     (c.in_ok-settle.ensures.settled acknowledged in_doubt log)))
 
 pub returns-in_err-length-clause-aside_moments : goal.returns-in_err-length-clause-aside_moments
 returns-in_err-length-clause-aside_moments g c records aside =
     let new = c.close_aside.new.self in
-    inl (inl (settled_then c.args.self.now c.settle.new.self new (g.J.Disk.lawful new.journal) c.settle.ensures.slot records
+    inl (inl (settled_then c.args.self.now c.settle.new.self new (g.J.Disk.lawful new.journal) c.settle.ensures.slot.same records
     (c.settle.ensures.aside.moments records aside)
     (c.close_aside.ensures.moments (settled_aside c.args.self.now records) (c.in_ok-settle.ensures.aside.settled records aside))))
 
@@ -69,7 +69,7 @@ returns-clause-turned g c = on_ok c.begin_aside.result (λ turned acknowledged i
     acknowledged None (c.in_ok-settle.ensures.settled acknowledged in_doubt log)).doubt) c.begin_aside.ensures.turned
 
 pub returns-clause-slot : goal.returns-clause-slot
-returns-clause-slot g c = on_ok c.begin_aside.result (λ same. same ∙ ap other (c.close_aside.ensures.log.slot ∙ c.settle.ensures.slot))
+returns-clause-slot g c = on_ok c.begin_aside.result (λ same. same ∙ ap other (c.close_aside.ensures.log.slot ∙ c.settle.ensures.slot.same))
     c.begin_aside.ensures.slot
 
 pub returns-clause-no_doubt : goal.returns-clause-no_doubt
@@ -92,7 +92,7 @@ returns-clause-failed g c = on_err c.begin_aside.result (λ keeps acknowledged i
 
 pub returns-clause-same_slot : goal.returns-clause-same_slot
 returns-clause-same_slot g c = on_err c.begin_aside.result
-    (λ keeps. keeps.slot ∙ c.close_aside.ensures.log.slot ∙ c.settle.ensures.slot) c.begin_aside.ensures.log
+    (λ keeps. keeps.slot ∙ c.close_aside.ensures.log.slot ∙ c.settle.ensures.slot.same) c.begin_aside.ensures.log
 
 pub returns-clause-aside_failed : goal.returns-clause-aside_failed
 returns-clause-aside_failed g c = on_err c.begin_aside.result (λ failed records aside.
@@ -111,7 +111,7 @@ returns-clause-moments g c acknowledged in_doubt log =
     (λ image. HasRecordsOrOneMore acknowledged in_doubt (in_slot (slot_of old) image))
     (λ image. HasRecords acknowledged (in_slot (slot_of old) image))
     (c.settle.ensures.moments acknowledged in_doubt log)
-    (moved_moments (disk_of mid) (disk_of new) (slot_of mid) (slot_of old) c.settle.ensures.slot (HasRecords acknowledged)
+    (moved_moments (disk_of mid) (disk_of new) (slot_of mid) (slot_of old) c.settle.ensures.slot.same (HasRecords acknowledged)
     (leaves_on (disk_of mid) (disk_of closed) (disk_of new) (g.J.Disk.lawful new.journal)
     (λ image. HasRecords acknowledged (in_slot (slot_of mid) image))
     (keeps_moments mid closed (g.J.Disk.lawful closed.journal) c.close_aside.ensures.log acknowledged None settled)
@@ -129,11 +129,11 @@ returns-clause-aside_moments g c records aside =
     (λ image. HasRecordsOrNone records (in_slot (other (slot_of old)) image))
     (λ image. HasRecords [] (in_slot (other (slot_of old)) image))
     (λ image. HasRecordsOrOneMore [] (Some (payload_of c.args.framed.now)) (in_slot (other (slot_of old)) image))
-    (settled_then old c.settle.new.self closed (g.J.Disk.lawful closed.journal) c.settle.ensures.slot records
+    (settled_then old c.settle.new.self closed (g.J.Disk.lawful closed.journal) c.settle.ensures.slot.same records
     (c.settle.ensures.aside.moments records aside) (c.close_aside.ensures.moments (settled_aside old records) settled))
     (subst (λ (s : Slot). LeavesFirstThen (disk_of closed) (disk_of new) (λ image. HasRecords [] (in_slot (other s) image))
     (λ image. HasRecordsOrOneMore [] (Some (payload_of c.args.framed.now)) (in_slot (other s) image)))
-    (c.close_aside.ensures.log.slot ∙ c.settle.ensures.slot)
+    (c.close_aside.ensures.log.slot ∙ c.settle.ensures.slot.same)
     (c.begin_aside.ensures.moments (c.in_ok-length.ensures.closed (settled_aside old records) settled)))
 
 pub returns-in_err-length-clause-cause : goal.returns-in_err-length-clause-cause
