@@ -2,6 +2,7 @@
 use Rattle.std.specs.Prelude.{◌≡◌, ◌<◌, ◌⊎◌, [], ◌∷◌, ◌++◌, List, length, map, None, Option, Some, OnErr, OnOk, Result}
 use Rattle.std.specs.Option.{option_map}
 use Rattle.std.specs.declared.result.Result.TheVariants.{Ok, Err}
+use Rattle.tsdb_frames.specs.Calls.{KeepsToSlot}
 use Rattle.tsdb_frames.specs.Frames.{disk_of, faults_of, slot_of}
 use Rattle.tsdb_frames.specs.Log.{HasRecordsOrOneMore}
 use Rattle.tsdb_frames.specs.Slots.{frame_bytes}
@@ -40,7 +41,7 @@ module _ {J : Type 0} {means : disk.Ghosts J} {counts : counted.Ghosts J} where
     pub moments : (items : List LogRecord) (doubt : Option LogRecord) → HasLog old items doubt
         → LeavesFirstThen (disk_of (log_of old)) (disk_of (log_of new)) (HasItems old items doubt)
         (HasItems old items (Some item))
-    pub slot : slot_of (log_of new) ≡ slot_of (log_of old)
+    pub slot : KeepsToSlot (log_of old) (log_of new)
     pub cause : HasCause (faults_of (log_of old)) (faults_of (log_of new)) outcome
 
   -- the append of the record failed; or memory ended before it, which needs that there was no room for its bytes

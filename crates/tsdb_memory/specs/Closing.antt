@@ -1,5 +1,6 @@
 -- What a log leaves that is closed.
 use Rattle.std.specs.Prelude.{◌≡◌, ◌⊎◌, ℕ, ◌≤◌, List, map, Option, None}
+use Rattle.tsdb_frames.specs.Calls.{LeavesAside}
 use Rattle.tsdb_frames.specs.Frames.{disk_of, faults_of, slot_of}
 use Rattle.tsdb_frames.specs.Slots.{HasRecords}
 use Rattle.tsdb_state.specs.StoredEngine.{LeadsTo, LeavesOneOf}
@@ -25,7 +26,7 @@ LeavesRecords slot disk items =
 module _ {J : Type 0} {means : disk.Ghosts J} {counts : counted.Ghosts J} where
   -- A stop at any moment of the closing leaves the state, or that of the record in doubt. Unless the journal
   -- failed, it leaves a sound store, and exactly the acknowledged records; where no record is in doubt it leaves these
-  -- even so.
+  -- even so. The slot aside is left alone.
   pub record IsClosed (logged : LoggedMemory J means counts) (disk : DiskState) (faults : ℕ) : Type 0 where
     pub moments : (outside : Outside) (state : EngineState) (at : plain.State) (next : Option plain.State)
         → IsSoundLogged logged outside state → store.IsStateOf outside.told state.store at
@@ -41,4 +42,5 @@ module _ {J : Type 0} {means : disk.Ghosts J} {counts : counted.Ghosts J} where
     pub records : (outside : Outside) (state : EngineState) → IsSoundLogged logged outside state
         → (¬ Rose (faults_of (log_of logged)) faults) ⊎ (state.doubt ≡ None)
         → LeavesRecords (slot_of (log_of logged)) disk outside.items
+    pub aside : LeavesAside (log_of logged) disk
     pub later : faults_of (log_of logged) ≤ faults

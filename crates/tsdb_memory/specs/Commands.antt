@@ -8,7 +8,8 @@ use Rattle.tsdb_state.specs.Commands.{KeepsBytes}
 use Rattle.tsdb_state.specs.Records.{CanFreeze, CanInsert}
 use Rattle.tsdb_base.specs.declared.answers.Answer.{Answer}
 use Rattle.tsdb_base.specs.declared.answers.Answer.TheVariants.{Done, NoPath, WrongType, Exists, Device, Memory, Full}
-use Rattle.tsdb_frames.specs.Frames.{faults_of, slot_of}
+use Rattle.tsdb_frames.specs.Calls.{KeepsToSlot}
+use Rattle.tsdb_frames.specs.Frames.{faults_of}
 use Rattle.tsdb_log.specs.declared.record.LogRecord.{LogRecord}
 use Rattle.tsdb_log.specs.declared.record.LogRecord.TheVariants.{Create, Delete, Insert}
 use Rattle.tsdb_memory.specs.Answers.{IsRefusal}
@@ -79,7 +80,7 @@ module _ {J : Type 0} {means : disk.Ghosts J} {counts : counted.Ghosts J} where
     pub refused : IsRefusal answer → new ≡ old
     pub memory : answer ≡ Memory → IsLogKept old new
     pub room : framed_room old ≤ framed_room new
-    pub slot : slot_of (log_of new) ≡ slot_of (log_of old)
+    pub slot : KeepsToSlot (log_of old) (log_of new)
     pub cause : answer ≡ Device → Rose (faults_of (log_of old)) (faults_of (log_of new))
     pub later : faults_of (log_of old) ≤ faults_of (log_of new)
 

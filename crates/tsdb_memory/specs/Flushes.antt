@@ -3,7 +3,8 @@ use Rattle.std.specs.Prelude.{◌≡◌, ◌≤◌, List, Option, Result, OnErr,
 use Rattle.std.specs.List.{AllByRecursion as Each}
 use Rattle.tsdb_base.specs.declared.ids.FileNumber.{FileNumber}
 use Rattle.tsdb_base.specs.declared.ids.Stamp.{Stamp}
-use Rattle.tsdb_frames.specs.Frames.{faults_of, slot_of}
+use Rattle.tsdb_frames.specs.Calls.{KeepsToSlot}
+use Rattle.tsdb_frames.specs.Frames.{faults_of}
 use Rattle.tsdb_state.specs.StoredEngine.{IsKeptWhole, built_files}
 use Rattle.tsdb_log.specs.declared.record.LogRecord.TheVariants.{Flushed}
 use Rattle.tsdb_memory.specs.Changes.{KeepsSeries}
@@ -52,5 +53,5 @@ module _ {J : Type 0} {means : disk.Ghosts J} {counts : counted.Ghosts J} where
     pub kept : KeepsSeries (memory_of old) (memory_of new)
     pub memory : OnErr outcome (memory_of new ≡ memory_of old)
     pub room : framed_room old ≤ framed_room new
-    pub slot : slot_of (log_of new) ≡ slot_of (log_of old)
+    pub slot : KeepsToSlot (log_of old) (log_of new)
     pub cause : HasCause (faults_of (log_of old)) (faults_of (log_of new)) outcome

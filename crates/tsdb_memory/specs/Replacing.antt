@@ -2,7 +2,8 @@
 use Rattle.std.specs.Prelude.{◌≡◌, ℕ, ◌+◌, ◌*◌, ◌≤◌, List, Option, Result, OnErr, OnOk, length}
 use Rattle.std.specs.List.{AllByRecursion as Each}
 use Rattle.tsdb_base.specs.declared.ids.Stamp.{Stamp}
-use Rattle.tsdb_frames.specs.Frames.{faults_of, slot_of}
+use Rattle.tsdb_frames.specs.Calls.{KeepsToSlot}
+use Rattle.tsdb_frames.specs.Frames.{faults_of}
 use Rattle.tsdb_state.specs.StoredEngine.{IsKeptWhole}
 use Rattle.tsdb_log.specs.declared.record.LogRecord.{LogRecord}
 use Rattle.tsdb_log.specs.declared.record.LogRecord.TheVariants.{Create, Delete, Flushed, Freeze, Insert, Replaced}
@@ -68,5 +69,5 @@ module _ {J : Type 0} {means : disk.Ghosts J} {counts : counted.Ghosts J} where
     pub working : (memory_of new).working ≡ (memory_of old).working
     pub kept : KeepsSeries (memory_of old) (memory_of new)
     pub room : framed_room old ≤ framed_room new
-    pub slot : slot_of (log_of new) ≡ slot_of (log_of old)
+    pub slot : KeepsToSlot (log_of old) (log_of new)
     pub cause : HasCause (faults_of (log_of old)) (faults_of (log_of new)) outcome

@@ -1,11 +1,13 @@
 -- A settling, and then an append.
-use Rattle.std.proofs.Common.{◌≡◌, ℕ, ◌⊎◌, inl, inr, ⊎_elim, List, [], ◌∷◌, map, Option, Some, None, Result, Ok, Err, sym, subst, ◌∙◌, arith, rules}
+use Rattle.std.proofs.Common.{◌≡◌, ℕ, ◌⊎◌, inl, inr, ⊎_elim, List, [], ◌∷◌, map, Option, Some, None, Result, Ok, Err, sym, subst, arith, rules}
 use Rattle.std.specs.Prelude.{◌≤◌, IfSome}
 use Rattle.std.specs.Option.{option_map}
 use Rattle.std.proofs.lemmas.List.{map-append}
 use Rattle.tsdb_base.specs.declared.ids.FileNumber.{FileNumber}
 use Rattle.tsdb_frames.proofs.MomentLemmas.{leaves_on, weaker}
+use Rattle.tsdb_frames.proofs.CallLemmas.{keeps_to_slot_on}
 use Rattle.tsdb_frames.specs.Appends.{IsAppend}
+use Rattle.tsdb_frames.specs.Calls.{KeepsToSlot}
 use Rattle.tsdb_frames.specs.Frames.{IsLog, disk_of, faults_of, slot_of}
 use Rattle.tsdb_frames.specs.Log.{HasRecordsOrOneMore}
 use Rattle.tsdb_frames.specs.declared.frames.Frames.{Frames}
@@ -59,7 +61,7 @@ module _ {J : Type 0} {means : disk.Ghosts J} {counts : counted.Ghosts J} where
   pub settling_failed : (old new : LoggedMemory J means counts) (item : LogRecord) (fault : Failed)
       → ((acknowledged : List (List ℕ)) (in_doubt : Option (List ℕ)) → IsLog (log_of old) acknowledged in_doubt
       → IsLog (log_of new) acknowledged in_doubt)
-      → IsSettling (log_of old) (log_of new) → slot_of (log_of new) ≡ slot_of (log_of old)
+      → IsSettling (log_of old) (log_of new) → KeepsToSlot (log_of old) (log_of new)
       → HasCause {T = Unit {0}} {E = Failed} (faults_of (log_of old)) (faults_of (log_of new)) (Err fault)
       → new.doubted ≡ old.doubted → IsAppended old new item (Err fault)
   settling_failed old new item fault same moments slot cause doubted = record {
@@ -78,7 +80,7 @@ module _ {J : Type 0} {means : disk.Ghosts J} {counts : counted.Ghosts J} where
   module _ (old new : LoggedMemory J means counts) (mid : Frames J means counts) (item : LogRecord)
       (settled : (acknowledged : List (List ℕ)) (in_doubt : Option (List ℕ)) → IsLog (log_of old) acknowledged in_doubt
       → IsLog mid acknowledged None)
-      (moments : IsSettling (log_of old) mid) (slot : slot_of mid ≡ slot_of (log_of old))
+      (moments : IsSettling (log_of old) mid) (slot : KeepsToSlot (log_of old) mid)
       (later : faults_of (log_of old) ≤ faults_of mid) (named : two_numbers new.doubted ≡ names item) where
     has_log : (items : List LogRecord) (doubt : Option LogRecord) → HasLog old items doubt
         → IsLog mid (map spelling items) None
@@ -99,7 +101,7 @@ module _ {J : Type 0} {means : disk.Ghosts J} {counts : counted.Ghosts J} where
         (moments (map spelling items) (option_map spelling doubt) has.log)
         (subst (λ slot. LeavesFirstThen (disk_of mid) (disk_of (log_of new))
         (λ image. HasRecordsOrOneMore (map spelling items) None (in_slot slot image))
-        (λ image. HasRecordsOrOneMore (map spelling items) (Some (spelling item)) (in_slot slot image))) slot append)
+        (λ image. HasRecordsOrOneMore (map spelling items) (Some (spelling item)) (in_slot slot image))) slot.same append)
       where
         wider : (doubt : Option LogRecord) (image : Image)
             → HasRecordsOrOneMore (map spelling items) None (in_slot (slot_of (log_of old)) image)
@@ -118,7 +120,7 @@ module _ {J : Type 0} {means : disk.Ghosts J} {counts : counted.Ghosts J} where
       failed = tt;
       moments = λ items doubt has. all_moments items doubt has
           (append.moments (map spelling items) None (has_log items doubt has));
-      slot = append.slot ∙ slot;
+      slot = keeps_to_slot_on (log_of old) mid (log_of new) slot append.slot;
       cause = cause_later (faults_of (log_of old)) (faults_of mid) (faults_of (log_of new)) (Ok done) later append.cause;
     }
     then_appended (Err fault) append = record {
@@ -126,7 +128,7 @@ module _ {J : Type 0} {means : disk.Ghosts J} {counts : counted.Ghosts J} where
       failed = λ items doubt has. by items doubt (append.failed (map spelling items) None (has_log items doubt has));
       moments = λ items doubt has. all_moments items doubt has
           (append.moments (map spelling items) None (has_log items doubt has));
-      slot = append.slot ∙ slot;
+      slot = keeps_to_slot_on (log_of old) mid (log_of new) slot append.slot;
       cause = cause_later (faults_of (log_of old)) (faults_of mid) (faults_of (log_of new)) (Err fault) later
           append.cause;
     }

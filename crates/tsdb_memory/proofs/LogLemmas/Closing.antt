@@ -2,6 +2,7 @@
 use Rattle.std.proofs.Common.{◌≡◌, ◌⊎◌, inl, inr, ℕ, List, map, Option, None, Result, Ok, Err, refl, subst, sym}
 use Rattle.std.specs.Prelude.{◌≤◌, OnErr, OnOk}
 use Rattle.std.specs.Option.{option_map}
+use Rattle.tsdb_frames.specs.Calls.{KeepsToSlot, LeavesAside}
 use Rattle.tsdb_frames.specs.Frames.{IsLog, disk_of, faults_of, journal_of, slot_of}
 use Rattle.tsdb_frames.specs.Log.{HasRecordsOrOneMore, IsLogOn, IsSettled}
 use Rattle.tsdb_frames.specs.declared.frames.Frames.{Frames}
@@ -71,7 +72,7 @@ pub closed : {J : Type 0} {means : disk.Ghosts J} {counts : counted.Ghosts J} (l
     → ((acknowledged : List (List ℕ)) (in_doubt : Option (List ℕ)) → IsLog (log_of logged) acknowledged in_doubt
     → LeavesOnly (disk_of (log_of logged)) (disk_of log)
     (λ image. HasRecordsOrOneMore acknowledged in_doubt (in_slot (slot_of (log_of logged)) image)))
-    → slot_of log ≡ slot_of (log_of logged) → HasCause (faults_of (log_of logged)) (faults_of log) outcome
+    → KeepsToSlot (log_of logged) log → HasCause (faults_of (log_of logged)) (faults_of log) outcome
     → journal ≡ journal_of log
     → ((acknowledged : List (List ℕ)) → IsLog log acknowledged None → IsSettled (slot_of log) (means.state journal))
     → IsClosed logged (means.state journal) (counts.faults journal)
@@ -87,7 +88,8 @@ closed {J} {means} {counts} logged log journal outcome settled_log failed_log mo
   undoubted = λ outside state at files none sound stands holds. is_sound outside state at files sound stands holds
       (stands_still outside state sound (inr none));
   records = λ outside state sound sure. closed_records (slot_of (log_of logged)) journal log outside.items
-      (stands_still outside state sound sure) slot is;
+      (stands_still outside state sound sure) slot.same is;
+  aside = subst (λ (j : J). LeavesAside (log_of logged) (means.state j)) (sym is) slot.aside;
   later = subst (λ (j : J). counts.faults (log_of logged).journal ≤ counts.faults j) (sym is) cause.later;
 }
   where
@@ -121,4 +123,4 @@ closed {J} {means} {counts} logged log journal outcome settled_log failed_log mo
         → store.HoldsKept outside.kept files → IsLog log (map spelling outside.items) None
         → store.IsSound (slot_of (log_of logged)) (means.state journal) files at
     is_sound outside state at files sound stands holds log_is = closed_sound logged outside state at sound stands journal
-        log files log_is slot is (settled_slot (map spelling outside.items) log_is) holds
+        log files log_is slot.same is (settled_slot (map spelling outside.items) log_is) holds

@@ -1,10 +1,12 @@
 -- What a record that was appended, or whose append failed, makes of a sound state.
-use Rattle.std.proofs.Common.{◌≡◌, ◌⊎◌, inl, inr, List, [], ◌∷◌, ◌++◌, map, Option, Some, None, Result, Ok, Err, refl, ap, sym, subst, ◌∙◌, arith}
+use Rattle.std.proofs.Common.{◌≡◌, ◌⊎◌, inl, inr, List, [], ◌∷◌, ◌++◌, map, Option, Some, None, Result, Ok, Err, refl, sym, subst, ◌∙◌, arith}
 use Rattle.std.specs.Prelude.{◌≤◌, IfSome, OnErr, OnOk}
 use Rattle.std.specs.Option.{option_map}
 use Rattle.tsdb_base.specs.declared.answers.Answer.{Answer}
 use Rattle.tsdb_base.specs.declared.answers.Answer.TheVariants as answer
 use Rattle.tsdb_base.specs.declared.ids.FileNumber.{FileNumber}
+use Rattle.tsdb_frames.proofs.CallLemmas.{same_keeps_to_slot}
+use Rattle.tsdb_frames.specs.Calls.{KeepsToSlot}
 use Rattle.tsdb_frames.specs.Frames.{IsLog, disk_of, faults_of, slot_of}
 use Rattle.tsdb_frames.specs.Log.{HasRecordsOrOneMore}
 use Rattle.tsdb_frames.specs.declared.frames.Frames.{Frames}
@@ -67,7 +69,7 @@ module _ {J : Type 0} {means : disk.Ghosts J} {counts : counted.Ghosts J} where
     refused = λ is. absurd is;
     memory = λ is. same;
     room = room;
-    slot = ap slot_of same.log;
+    slot = same_keeps_to_slot (log_of old) (log_of new) same.log;
     cause = λ is. absurd (cc);
     later = subst (λ (log : Frames J means counts). counts.faults (log_of old).journal ≤ counts.faults log.journal)
         (sym same.log) (omega arith);
@@ -88,7 +90,7 @@ module _ {J : Type 0} {means : disk.Ghosts J} {counts : counted.Ghosts J} where
     refused = λ is. refl;
     memory = λ is. record { log = refl; doubted = refl };
     room = omega arith;
-    slot = refl;
+    slot = same_keeps_to_slot (log_of old) (log_of old) refl;
     cause = λ device. absurd (no_fault result is device);
     later = omega arith;
   }
@@ -193,7 +195,7 @@ module _ {J : Type 0} {means : disk.Ghosts J} {counts : counted.Ghosts J} where
         (disk_of (log_of new)) (λ image. HasRecordsOrOneMore (map spelling items) (option_map spelling doubt)
         (in_slot (slot_of log) image)) (λ image. HasRecordsOrOneMore (map spelling items) (Some (spelling item))
         (in_slot (slot_of log) image))) kept.log (append.moments items doubt (log_kept old mid items doubt kept has));
-    slot = append.slot ∙ ap slot_of kept.log;
+    slot = subst (λ (log : Frames J means counts). KeepsToSlot log (log_of new)) kept.log append.slot;
     cause = subst (λ (log : Frames J means counts). HasCause (faults_of log) (faults_of (log_of new)) outcome) kept.log
         append.cause;
   }
