@@ -31,7 +31,8 @@ use Rattle.tsdb_core.specs.Worlds.{IsWorldOf, CoreKeepsWorld}
 use Rattle.tsdb_core.specs.declared.commit.Commit.{Commit}
 use Rattle.tsdb_core.specs.declared.commit.Commit.TheVariants.{Device, Done, Gone}
 use Rattle.tsdb_core.specs.declared.engine.Core.{Core}
-use Rattle.tsdb_frames.specs.Frames.{faults_of, slot_of}
+use Rattle.tsdb_frames.proofs.CallLemmas.{same_keeps_to_slot}
+use Rattle.tsdb_frames.specs.Frames.{faults_of}
 use Rattle.tsdb_fileset.proofs.Joining.{only_places}
 use Rattle.tsdb_fileset.proofs.StateSweeps.{borns_are}
 use Rattle.tsdb_fileset.specs.StateOfFiles.{AreFilesOf, TellTheirBytes}
@@ -481,7 +482,7 @@ module _ {J F S R P : Type 0} {means : disk.Ghosts J} {counts : counted.Ghosts J
           (series_kept (memory_of old.logged));
       memory = λ is. absurd cc;
       gone = λ is. logs;
-      slot = ap (λ log. slot_of (log_of log)) logs;
+      slot = same_keeps_to_slot (log_of old.logged) (log_of logged) (ap (λ log. log_of log) logs);
       cause = λ is. absurd cc;
       later = subst (λ log. faults_of (log_of old.logged) ≤ faults_of (log_of log)) (sym logs) (omega arith);
     }

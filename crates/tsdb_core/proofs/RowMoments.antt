@@ -140,7 +140,7 @@ module _ {J F S R P : Type 0} {means : disk.Ghosts J} {counts : counted.Ghosts J
             (Leaves outside.kept (slot_in old) at next after)
             (record_leaves outside.kept (slot_in old) at next after)
             (subst (λ slot. LeavesOnly (disk_in put.between) (disk_in new) (Leaves outside.kept slot at None after))
-            frozen.freeze.slot
+            frozen.freeze.slot.same
             (record_moments put.between new result put refl (with_record Freeze outside) (wrote Freeze state) at None
             (frozen.freeze.step outside state seen tt) frozen_at tt)))
 

@@ -7,7 +7,8 @@ use Rattle.tsdb_base.specs.declared.point.Range.{Range}
 use Rattle.tsdb_core.specs.Core.{IsSeen, KeepsJobs, files_of, is_sequence_claimed, limit_of, logged_of, next_of}
 use Rattle.tsdb_core.specs.Loans.{KeepsAllLoans}
 use Rattle.tsdb_core.specs.declared.engine.Core.{Core}
-use Rattle.tsdb_frames.specs.Frames.{faults_of, slot_of}
+use Rattle.tsdb_frames.specs.Calls.{KeepsToSlot}
+use Rattle.tsdb_frames.specs.Frames.{faults_of}
 use Rattle.tsdb_fileset.specs.Files.{listed_borns}
 use Rattle.tsdb_log.specs.declared.record.LogRecord.{LogRecord}
 use Rattle.tsdb_memory.specs.Answers.{IsRefusal}
@@ -46,7 +47,7 @@ module _ {J F S R P : Type 0} {means : disk.Ghosts J} {counts : counted.Ghosts J
 
   -- What a command leaves of every state that has what it needs. At each moment a stop leaves the world of the state, or
   -- that of the record that was in doubt, or that of this record. A refusal changes nothing, and where memory ends the log
-  -- is as it was. The log stays in its slot.
+  -- is as it was. The log keeps to its slot.
   pub record IsCoreCommand (old new : Core J F S R P means counts) (item : LogRecord) (Needs : EngineState → Type 0)
       (answer : Answer)
       : Type 0 where
@@ -57,7 +58,7 @@ module _ {J F S R P : Type 0} {means : disk.Ghosts J} {counts : counted.Ghosts J
     pub refused : IsRefusal answer → new ≡ old
     pub memory : answer ≡ Memory → log_of (logged_of new) ≡ log_of (logged_of old)
     pub kept : KeepsFiles old new
-    pub slot : slot_of (log_of (logged_of new)) ≡ slot_of (log_of (logged_of old))
+    pub slot : KeepsToSlot (log_of (logged_of old)) (log_of (logged_of new))
     pub cause : answer ≡ Device → Rose (faults_of (log_of (logged_of old))) (faults_of (log_of (logged_of new)))
     pub later : faults_of (log_of (logged_of old)) ≤ faults_of (log_of (logged_of new))
 

@@ -20,7 +20,8 @@ use Rattle.tsdb_core.specs.declared.commit.Commit.TheVariants.{Done, Gone, Devic
 use Rattle.tsdb_core.specs.declared.commit.CoreFault.{CoreFault}
 use Rattle.tsdb_core.specs.declared.commit.CoreFault.TheVariants.{Memory, Full}
 use Rattle.tsdb_fileset.specs.Flushes.{IsFlushOf}
-use Rattle.tsdb_frames.specs.Frames.{faults_of, slot_of}
+use Rattle.tsdb_frames.specs.Calls.{KeepsToSlot}
+use Rattle.tsdb_frames.specs.Frames.{faults_of}
 use Rattle.tsdb_state.specs.StoredEngine.{built_files}
 use Rattle.tsdb_fileset.specs.Jobs.{IsJob}
 use Rattle.tsdb_fileset.specs.Taking as taking
@@ -197,7 +198,7 @@ module _ {J F S R P : Type 0} {means : disk.Ghosts J} {counts : counted.Ghosts J
     pub kept : KeepsSeries (memory_of (logged_of old)) (memory_of (logged_of new))
     pub memory : commit ≡ Device → memory_of (logged_of new) ≡ memory_of (logged_of old)
     pub gone : commit ≡ Gone → logged_of new ≡ logged_of old
-    pub slot : slot_of (log_of (logged_of new)) ≡ slot_of (log_of (logged_of old))
+    pub slot : KeepsToSlot (log_of (logged_of old)) (log_of (logged_of new))
     pub cause : commit ≡ Device → Rose (faults_of (log_of (logged_of old))) (faults_of (log_of (logged_of new)))
     pub later : faults_of (log_of (logged_of old)) ≤ faults_of (log_of (logged_of new))
 

@@ -20,7 +20,8 @@ use Rattle.tsdb_core.specs.Core.{working_of}
 use Rattle.tsdb_core.specs.Loans.{KeepsLoans, LentRight}
 use Rattle.tsdb_core.specs.Worlds.{IsWorldOf}
 use Rattle.tsdb_core.specs.declared.engine.Core.{Core}
-use Rattle.tsdb_frames.specs.Frames.{faults_of, slot_of}
+use Rattle.tsdb_frames.specs.Calls.{KeepsToSlot}
+use Rattle.tsdb_frames.specs.Frames.{faults_of}
 use Rattle.tsdb_fileset.specs.Files.{KeptFiles, listed_borns}
 use Rattle.tsdb_fileset.specs.Places.{AreOfStore}
 use Rattle.tsdb_fileset.specs.Replacing.{HasReplaced}
@@ -164,7 +165,7 @@ module _ {J F S R P : Type 0} {means : disk.Ghosts J} {counts : counted.Ghosts J
     pub working : working_of new ≡ working_of old
     pub kept : KeepsSeries (memory_of (logged_of old)) (memory_of (logged_of new))
     pub memory : OnErr outcome (memory_of (logged_of new) ≡ memory_of (logged_of old))
-    pub slot : slot_of (log_of (logged_of new)) ≡ slot_of (log_of (logged_of old))
+    pub slot : KeepsToSlot (log_of (logged_of old)) (log_of (logged_of new))
     pub cause : HasCause (faults_of (log_of (logged_of old))) (faults_of (log_of (logged_of new))) outcome
 
   -- What giving a job up leaves: its output is on its way out, if there is one, and log and memory stay.
