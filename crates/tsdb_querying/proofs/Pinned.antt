@@ -5,7 +5,7 @@ use Rattle.std.specs.Prelude.{IfSome}
 use Rattle.tsdb_serving.specs.Core.{files_of, logged_of, next_of}
 use Rattle.tsdb_serving.specs.Pins.{IsNotPinned, IsPinned, IsUnpinned}
 use Rattle.tsdb_serving.specs.CoreType.{Core}
-use Rattle.tsdb_frames.specs.Frames.{slot_of}
+use Rattle.tsdb_frames.proofs.CallLemmas.{same_keeps_to_slot}
 use Rattle.tsdb_pin.specs.Places.{KeptFile, file_at, place_of_number}
 use Rattle.tsdb_base.specs.Lists.{count}
 use Rattle.tsdb_memory.specs.LogState.{log_of}
@@ -16,7 +16,7 @@ use Rattle.tsdb_outside.specs.declared.faults.Counted as counted
 use Rattle.tsdb_pin.specs.Changes.{column_numbers, fewer_rights, more_rights}
 use Rattle.tsdb_pin.specs.declared.pin.Pin.{Pin}
 use Rattle.tsdb_serving.specs.Flushing.{IsReady}
-use Rattle.tsdb_serving.specs.Serving.{IsServing, StaysInPlace}
+use Rattle.tsdb_serving.specs.Serving.{IsServing, StaysInPlace, log_under}
 use Rattle.tsdb_state.specs.Steps.{pinned, unpinned}
 
 -- no right was out, some were given out, and as many came back
@@ -35,7 +35,10 @@ module _ {J F S R P : Type 0} {means : disk.Ghosts J} {counts : counted.Ghosts J
   -- where no pin was taken the log is as it was, and no number was drawn
   pub stays_unpinned : (old new : Core J F S R P means counts) → IsNotPinned old new → StaysInPlace old new
   stays_unpinned old new not = let next = not.rest.next in
-      record { slot = ap (λ logged. slot_of (log_of logged)) not.rest.logged; next = omega (arith, next) }
+      record {
+        slot = same_keeps_to_slot (log_under old) (log_under new) (ap (λ logged. log_of logged) not.rest.logged);
+        next = omega (arith, next);
+      }
 
   -- where no pin was taken the core is in the same states
   pub serves_unpinned : (old new : Core J F S R P means counts) → IsNotPinned old new → (files : List StoredFile)
@@ -66,7 +69,10 @@ module _ {J F S R P : Type 0} {means : disk.Ghosts J} {counts : counted.Ghosts J
     pub stays_still : StaysInPlace old new
     stays_still = let gave_next = gave.rest.next in
         let took_next = took.rest.next in
-        record { slot = ap (λ log. slot_of log) same_log; next = omega (arith, gave_next, took_next) }
+        record {
+          slot = same_keeps_to_slot (log_under old) (log_under new) same_log;
+          next = omega (arith, gave_next, took_next);
+        }
 
     pub next_still : next_of new ≡ next_of old
     next_still = gave.rest.next ∙ took.rest.next

@@ -12,6 +12,8 @@ use Rattle.tsdb_serving.specs.Beginnings.{IsBegun, IsNotBegun}
 use Rattle.tsdb_serving.specs.Core.{files_of}
 use Rattle.tsdb_serving.specs.CoreType.{Core}
 use Rattle.tsdb_base.specs.declared.ids.Space.{Space}
+use Rattle.tsdb_frames.proofs.CallLemmas.{same_keeps_to_slot}
+use Rattle.tsdb_frames.specs.Calls.{KeepsToSlot}
 use Rattle.tsdb_frames.specs.Frames.{disk_of, faults_of, slot_of}
 use Rattle.tsdb_frames.specs.declared.frames.Frames.{Frames}
 use Rattle.tsdb_inner.specs.Inputs.{IsInputOf}
@@ -32,7 +34,7 @@ use Rattle.tsdb_rewriting.specs.Rewriting.{EndsRewrite, IsRewriting, IsServingRe
 use Rattle.tsdb_serving.proofs.Jobs.{still_made}
 use Rattle.tsdb_serving.proofs.Parts.{unchanged}
 use Rattle.tsdb_serving.specs.Flushing.{GoesOn, IsReady, faults_under}
-use Rattle.tsdb_serving.specs.Serving.{IsDrawn, IsServed, IsServedBy, IsServing, IsSure, LeavesEither, disk_under}
+use Rattle.tsdb_serving.specs.Serving.{IsDrawn, IsServed, IsServedBy, IsServing, IsSure, LeavesEither, disk_under, log_under}
 use Rattle.tsdb_serving.specs.declared.fault.FlushFault.{FlushFault}
 use Rattle.tsdb_state.specs.State.{ToldContents}
 use Rattle.tsdb_state.specs.Steps.{began}
@@ -60,7 +62,10 @@ module _ {J F S R P : Type 0} {means : disk.Ghosts J} {counts : counted.Ghosts J
         of_store = still_made (λ file. file.name.store ≡ store port) (files_of old).places (files_of new).places
             not.places ready.of_store;
       };
-      stays = record { slot = ap (λ log. slot_of log) not.logged.log.log; next = omega (arith, not.same.next) };
+      stays = record {
+        slot = same_keeps_to_slot (log_under old) (log_under new) not.logged.log.log;
+        next = omega (arith, not.same.next);
+      };
       draws = omega (arith, not.same.next);
       same_store = refl;
       later = (
@@ -156,7 +161,8 @@ module _ {J F S R P : Type 0} {means : disk.Ghosts J} {counts : counted.Ghosts J
           serves = record {
             ready = subst (λ (s : Store). IsReady s new) is ends.ready;
             stays = record {
-              slot = ends.slot ∙ ap (λ log. slot_of log) begun.lists.logged.log.log;
+              slot = subst (λ (log : Frames J means counts). KeepsToSlot log (log_under new))
+                  begun.lists.logged.log.log ends.slot;
               next = omega (arith, begun.next, ends.next);
             };
             draws = omega (arith, begun.next, ends.next);

@@ -7,7 +7,8 @@ use Rattle.tsdb_compactions.specs.declared.job.Job.{Job}
 use Rattle.tsdb_serving.specs.Core.{files_of}
 use Rattle.tsdb_serving.specs.Replacements.{EndsFiles, IsJobAbandoned, IsJobCommit, TellsNew}
 use Rattle.tsdb_serving.specs.CoreType.{Core}
-use Rattle.tsdb_frames.specs.Frames.{faults_of, slot_of}
+use Rattle.tsdb_frames.proofs.CallLemmas.{same_keeps_to_slot}
+use Rattle.tsdb_frames.specs.Frames.{faults_of}
 use Rattle.tsdb_memory.specs.LogState.{log_of}
 use Rattle.tsdb_memory.specs.declared.logged_memory.LoggedMemory.{LoggedMemory}
 use Rattle.tsdb_outside.specs.Causes.{HasCause}
@@ -21,6 +22,7 @@ use Rattle.tsdb_rewriting.proofs.Ready.{EndsTokens, ready_ended}
 use Rattle.tsdb_rewriting.proofs.States.{abandoned, served}
 use Rattle.tsdb_rewriting.specs.Rewriting.{EndsRewrite, IsRewriting}
 use Rattle.tsdb_serving.specs.Flushing.{faults_under}
+use Rattle.tsdb_serving.specs.Serving.{log_under}
 
 module _ {J F S R P : Type 0} {means : disk.Ghosts J} {counts : counted.Ghosts J}
     (laws : (journal : J) → IsLawful (means.state journal)) (name : R → NamedFile) (store : Store)
@@ -54,7 +56,7 @@ module _ {J F S R P : Type 0} {means : disk.Ghosts J} {counts : counted.Ghosts J
     ready = ready_ended name store old new job None rewriting
         (record { here = gives_up.files.here; others = gives_up.files.others }) tt gives_up.ends tt;
     limit = gives_up.ends.limit;
-    slot = ap (λ logged. slot_of (log_of logged)) gives_up.logged;
+    slot = same_keeps_to_slot (log_under old) (log_under new) (ap (λ logged. log_of logged) gives_up.logged);
     next = gives_up.ends.next;
     later = subst (λ (logged : LoggedMemory J means counts). faults_under old ≤ faults_of (log_of logged))
         (sym gives_up.logged) (omega arith);

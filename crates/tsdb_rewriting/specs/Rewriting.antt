@@ -18,6 +18,7 @@ use Rattle.tsdb_fileset.specs.Files.{KeptFiles, kept_file}
 use Rattle.tsdb_fileset.specs.Places.{AreOfStore}
 use Rattle.tsdb_fileset.specs.Replacing.{output_in, replace_run}
 use Rattle.tsdb_base.specs.Lists.{IsWithOne, count, if_some}
+use Rattle.tsdb_frames.specs.Calls.{KeepsToSlot}
 use Rattle.tsdb_memory.specs.LogState.{Outside}
 use Rattle.tsdb_model.specs.State as plain
 use Rattle.tsdb_outside.specs.Files.{NamedFile, Store, StoredFile}
@@ -28,7 +29,7 @@ use Rattle.tsdb_state.specs.Stores.{IsStateOf}
 use Rattle.tsdb_serving.specs.Flushing.{IsReady, faults_under}
 use Rattle.tsdb_serving.specs.declared.fault.FlushFault.{FlushFault}
 use Rattle.tsdb_serving.specs.declared.fault.FlushFault.TheVariants.{Full}
-use Rattle.tsdb_serving.specs.Serving.{AreHeldWith, IsServedBy, slot_under}
+use Rattle.tsdb_serving.specs.Serving.{AreHeldWith, IsServedBy, log_under}
 use Rattle.tsdb_state.specs.State.{Compaction, EngineState}
 
 -- A fault that says that the numbers for files are used up is there where too few are left, and has the next one.
@@ -98,7 +99,7 @@ module _ {J F S R P : Type 0} {means : disk.Ghosts J} {counts : counted.Ghosts J
     pub record EndsRewrite (store : Store) (old new : Core J F S R P means counts) (job : Job F S R P) : Type 0 where
       pub ready : IsReady store new
       pub limit : limit_of new ≡ limit_of old
-      pub slot : slot_under new ≡ slot_under old
+      pub slot : KeepsToSlot (log_under old) (log_under new)
       pub next : next_of new ≡ next_of old
       pub later : faults_under old ≤ faults_under new
       pub keeps : store.tells ≡ true → (files : List StoredFile) (at : plain.State)

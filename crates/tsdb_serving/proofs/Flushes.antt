@@ -16,6 +16,8 @@ use Rattle.tsdb_core.specs.Rows.{CanFreezeNow, NeedsFlush}
 use Rattle.tsdb_core.specs.declared.commit.Commit.{Commit}
 use Rattle.tsdb_core.specs.declared.commit.Commit.TheVariants.{Gone}
 use Rattle.tsdb_core.specs.declared.engine.Core.{Core}
+use Rattle.tsdb_frames.proofs.CallLemmas.{keeps_to_slot_on, same_keeps_to_slot}
+use Rattle.tsdb_frames.specs.Calls.{KeepsToSlot}
 use Rattle.tsdb_frames.specs.Frames.{disk_of, faults_of, slot_of}
 use Rattle.tsdb_frames.specs.declared.frames.Frames.{Frames}
 use Rattle.tsdb_core.specs.FlushJob.{FlushJob}
@@ -42,7 +44,7 @@ use Rattle.tsdb_memory.specs.Store.{FrozenPair, MemoryState as MemoryStore}
 use Rattle.tsdb_memory.specs.Fits.{HasNoPairPoint}
 use Rattle.tsdb_serving.specs.Flushing.{EndsJob, GoesOn, IsBusy, IsOfJob, IsReady, Serves, faults_under, frozen_under}
 use Rattle.tsdb_serving.specs.declared.fault.FlushFault.{FlushFault}
-use Rattle.tsdb_serving.specs.Serving.{IsDrawn, IsServed, IsServedBy, LeavesEither, StaysInPlace, disk_under}
+use Rattle.tsdb_serving.specs.Serving.{IsDrawn, IsServed, IsServedBy, LeavesEither, StaysInPlace, disk_under, log_under}
 
 -- the file is of the store
 abbrev IsIn : Store → NewFile → Type 0
@@ -59,6 +61,11 @@ none_left (a ∷ b ∷ c ∷ xs) few = absurd (omega (arith, few))
 pub one_left : {X : Type 0} (xs ys : List X) → length xs ≤ 2 → ys ≡ drop 1 xs → length ys < 2
 one_left [] ys few is = subst (λ (l : List _). length l < 2) (sym is) (omega arith)
 one_left (a ∷ xs) ys few is = subst (λ (l : List _). length l < 2) (sym is) (omega (arith, few))
+
+-- nothing was done
+pub stays_same : {J F S R P : Type 0} {means : disk.Ghosts J} {counts : counted.Ghosts J} (core : Core J F S R P means counts)
+    → StaysInPlace core core
+stays_same core = record { slot = same_keeps_to_slot (log_under core) (log_under core) refl; next = omega arith }
 
 module _ {J F S R P : Type 0} {means : disk.Ghosts J} {counts : counted.Ghosts J} (store : P → Store) (faults : P → ℕ) where
   -- where more numbers may be drawn
@@ -98,7 +105,7 @@ module _ {J F S R P : Type 0} {means : disk.Ghosts J} {counts : counted.Ghosts J
     nothing port core drawn ready = record {
       serves = record {
         ready = ready;
-        stays = record { slot = refl; next = omega arith };
+        stays = stays_same core;
         draws = omega arith;
         same_store = refl;
         later = (omega arith, omega arith);
@@ -126,7 +133,10 @@ module _ {J F S R P : Type 0} {means : disk.Ghosts J} {counts : counted.Ghosts J
         record {
           serves = record {
             ready = subst (λ (s : Store). IsReady s new) one.same_store two.ready;
-            stays = record { slot = two.stays.slot ∙ one.stays.slot; next = omega (arith, from, to) };
+            stays = record {
+              slot = keeps_to_slot_on (log_under old) (log_under mid) (log_under new) one.stays.slot two.stays.slot;
+              next = omega (arith, from, to);
+            };
             draws = omega (arith, less, some, others);
             same_store = two.same_store ∙ one.same_store;
             later = (omega (arith, journal, journal_on), omega (arith, counted_first, counted_second));
@@ -137,7 +147,7 @@ module _ {J F S R P : Type 0} {means : disk.Ghosts J} {counts : counted.Ghosts J
               (λ n drawn. let low = drawn.from in let high = drawn.to in record { from = low; to = omega (arith, high, to) })
               (λ n drawn. let low = drawn.from in let high = drawn.to in
               record { from = omega (arith, low, from); to = high })
-              (drawn_apart old mid new) old mid new files at next at at one.stays.slot kept
+              (drawn_apart old mid new) old mid new files at next at at one.stays.slot.same kept
               (second.keeps (ap (λ (s : Store). s.tells) one.same_store ∙ tells) (files ++ kept.put) at kept.doubt
               kept.serving);
         }
@@ -148,7 +158,10 @@ module _ {J F S R P : Type 0} {means : disk.Ghosts J} {counts : counted.Ghosts J
     not_taken port old new drawn takes not ready = record {
       serves = record {
         ready = still_ready (store port) old new takes not ready;
-        stays = record { slot = ap (λ log. slot_of log) takes.logged.log.log; next = omega (arith, not.next) };
+        stays = record {
+          slot = same_keeps_to_slot (log_under old) (log_under new) takes.logged.log.log;
+          next = omega (arith, not.next);
+        };
         draws = omega (arith, not.next);
         same_store = refl;
         later = (
@@ -216,7 +229,7 @@ module _ {J F S R P : Type 0} {means : disk.Ghosts J} {counts : counted.Ghosts J
         serves = record {
           ready = ends.ready;
           stays = record {
-            slot = ends.slot ∙ ap (λ log. slot_of log) takes.logged.log.log;
+            slot = subst (λ (log : Frames J means counts). KeepsToSlot log (log_under new)) takes.logged.log.log ends.slot;
             next = omega (arith, taken.next, ends.next);
           };
           draws = omega (arith, taken.next, ends.next, few);
@@ -254,7 +267,7 @@ module _ {J F S R P : Type 0} {means : disk.Ghosts J} {counts : counted.Ghosts J
     abandon_ends gives_up = record {
       ready = ready_again store given old new job built Gone of_job gives_up.ends all busy;
       limit = gives_up.ends.limit;
-      slot = ap (λ logged. slot_of (log_of logged)) gives_up.logged;
+      slot = same_keeps_to_slot (log_under old) (log_under new) (ap (λ logged. log_of logged) gives_up.logged);
       next = gives_up.ends.next;
       later = subst (λ (logged : LoggedMemory J means counts). faults_under old ≤ faults_of (log_of logged))
           (sym gives_up.logged) (omega arith);

@@ -13,7 +13,8 @@ use Rattle.tsdb_core.specs.FilesetSweeps.{tried_numbers}
 use Rattle.tsdb_core.specs.Sweeps.{IsSwept, without_files}
 use Rattle.tsdb_core.specs.declared.engine.Core.{Core}
 use Rattle.tsdb_frames.proofs.Counted.{no_fault_no_doubt}
-use Rattle.tsdb_frames.specs.Frames.{disk_of, faults_of, is_in_doubt, slot_of}
+use Rattle.tsdb_frames.specs.Calls.{KeepsToSlot}
+use Rattle.tsdb_frames.specs.Frames.{disk_of, faults_of, is_in_doubt}
 use Rattle.tsdb_memory.specs.Fits.{FitsPair, HasNoPairPoint}
 use Rattle.tsdb_memory.specs.LogState.{log_of, memory_of}
 use Rattle.tsdb_memory.specs.declared.logged_memory.LoggedMemory.{LoggedMemory}
@@ -132,7 +133,8 @@ module _ {J F S R P : Type 0} {means : disk.Ghosts J} {counts : counted.Ghosts J
           serves = record {
             ready = subst (λ (s : Store). IsReady s new) part.serves.same_store ready;
             stays = record {
-              slot = ap (λ logged. slot_of (log_of logged)) keeps.logged ∙ part.serves.stays.slot;
+              slot = subst (λ (logged : LoggedMemory J means counts). KeepsToSlot (log_under old) (log_of logged))
+                  (sym keeps.logged) part.serves.stays.slot;
               next = omega (arith, from, same);
             };
             draws = omega (arith, draws, same);
@@ -159,11 +161,12 @@ module _ {J F S R P : Type 0} {means : disk.Ghosts J} {counts : counted.Ghosts J
       unwritten = λ change not. served_on files at next at at (one.unwritten change not);
     }
 
-  -- the log stays in its slot
+  -- the log keeps to its slot
   pub stays_swept : (old mid new : Core J F S R P means counts) → KeepsAllButOutgoing mid new → StaysInPlace old mid
       → StaysInPlace old new
   stays_swept old mid new keeps stays = record {
-    slot = ap (λ logged. slot_of (log_of logged)) keeps.logged ∙ stays.slot;
+    slot = subst (λ (logged : LoggedMemory J means counts). KeepsToSlot (log_under old) (log_of logged))
+        (sym keeps.logged) stays.slot;
     next = let first = stays.next in let same = keeps.next in omega (arith, first, same);
   }
 

@@ -6,6 +6,7 @@ use Rattle.tsdb_core.specs.Core.{IsSeen, KeepsJobs, files_of, limit_of, logged_o
 use Rattle.tsdb_core.specs.Ending.{drawn_for}
 use Rattle.tsdb_core.specs.Flushes.{HasNumbersOf}
 use Rattle.tsdb_core.specs.declared.engine.Core.{Core}
+use Rattle.tsdb_frames.specs.Calls.{KeepsToSlot}
 use Rattle.tsdb_frames.specs.Frames.{faults_of}
 use Rattle.tsdb_state.specs.StoredEngine.{LeadsTo}
 use Rattle.tsdb_core.specs.FlushJob.{FlushJob}
@@ -18,7 +19,7 @@ use Rattle.tsdb_outside.specs.Files.{Store, StoredFile}
 use Rattle.tsdb_outside.specs.declared.disk.Disk as disk
 use Rattle.tsdb_outside.specs.declared.faults.Counted as counted
 use Rattle.tsdb_serving.specs.Faults.{HasFlushCause}
-use Rattle.tsdb_serving.specs.Serving.{AreHeldWith, IsServedBy, KeepsServing, StaysInPlace, slot_under}
+use Rattle.tsdb_serving.specs.Serving.{AreHeldWith, IsServedBy, KeepsServing, StaysInPlace, log_under}
 use Rattle.tsdb_serving.specs.declared.fault.FlushFault.{FlushFault}
 use Rattle.tsdb_state.specs.Stores.{IsStateOf}
 use Rattle.tsdb_state.specs.State.{EngineState, FlushState as StateFlush}
@@ -51,7 +52,7 @@ module _ {J F S R P : Type 0} {means : disk.Ghosts J} {counts : counted.Ghosts J
     pub of_store : AreOfStore store (files_of core).places
 
   module _ (store : P → Store) (faults : P → ℕ) (port after : P) (old new : Core J F S R P means counts) where
-    -- What is left of a port and a core, whatever is answered: the core is ready, its log stays in its slot, at most so
+    -- What is left of a port and a core, whatever is answered: the core is ready, its log keeps to its slot, at most so
     -- many numbers for files were drawn, the port is still of its store, and no count of faults has fallen.
     pub record Serves (drawn : ℕ) : Type 0 where
       pub ready : IsReady (store port) new
@@ -94,7 +95,7 @@ module _ {J F S R P : Type 0} {means : disk.Ghosts J} {counts : counted.Ghosts J
   pub record EndsJob (store : Store) (old new : Core J F S R P means counts) (job : FlushJob) : Type 0 where
     pub ready : IsReady store new
     pub limit : limit_of new ≡ limit_of old
-    pub slot : slot_under new ≡ slot_under old
+    pub slot : KeepsToSlot (log_under old) (log_under new)
     pub next : next_of new ≡ next_of old
     pub later : faults_under old ≤ faults_under new
     pub keeps : store.tells ≡ true → (files : List StoredFile) (at : plain.State)

@@ -4,7 +4,9 @@ use Rattle.std.specs.Prelude.{◌≡◌, ◌≢◌, ◌⊎◌, ℕ, ◌≤◌, �
 use Rattle.std.specs.List.{AllByRecursion as Each}
 use Rattle.tsdb_core.specs.Core.{IsSeen, logged_of, next_of}
 use Rattle.tsdb_core.specs.declared.engine.Core.{Core}
+use Rattle.tsdb_frames.specs.Calls.{KeepsToSlot}
 use Rattle.tsdb_frames.specs.Frames.{disk_of, slot_of}
+use Rattle.tsdb_frames.specs.declared.frames.Frames.{Frames}
 use Rattle.tsdb_state.specs.StoredEngine.{LeadsTo, LeavesOneOf}
 use Rattle.tsdb_base.specs.Lists.{EachPair}
 use Rattle.tsdb_memory.specs.LogState.{Outside, log_of, memory_of}
@@ -60,17 +62,21 @@ LeavesEither files slot at next after image =
     LeavesOneOf files slot at next image ⊎ LeavesOneOf files slot at (Some after) image
 
 module _ {J F S R P : Type 0} {means : disk.Ghosts J} {counts : counted.Ghosts J} where
+  -- the log
+  abbrev pub log_under : Core J F S R P means counts → Frames J means counts
+  log_under core = log_of (logged_of core)
+
   -- what a stop may leave of the log's journal
   abbrev pub disk_under : Core J F S R P means counts → DiskState
-  disk_under core = disk_of (log_of (logged_of core))
+  disk_under core = disk_of (log_under core)
 
   -- the slot of the log
   abbrev pub slot_under : Core J F S R P means counts → Slot
-  slot_under core = slot_of (log_of (logged_of core))
+  slot_under core = slot_of (log_under core)
 
-  -- The log stays in its slot, and numbers for files are drawn in their order.
+  -- The log keeps to its slot, and numbers for files are drawn in their order.
   pub record StaysInPlace (old new : Core J F S R P means counts) : Type 0 where
-    pub slot : slot_under new ≡ slot_under old
+    pub slot : KeepsToSlot (log_under old) (log_under new)
     pub next : next_of old ≤ next_of new
 
   -- `full` is answered only where the stamp can rise no further, or with a number that was reached by those of files.

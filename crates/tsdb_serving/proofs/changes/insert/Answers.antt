@@ -1,6 +1,7 @@
 use Rattle.std.proofs.Common.{◌≡◌, [], ◌++◌, inl, arith, refl, subst, sym, ◌∙◌}
 use Rattle.tsdb_core.specs.Core.{logged_of}
 use Rattle.tsdb_core.specs.FilesetFiles.{KeptFiles}
+use Rattle.tsdb_frames.proofs.CallLemmas.{keeps_to_slot_on}
 use Rattle.tsdb_memory.specs.LogState.{memory_of}
 use Rattle.tsdb_model.specs.declared.command.Command.TheVariants.{Insert}
 use Rattle.tsdb_model.specs.declared.reply.Reply.TheVariants.{Plain}
@@ -11,7 +12,7 @@ use Rattle.tsdb_serving.proofs.Causes.{device_cause, full_cause, rose_later}
 use Rattle.tsdb_serving.proofs.Jobs.{drawn_first, drawn_second, kept_ready}
 use Rattle.tsdb_serving.proofs.Swept.{empty_without_faults}
 use Rattle.tsdb_serving.specs.Flushing.{faults_under}
-use Rattle.tsdb_serving.specs.Serving.{IsAnsweredBy, IsDrawn}
+use Rattle.tsdb_serving.specs.Serving.{IsAnsweredBy, IsDrawn, log_under}
 use Rattle.tsdb_core.specs.Rows.{IsRowCommand}
 use Rattle.tsdb_serving.proofs.Full.{by_number, by_stamp, next_counter}
 use Rattle.tsdb_serving.proofs.changes.insert.Goals as goal
@@ -20,7 +21,7 @@ pub returns-in-Ok-clause-answers : goal.returns-in-Ok-clause-answers
 returns-in-Ok-clause-answers g c = λ tells files at next serving.
     let first = c.make_room.ensures.goes_on.keeps tells files at next serving in
     behind g.J.Disk.lawful c.args.core.now c.make_room.new.core c.insert.new.self c.args.device.now c.args.row.now files at next
-    c.make_room.ensures.goes_on.serves.stays.slot first
+    c.make_room.ensures.goes_on.serves.stays.slot.same first
     (drawn_first c.args.core.now c.make_room.new.core c.insert.new.self c.insert.ensures.kept.next)
     (drawn_second c.args.core.now c.make_room.new.core c.insert.new.self c.make_room.ensures.goes_on.serves.stays.next)
     c.insert.result
@@ -85,8 +86,9 @@ returns-in-Ok-clause-serves g c =
       ready = kept_ready c.make_room.new.core c.insert.new.self c.insert.ensures.kept (g.F.Port.Port.store c.args.port.now)
           part.ready;
       stays = record {
-        slot = row_slot c.make_room.new.core c.insert.new.self c.args.device.now c.args.row.now c.insert.result
-            c.insert.ensures.row ∙ part.stays.slot;
+        slot = keeps_to_slot_on (log_under c.args.core.now) (log_under c.make_room.new.core) (log_under c.insert.new.self)
+            part.stays.slot (row_slot c.make_room.new.core c.insert.new.self c.args.device.now c.args.row.now
+            c.insert.result c.insert.ensures.row);
         next = omega (arith, same, from);
       };
       draws = omega (arith, same, drawn);
