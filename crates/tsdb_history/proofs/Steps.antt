@@ -6,6 +6,7 @@ use Rattle.tsdb_base.specs.declared.answers.Answer.TheVariants as answer
 use Rattle.tsdb_querying.specs.Core.{logged_of, next_of}
 use Rattle.tsdb_querying.specs.Listings.{TellsStore}
 use Rattle.tsdb_querying.specs.CoreType.{Core}
+use Rattle.tsdb_frames.proofs.CallLemmas.{keeps_to_slot_on}
 use Rattle.tsdb_frames.proofs.MomentLemmas.{leaves_on, weaker}
 use Rattle.tsdb_history.proofs.Ends.{last_ends, last_listed, none_ends, none_listed}
 use Rattle.tsdb_history.proofs.Prefixes.{done_or_not, entry_of, is_change, is_reply, last_doubt, legal_more, may_stay}
@@ -38,18 +39,21 @@ use Rattle.tsdb_querying.specs.Flushing.{faults_under}
 use Rattle.tsdb_querying.specs.Sweeping.{StaysEmpty}
 use Rattle.tsdb_querying.specs.Serving as serving
 use Rattle.tsdb_querying.specs.Serving.{ServesCommand, HasFullCause, IsAnsweredBy, IsDrawn, IsServedBy, IsServing, MayBeWritten}
-use Rattle.tsdb_querying.specs.Serving.{LeavesDoubt, LeavesEither, StaysInPlace, disk_under, slot_under}
+use Rattle.tsdb_querying.specs.Serving.{LeavesDoubt, LeavesEither, StaysInPlace, disk_under, log_under, slot_under}
 
 -- this is held of a file
 abbrev Held : stores.BytesByNumber → StoredFile → Type 0
 Held files file = files file.number ≡ Some file.bytes
 
 module _ {J F S R P : Type 0} {means : disk.Ghosts J} {counts : counted.Ghosts J} where
-  -- the log stays in its slot over one step and then another
+  -- the log keeps to its slot over one step and then another
   pub stays_on : (first mid new : Core J F S R P means counts) → StaysInPlace first mid → StaysInPlace mid new
       → StaysInPlace first new
   stays_on first mid new before after = let drawn = before.next in let next = after.next in
-      record { slot = after.slot ∙ before.slot; next = omega (arith, drawn, next) }
+      record {
+        slot = keeps_to_slot_on (log_under first) (log_under mid) (log_under new) before.slot after.slot;
+        next = omega (arith, drawn, next);
+      }
 
   -- where no file was on its way out none is behind one step and then another
   pub empty_on : (first mid new : Core J F S R P means counts) (before between now : ℕ) → before ≤ between → between ≤ now
@@ -167,7 +171,7 @@ module _ {J F S R P : Type 0} {means : disk.Ghosts J} {counts : counted.Ghosts J
       ends : (image : Image) → LeavesEither (held ++ served.put) (slot_under mid) at so_far.doubt later image
           → AtAll image
       ends image leaves = last image
-          (subst (λ slot. LeavesEither (held ++ served.put) slot at so_far.doubt later image) place.slot leaves)
+          (subst (λ slot. LeavesEither (held ++ served.put) slot at so_far.doubt later image) place.slot.same leaves)
 
       from_first : (file : StoredFile) → IsDrawn first mid file.number → IsDrawn first new file.number
       from_first file drawn = let to = drawn.to in let next = stays.next in

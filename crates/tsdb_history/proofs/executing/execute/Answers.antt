@@ -8,6 +8,7 @@ use Rattle.tsdb_history.proofs.Replies.{sure_still}
 use Rattle.tsdb_history.proofs.SoFar.{SoFar, devices_more, few_of, nothing_so_far, one_more, whole_slice}
 use Rattle.tsdb_history.proofs.Steps.{empty_on, none_served, one_more_served, stays_on}
 use Rattle.tsdb_history.specs.History.{IsHistory, IsInLineOrder, told_device, session_numbers}
+use Rattle.tsdb_querying.proofs.Flushes.{stays_same}
 use Rattle.tsdb_querying.specs.Serving.{IsSure}
 use Rattle.tsdb_history.specs.declared.told.Told.{Told}
 use Rattle.tsdb_script.specs.declared.numbered.Numbered.{Numbered}
@@ -38,7 +39,7 @@ loop-numbered-init g c = record {
   so_far = rw c.requires.room.none (nothing_so_far c.args.room.counts.items c.requires.room.zero);
   same_store = refl;
   ready = c.requires.ready;
-  stays = record { slot = refl; next = omega arith };
+  stays = stays_same c.args.core.now;
   drawn = omega arith;
   served = λ tells files start serving. none_served g.J.Disk.lawful c.args.core.now files start serving;
   sure = λ sure. sure;

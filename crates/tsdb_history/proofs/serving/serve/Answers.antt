@@ -4,7 +4,7 @@ use Rattle.tsdb_model.specs.declared.reply.Reply.TheVariants.{Plain}
 use Rattle.tsdb_querying.specs.Serving.{ServesCommand}
 use Rattle.tsdb_fileset.specs.Files.{KeptFiles}
 use Rattle.tsdb_querying.proofs.ServingFull.{no_full}
-use Rattle.tsdb_querying.proofs.Flushes.{serves_alone, serves_within}
+use Rattle.tsdb_querying.proofs.Flushes.{serves_alone, serves_within, stays_same}
 use Rattle.tsdb_querying.proofs.Swept.{empty_without_faults}
 use Rattle.tsdb_history.proofs.serving.serve.Goals as goal
 
@@ -171,4 +171,4 @@ pub returns-in-ShowFiles-clause-serves : goal.returns-in-ShowFiles-clause-serves
 returns-in-ShowFiles-clause-serves g c = serves_within g.F.Port.Port.store g.F.Port.Counted.faults c.args.port.now c.args.port.now
     c.args.core.now c.args.core.now 0 6 (omega arith)
     (serves_alone g.F.Port.Port.store g.F.Port.Counted.faults c.args.port.now c.args.core.now c.args.core.now c.requires.ready
-    (record { slot = refl; next = omega arith }) refl (omega arith))
+    (stays_same c.args.core.now) refl (omega arith))
