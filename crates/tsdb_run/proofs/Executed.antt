@@ -6,7 +6,7 @@ use Rattle.std.specs.List.{AllByRecursion as Each}
 use Rattle.std.specs.Option.{IsSomeAnd}
 use Rattle.tsdb_recover.specs.Core.{files_of, next_of}
 use Rattle.tsdb_recover.specs.CoreType.{Core}
-use Rattle.tsdb_frames.proofs.MomentLemmas.{leaves_on, weaker}
+use Rattle.tsdb_frames.proofs.MomentLemmas.{elsewhere_on, leaves_on, weaker}
 use Rattle.std.proofs.lemmas.Option.{same_Some}
 use Rattle.tsdb_history.proofs.Prefixes.{after_wider, no_prefix, stands_after, whole_prefix}
 use Rattle.tsdb_history.specs.Closing.{IsCoreClosed}
@@ -22,7 +22,7 @@ use Rattle.tsdb_redo.specs.Opening.{greatest}
 use Rattle.tsdb_base.specs.Causes.{Rose}
 use Rattle.tsdb_outside.specs.Disk.{Image, IsLawful, Keeps, DiskState, in_slot}
 use Rattle.tsdb_outside.specs.Files.{StoredFile, stored_file_numbers}
-use Rattle.tsdb_outside.specs.Moments.{LeavesOnly}
+use Rattle.tsdb_outside.specs.Moments.{IsUntouched, LeavesOnly}
 use Rattle.tsdb_outside.specs.declared.disk.Disk as disk
 use Rattle.tsdb_outside.specs.declared.disk.Slot.{Slot}
 use Rattle.tsdb_outside.specs.declared.disk.Slot.TheVariants.{A}
@@ -200,6 +200,21 @@ sure_before old new stored now keeps same (inr (start, sound)) =
 
 -- ---- before and behind it
 
+-- slot B: behind a call that writes nothing, and before one
+keeps_aside : (old new : DiskState) → IsLawful old → IsLawful new → Keeps old new → LeavesOnly old new (IsUntouched A old)
+keeps_aside old new before after keeps = keeps_leaves old new (IsUntouched A old) before after keeps
+    (λ image left. record { before = image; left = left; same = refl })
+
+pub aside_before : (old mid new : DiskState) → IsLawful old → IsLawful mid → IsLawful new → Keeps old mid
+    → LeavesOnly mid new (IsUntouched A mid) → LeavesOnly old new (IsUntouched A old)
+aside_before old mid new before between behind keeps leaves =
+    elsewhere_on A old mid new between behind (keeps_aside old mid before between keeps) leaves
+
+aside_behind : (old mid new : DiskState) → IsLawful mid → IsLawful new → LeavesOnly old mid (IsUntouched A old)
+    → Keeps mid new → LeavesOnly old new (IsUntouched A old)
+aside_behind old mid new between behind leaves keeps =
+    elsewhere_on A old mid new between behind leaves (keeps_aside mid new between behind keeps)
+
 module _ (files : List StoredFile) (start : plain.State) (entries : List Entry) (old mid new : DiskState)
     (now : Option (List StoredFile)) (rose : Type 0) (before : IsLawful old) (between : IsLawful mid)
     (behind : IsLawful new) where
@@ -279,6 +294,7 @@ placed script history old journal last new stored at_rest rest now rose more fau
           run_behind sound.files start run.entries old last new rest rose one three four now more puts told wider
           (run_before sound.files start run.entries old journal last rest rose one two three rose takes
           (λ image left. sound_left old stored start image sound left) (λ is. is) (run.served start inside));
+      aside = aside_behind old last new three four (aside_before old journal last one two three takes run.aside) puts;
       swept = λ start sound zero. λ files image there left.
           run.swept start (sound_after old journal stored at_rest start takes same sound) (none zero) files image
           (sym told ∙ there) (puts.crash image left);

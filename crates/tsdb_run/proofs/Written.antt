@@ -34,6 +34,7 @@ module _ (run : WholeRun) (script : List Numbered) (asked : Asked) (words : AreW
     entries = done.entries;
     history_of = done.history_of;
     served = done.served;
+    aside = done.aside;
     swept = done.swept;
     within = done.within;
     printed = printed;

@@ -15,7 +15,8 @@ use Rattle.tsdb_model.specs.State as plain
 use Rattle.tsdb_model.specs.declared.reply.Listing.{Listing}
 use Rattle.tsdb_outside.specs.Disk.{Image, DiskState}
 use Rattle.tsdb_outside.specs.Files.{StoredFile}
-use Rattle.tsdb_outside.specs.Moments.{LeavesOnly}
+use Rattle.tsdb_outside.specs.Moments.{IsUntouched, LeavesOnly}
+use Rattle.tsdb_outside.specs.declared.disk.Slot.TheVariants.{A}
 use Rattle.tsdb_run.specs.Output.{AppendsPrefix, output_text}
 use Rattle.tsdb_run.specs.Store.{Contents, HasAllInFiles, HasNoStrays, IsPlaceDamaged, IsLeftAlone, IsListed}
 use Rattle.tsdb_run.specs.Store.{IsNextNumberOfPlace, IsSoundPlace, SlotsStandFor, Stores}
@@ -108,6 +109,8 @@ pub record IsExecuted (run : WholeRun) (puts : List ℕ → Type 0) : Type 0 whe
   -- from a state for which the store stood
   pub served : (start : plain.State) (sound : IsSoundPlace run.old start)
       → HasRun sound.files start entries run.old.disk run.new (HasUnanswered run)
+  -- a stop at any moment left in slot B what it might have left there before the run
+  pub aside : LeavesOnly run.old.disk run.new.disk (IsUntouched A run.old.disk)
   -- where nothing of the place has failed, no file is left that the log does not list
   pub swept : (start : plain.State) → IsSoundPlace run.old start → run.faults_after ≡ 0 → HasNoStrays run.new
   -- and none is `full` before a counter is at its end, or the numbers of files can have come so far in this run

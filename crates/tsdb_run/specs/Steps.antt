@@ -12,7 +12,9 @@ use Rattle.tsdb_model.specs.History.{Entry}
 use Rattle.tsdb_model.specs.State as plain
 use Rattle.tsdb_outside.specs.Causes.{HasStoreCause, RisesOnlyByFailed}
 use Rattle.tsdb_outside.specs.Files.{StoredFile}
+use Rattle.tsdb_outside.specs.Moments.{IsUntouched, LeavesOnly}
 use Rattle.tsdb_outside.specs.declared.disk.Disk as disk
+use Rattle.tsdb_outside.specs.declared.disk.Slot.TheVariants.{A}
 use Rattle.tsdb_outside.specs.declared.faults.Counted as counted
 use Rattle.tsdb_outside.specs.declared.faults.StoreFault.{StoreFault}
 use Rattle.tsdb_print.specs.Text.{reply_text}
@@ -63,6 +65,7 @@ pub record IsRunOn (script : List Numbered) (history : List Told) (old new : Con
   pub in_line_order : IsInLineOrder script history
   pub served : (start : plain.State) (sound : IsSoundPlace old start)
       → HasRun sound.files start entries old.disk new unanswered
+  pub aside : LeavesOnly old.disk new.disk (IsUntouched A old.disk)
   pub swept : (start : plain.State) → IsSoundPlace old start → faults ≡ 0 → HasNoStrays new
   pub within : HaveReach old script entries
 
@@ -81,6 +84,7 @@ module _ {J F S R P : Type 0} {means : disk.Ghosts J} {counts : counted.Ghosts J
     pub served : at_rest ≡ Some [] → (files : List StoredFile) (start : plain.State)
         → IsServing core files start None → IsNewerThan files core
         → HasRun files start entries (disk_under core) new unanswered
+    pub aside : LeavesOnly (disk_under core) new.disk (IsUntouched A (disk_under core))
     pub swept : at_rest ≡ Some [] → (files : List StoredFile) (start : plain.State) → IsServing core files start None
         → (files_of core).outgoing ≡ [] → faults ≡ 0 → HasNoStrays new
     pub within : at_rest ≡ Some [] → (files : List StoredFile) (start : plain.State)

@@ -1,18 +1,19 @@
 //! Executes the commands of a script on a store. Depends on tsdb_recover, tsdb_history and tsdb_core.
-ghost use Rattle.std.specs.Prelude.{◌≡◌, ℕ, ◌+◌, ◌-◌, ◌^◌, ◌<◌, ◌≤◌, min, Some, IfErr, IfOk, IsErrAnd, OnOk};
+ghost use Rattle.std.specs.Prelude.{◌≡◌, ℕ, ◌+◌, ◌-◌, ◌^◌, ◌<◌, ◌≤◌, min, false, Some, IfErr, IfOk, IsErrAnd, OnOk};
 ghost use Rattle.std.specs.Prelude.{count_by, length};
 ghost use Rattle.tsdb_recover.specs.Core.{limit_of};
 ghost use Rattle.tsdb_recover.specs.Limits.{IsPairLimit};
 ghost use Rattle.tsdb_history.specs.History.{CanExecute, told_device};
 ghost use Rattle.tsdb_history.specs.Rooms.{IsRoomFor};
 ghost use Rattle.tsdb_base.specs.Causes.{Rose};
+ghost use Rattle.tsdb_frames.specs.Frames.{is_in_doubt};
 ghost use Rattle.tsdb_outside.specs.declared.disk.Slot.TheVariants as slots;
 ghost use Rattle.tsdb_recover.specs.declared.fault.Part as store_part;
 ghost use Rattle.tsdb_run.specs.Causes.{ReportsDamage, TellsDevice};
 ghost use Rattle.tsdb_run.specs.Steps.{IsOpeningRefused, IsRunOn, IsServedFrom, opening_status};
 ghost use Rattle.tsdb_run.specs.Store.{HasDamage, IsSoundOrSilent, contents};
 ghost use Rattle.tsdb_history.specs.Flushing.{IsReady};
-ghost use Rattle.tsdb_history.specs.Serving.{IsSure, slot_under};
+ghost use Rattle.tsdb_history.specs.Serving.{IsSure, log_under, slot_under};
 
 use crate::asked::Asked;
 use crate::laws::a_recovered_core_serves;
@@ -125,6 +126,7 @@ fn serve_script<J: Journal, F: Files>(
     requires ready { IsReady (F.Port.store port) core }
     requires port { F.Port.store port ≡ F.store files.old }
     requires slot { slot_under core ≡ slots.A }
+    requires no_doubt { is_in_doubt (log_under core) ≡ false }
     ensures served { IsServedFrom script.now result.1 (F.at_rest files.old) core
         (contents (J.state result.0) (F.at_rest files.new))
         (Rose (count_by told_device result.1) (J.faults result.0 + F.faults files.new))

@@ -9,7 +9,7 @@ use Rattle.tsdb_memory.specs.LogState.{log_of}
 use Rattle.tsdb_recover.specs.Core.{logged_of}
 use Rattle.tsdb_base.specs.Causes.{Rose}
 use Rattle.tsdb_outside.specs.Files.{Store}
-use Rattle.tsdb_run.proofs.Executed.{above_stored, run_before}
+use Rattle.tsdb_run.proofs.Executed.{above_stored, aside_before, run_before}
 use Rattle.tsdb_run.proofs.Whole.{gone, image, next_is, next_same, opened, sound_left}
 use Rattle.tsdb_run.specs.Store.{IsSoundOrSilent, contents}
 use Rattle.tsdb_history.specs.Serving.{IsSure, disk_under}
@@ -50,6 +50,9 @@ returns-in-Ok-recover-clause-executed g c =
           (λ image left. sound_left state stored start image sound left) (λ is. is)
           (served.served none sound.files start serving
           (above_stored core sound.files recovered.recorded.named next));
+      aside = aside_before state (disk_under core) (g.J.Disk.state journal) (g.J.Disk.lawful c.args.journal)
+          (g.J.Disk.lawful (journal_of (log_of (logged_of core)))) (g.J.Disk.lawful journal)
+          c.in-Ok-recover.ensures.keeps served.aside;
       swept = λ start sound quiet.
           let recovered = opened core state stored now start sound same c.in-Ok-recover.ensures.seen in
           let serving = c.a_recovered_core_serves.ensures (image core state stored now start sound same).a sound.files start

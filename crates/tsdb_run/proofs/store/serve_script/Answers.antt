@@ -6,9 +6,13 @@ use Rattle.tsdb_history.proofs.Reach.{all_further}
 use Rattle.tsdb_history.specs.Reach.{max_drawn}
 use Rattle.std.specs.Prelude.{is_some}
 use Rattle.tsdb_base.specs.Causes.{Rose}
+use Rattle.tsdb_frames.proofs.CallLemmas.{leaves_aside_on, second_false}
 use Rattle.tsdb_outside.specs.Files.{Store}
+use Rattle.tsdb_outside.specs.Moments.{IsUntouched, LeavesOnly}
+use Rattle.tsdb_outside.specs.declared.disk.Slot.{Slot}
 use Rattle.tsdb_run.proofs.Executed.{has_run, no_strays, not_rose, one_more_fault, quiet_port, some_and}
 use Rattle.tsdb_history.specs.Flushing.{faults_under}
+use Rattle.tsdb_history.specs.Serving.{disk_under, log_under}
 use Rattle.tsdb_run.proofs.store.serve_script.Goals as goal
 
 pub returns-clause-served : goal.returns-clause-served
@@ -27,7 +31,7 @@ returns-clause-served g c =
           let served = executed.served tells files start serving in
           let closed = some_and _ left (c.close.ensures.closed (c.end_port.ensures.same ∙ none) (files ++ served.put)
           served.after served.doubt served.serving) in
-          has_run core last files start executed.entries served c.requires.slot c.execute-history.ensures.stays.slot
+          has_run core last files start executed.entries served c.requires.slot c.execute-history.ensures.stays.slot.same
           (g.J.Disk.state journal) (g.J.Disk.lawful journal) closed.0
           (Rose (faults_under last) (g.J.Counted.faults journal)) closed.2 left
           (Rose (count_by told_device c.execute-history.result)
@@ -39,6 +43,10 @@ returns-clause-served g c =
           (c.execute-history.ensures.devices (inr (files, start, None, serving)))
           (subst (λ n. min (g.F.Counted.faults c.args.files.now + g.F.Port.Counted.faults c.execute-history.new.port)
           (2 ^ 64 - 1) ≤ n) (sym c.close.ensures.faults) c.end_port.ensures.faults));
+      aside = subst (λ (s : Slot). LeavesOnly (disk_under core) (g.J.Disk.state journal) (IsUntouched s (disk_under core)))
+          c.requires.slot (leaves_aside_on (log_under core) (log_under last) (g.J.Disk.state journal)
+          (g.J.Disk.lawful journal) c.execute-history.ensures.stays.slot c.close.ensures.aside
+          (second_false _ _ c.requires.no_doubt));
       swept = λ none files start serving empty quiet.
           let tells = ap (λ (s : Store). s.tells) c.requires.port ∙ g.F.Files.tells c.args.files.now ∙ ap is_some none in
           let served = executed.served tells files start serving in
@@ -52,7 +60,7 @@ returns-clause-served g c =
           (g.F.Counted.faults c.close.new.files)
           (subst (λ n. min (g.F.Counted.faults c.args.files.now + g.F.Port.Counted.faults c.execute-history.new.port)
           (2 ^ 64 - 1) ≤ n) (sym c.close.ensures.faults) c.end_port.ensures.faults) no_file_fault in
-          no_strays core last files start executed.entries served c.requires.slot c.execute-history.ensures.stays.slot
+          no_strays core last files start executed.entries served c.requires.slot c.execute-history.ensures.stays.slot.same
           (g.J.Disk.state journal) (g.J.Disk.lawful journal) closed.0
           (Rose (faults_under last) (g.J.Counted.faults journal)) closed.2 left closed.1
           (not_rose (faults_under last) (g.J.Counted.faults journal) no_fault)
