@@ -1,14 +1,13 @@
 -- A core that flushes stays ready for what is asked of it next.
-use Rattle.std.proofs.Common.{◌≡◌, ℕ, ◌⊎◌, List, [], ◌∷◌, ◌++◌, map, Option, None, Some, Result, Ok, Err, inl, inr}
+use Rattle.std.proofs.Common.{◌≡◌, ℕ, List, [], ◌∷◌, ◌++◌, map, Option, None, Some, Result, Ok, Err}
 use Rattle.std.proofs.Common.{ap, refl, sym, subst, ◌∙◌}
 use Rattle.std.proofs.lemmas.List.{map-append}
 use Rattle.std.specs.List.{AllByRecursion as Each}
 use Rattle.std.specs.Option.{option_map}
 use Rattle.std.specs.Prelude.{IfSome, ◌≤◌}
 use Rattle.core_tests.specs.Ready.{IsReady, IsReadyWith, IsTakenOut, flush_of}
-use Rattle.tsdb_base.specs.declared.ids.FileNumber.{FileNumber}
 use Rattle.tsdb_tasks.proofs.Coming.{of_each}
-use Rattle.tsdb_tasks.specs.Files.{NewFile, all_of, file_built, new_files}
+use Rattle.tsdb_tasks.specs.Files.{NewFile, file_built, new_files}
 use Rattle.tsdb_core.specs.Commands.{KeepsFiles}
 use Rattle.tsdb_core.specs.Core.{IsAboveNumbers, KeepsJobs, files_of}
 use Rattle.tsdb_core.specs.Ending.{drawn_for}
@@ -17,9 +16,7 @@ use Rattle.tsdb_core.specs.Sweeps.{IsSwept}
 use Rattle.tsdb_core.specs.declared.commit.Commit.{Commit}
 use Rattle.tsdb_core.specs.declared.commit.CoreFault.{CoreFault}
 use Rattle.tsdb_core.specs.declared.engine.Core.{Core}
-use Rattle.tsdb_flush.specs.BuiltFile.{IsPartDone}
 use Rattle.tsdb_flush.specs.Jobs.{IsJob}
-use Rattle.tsdb_flush.specs.Parts.{Filled}
 use Rattle.tsdb_flush.specs.declared.job.Built.{Built}
 use Rattle.tsdb_flush.specs.declared.job.Flushed.{Flushed}
 use Rattle.tsdb_flush.specs.declared.job.FlushJob.{FlushJob}
@@ -39,25 +36,6 @@ each_of Q None None p q = tt
 each_of Q None (Some b) p q = (q, tt)
 each_of Q (Some a) None p q = (p, tt)
 each_of Q (Some a) (Some b) p q = (p, (q, tt))
-
--- the file is of the store
-abbrev IsIn : Store → NewFile → Type 0
-IsIn store new = new.token.name.store ≡ store
-
-module _ {F S R P : Type 0} (file : S → NamedFile) (rights : S → ℕ) (store : Store) where
-  of_part : (born : ℕ) (part : List Filled) (number : Option FileNumber) (built : Option (Built F S R P))
-      → IsPartDone file rights store born part number built → IfSome (option_map (file_built file) built) (IsIn store)
-  of_part born part None None done = tt
-  of_part born part None (Some built) done = absurd done
-  of_part born part (Some number) None done = absurd done
-  of_part born part (Some number) (Some built) done = done.in_store
-
-  of_part_so_far : (born : ℕ) (part : List Filled) (number : Option FileNumber) (built : Option (Built F S R P))
-      → (built ≡ None) ⊎ IsPartDone file rights store born part number built
-      → IfSome (option_map (file_built file) built) (IsIn store)
-  of_part_so_far born part number built (inl none) =
-      subst (λ (b : Option (Built F S R P)). IfSome (option_map (file_built file) b) (IsIn store)) (sym none) tt
-  of_part_so_far born part number built (inr done) = of_part born part number built done
 
 -- no right to read a new file is out
 unread_part : {F S R P : Type 0} (file : S → NamedFile) (built : Option (Built F S R P))
@@ -101,17 +79,17 @@ module _ {J F S R P : Type 0} {means : disk.Ghosts J} {counts : counted.Ghosts J
   take_ready old new (Ok None) takes taken store jobs ready = record {
     keeps = taken.jobs (map flush_of jobs) [] ready.keeps;
     unread = still_made (λ file. file.rights ≡ 0) old.files.places new.files.places takes.places ready.unread;
-    of_store = still_made (λ file. file.name.store ≡ store) old.files.places new.files.places takes.places ready.of_store;
+    of_store = ready.of_store ∙ sym takes.lists.store;
   }
   take_ready old new (Ok (Some job)) takes taken store jobs ready = record {
     keeps = taken.jobs (flush_of job) (map flush_of jobs) [] (has_numbers job) ready.keeps;
     unread = still_made (λ file. file.rights ≡ 0) old.files.places new.files.places takes.places ready.unread;
-    of_store = still_made (λ file. file.name.store ≡ store) old.files.places new.files.places takes.places ready.of_store;
+    of_store = ready.of_store ∙ sym takes.lists.store;
   }
   take_ready old new (Err fault) takes taken store jobs ready = record {
     keeps = taken.jobs (map flush_of jobs) [] ready.keeps;
     unread = still_made (λ file. file.rights ≡ 0) old.files.places new.files.places takes.places ready.unread;
-    of_store = still_made (λ file. file.name.store ≡ store) old.files.places new.files.places takes.places ready.of_store;
+    of_store = ready.of_store ∙ sym takes.lists.store;
   }
 
   pub take_out : (old new : Core J F S R P means counts) (result : Result (Option FlushJob) CoreFault)
@@ -126,12 +104,8 @@ module _ {J F S R P : Type 0} {means : disk.Ghosts J} {counts : counted.Ghosts J
   take_out old new (Err fault) takes taken store jobs ready = tt
 
   -- the core after the end of a job, of whose files these are there
-  module _ (file : S → NamedFile) (rights : S → ℕ) (store : Store) (old new : Core J F S R P means counts)
-      (job : FlushJob) (given files : Flushed F S R P) (same : given ≡ files) (commit : Commit)
-      (ends : HasEndedFlush old new job (new_files file files) commit)
-      (first second : List Filled)
-      (sequence : (given.sequence ≡ None) ⊎ IsPartDone file rights store job.born.0 first job.sequence given.sequence)
-      (unsequence : (given.unsequence ≡ None) ⊎ IsPartDone file rights store job.born.0 second job.unsequence given.unsequence)
+  module _ (file : S → NamedFile) (store : Store) (old new : Core J F S R P means counts) (job : FlushJob)
+      (files : Flushed F S R P) (commit : Commit) (ends : HasEndedFlush old new job (new_files file files) commit)
       (others jobs : List FlushJob) (one : IsWithOne job others jobs) (ready : IsReady store old jobs) where
     pub ended : IsReady store new others
     ended = record {
@@ -142,11 +116,7 @@ module _ {J F S R P : Type 0} {means : disk.Ghosts J} {counts : counted.Ghosts J
           (each_of (λ f. f.token.rights ≡ 0) (option_map (file_built file) files.sequence)
           (option_map (file_built file) files.unsequence) (unread_part file files.sequence)
           (unread_part file files.unsequence));
-      of_store = ends.of_store store ready.of_store
-          (subst (λ (f : Flushed F S R P). Each (IsIn store) (all_of (new_files file f))) same
-          (each_of (IsIn store) (option_map (file_built file) given.sequence) (option_map (file_built file) given.unsequence)
-          (of_part_so_far file rights store job.born.0 first job.sequence given.sequence sequence)
-          (of_part_so_far file rights store job.born.0 second job.unsequence given.unsequence unsequence)));
+      of_store = ready.of_store ∙ sym ends.store;
     }
 
   -- ---- what a taken job is
@@ -181,8 +151,7 @@ module _ {J F S R P : Type 0} {means : disk.Ghosts J} {counts : counted.Ghosts J
   kept_ready old new keeps store jobs ready = record {
     keeps = keeps.jobs (map flush_of jobs) [] ready.keeps;
     unread = subst (λ (files : KeptFiles). AllFiles (λ file. file.rights ≡ 0) files.places) (sym keeps.files) ready.unread;
-    of_store = subst (λ (files : KeptFiles). AllFiles (λ file. file.name.store ≡ store) files.places) (sym keeps.files)
-        ready.of_store;
+    of_store = ready.of_store ∙ sym (ap (λ (files : KeptFiles). files.store) keeps.files);
   }
 
   pub swept_ready : (old new : Core J F S R P means counts) (result : Result ℕ Failed) → IsSwept old new result
@@ -190,27 +159,25 @@ module _ {J F S R P : Type 0} {means : disk.Ghosts J} {counts : counted.Ghosts J
   swept_ready old new (Ok count) swept store jobs ready = record {
     keeps = swept.all.jobs (map flush_of jobs) [] ready.keeps;
     unread = still_all (λ file. file.rights ≡ 0) _ old.files.places new.files.places swept.all.left.places ready.unread;
-    of_store = still_all (λ file. file.name.store ≡ store) _ old.files.places new.files.places swept.all.left.places
-        ready.of_store;
+    of_store = ready.of_store ∙ sym swept.all.left.store;
   }
   swept_ready old new (Err failed) swept store jobs ready = record {
     keeps = swept.stopped.1.jobs (map flush_of jobs) [] ready.keeps;
     unread = still_all (λ file. file.rights ≡ 0) _ old.files.places new.files.places swept.stopped.1.left.places
         ready.unread;
-    of_store = still_all (λ file. file.name.store ≡ store) _ old.files.places new.files.places
-        swept.stopped.1.left.places ready.of_store;
+    of_store = ready.of_store ∙ sym swept.stopped.1.left.store;
   }
 
-  pub new_ready : (core : Core J F S R P means counts) (store : Store) → KeepsJobs core [] [] → files_of core ≡ none_kept
-      → IsReady store core []
+  pub new_ready : (core : Core J F S R P means counts) (store : Store) → KeepsJobs core [] []
+      → files_of core ≡ none_kept store → IsReady store core []
   new_ready core store keeps none = record {
     keeps = keeps;
     unread = subst (λ (files : KeptFiles). AllFiles (λ file. file.rights ≡ 0) files.places) (sym none) (λ n. tt);
-    of_store = subst (λ (files : KeptFiles). AllFiles (λ file. file.name.store ≡ store) files.places) (sym none) (λ n. tt);
+    of_store = sym (ap (λ (files : KeptFiles). files.store) none);
   }
 
-pub none_above : (next : ℕ) → 1 ≤ next → IsAboveNumbers next none_kept
-none_above next some = record { from_one = some; below = λ n. tt }
+pub none_above : (store : Store) (next : ℕ) → 1 ≤ next → IsAboveNumbers next (none_kept store)
+none_above store next some = record { from_one = some; below = λ n. tt }
 
 pub first_of : (job : FlushJob) (jobs : List FlushJob) → IsWithOne job jobs (job ∷ jobs)
 first_of job jobs = record { before = []; behind = jobs; with_it = refl; without = refl }

@@ -1,16 +1,16 @@
 -- What a core that flushes keeps beside the jobs that are out.
-use Rattle.std.specs.Prelude.{⊤, [], ◌∷◌, List, map, Option, None, Some, Result}
+use Rattle.std.specs.Prelude.{◌≡◌, ⊤, [], ◌∷◌, List, map, Option, None, Some, Result}
 use Rattle.std.specs.FinMap.{empty}
 use Rattle.std.specs.Option.{option_map}
 use Rattle.std.specs.declared.result.Result.TheVariants.{Ok, Err}
 use Rattle.tsdb_base.specs.declared.ids.FileNumber.{FileNumber}
-use Rattle.tsdb_core.specs.Core.{KeepsJobs, files_of}
+use Rattle.tsdb_core.specs.Core.{KeepsJobs, files_of, store_of}
 use Rattle.tsdb_core.specs.Flushes.{IsOut}
 use Rattle.tsdb_core.specs.declared.commit.CoreFault.{CoreFault}
 use Rattle.tsdb_core.specs.declared.engine.Core.{Core}
 use Rattle.tsdb_flush.specs.Jobs.{IsJob}
 use Rattle.tsdb_flush.specs.declared.job.FlushJob.{FlushJob}
-use Rattle.tsdb_fileset.specs.Places.{AreOfStore, AreUnread}
+use Rattle.tsdb_fileset.specs.Places.{AreUnread}
 use Rattle.tsdb_outside.specs.Files.{Store}
 use Rattle.tsdb_outside.specs.declared.disk.Disk as disk
 use Rattle.tsdb_outside.specs.declared.faults.Counted as counted
@@ -26,11 +26,11 @@ flush_of job = record {
 }
 
 module _ {J F S R P : Type 0} {means : disk.Ghosts J} {counts : counted.Ghosts J} where
-  -- The core keeps what these jobs need. Its files are of the store, and no right to read one is out.
+  -- The core keeps what these jobs need. It is of the store, and no right to read a file is out.
   pub record IsReady (store : Store) (core : Core J F S R P means counts) (jobs : List FlushJob) : Type 0 where
     pub keeps : KeepsJobs core (map flush_of jobs) []
     pub unread : AreUnread (files_of core).places
-    pub of_store : AreOfStore store (files_of core).places
+    pub of_store : store ≡ store_of core
 
   -- one more job is out, where one was taken
   abbrev pub IsReadyWith : Store → Core J F S R P means counts → List FlushJob → Result (Option FlushJob) CoreFault

@@ -2,6 +2,7 @@
 ghost use Rattle.std.specs.Prelude.{[], ◌≤◌, List};
 ghost use Rattle.core_tests.specs.Ready.{IsReady, IsReadyWith, IsTakenOut};
 ghost use Rattle.tsdb_tasks.specs.Files.{AreDone, new_files};
+ghost use Rattle.tsdb_core.specs.Core.{store_of};
 ghost use Rattle.tsdb_core.specs.Flushes.{HasEndedFlush, IsOut};
 ghost use Rattle.tsdb_core.specs.Limits.{IsPairLimit};
 ghost use Rattle.tsdb_core.specs.declared.commit.Commit.{Commit as HowEnded};
@@ -38,7 +39,7 @@ pub fn end<J: Journal, F: Files>(
     commits: bool,
 ) -> Option<Commit>
     requires out { IsOut core.old job }
-    requires done { AreDone F.Sealed.file F.Sealed.rights job files }
+    requires done { AreDone F.Sealed.file F.Sealed.rights (store_of core.old) job files }
     ensures { (commit : HowEnded) × HasEndedFlush core.old core.new job (new_files F.Sealed.file files) commit }
 {
     if commits {
@@ -71,18 +72,19 @@ pub fn freeze<J: Journal, F: Files>(core: &mut Core<J, F>) -> Option<Answer>
     None
 }
 
-/// A core over a log and memory that are new, the next file of which gets this number.
+/// A core of the store of these files over a log and memory that are new, the next file of which gets this number.
 pub fn new_core<J: Journal, F: Files>(
     alloc: Global,
     logged: LoggedMemory<J>,
+    files: &F,
     pair_points: u64,
     next: u64,
 ) -> Core<J, F>
     requires limit { IsPairLimit pair_points }
     requires next { 1 ≤ next }
-    ensures { (store : Store) → IsReady store result [] }
+    ensures { IsReady (F.store files.now) result [] }
 {
-    let kept = KeptFiles::new(alloc);
+    let kept = KeptFiles::new(alloc, files);
     Core::new(
         alloc,
         logged,

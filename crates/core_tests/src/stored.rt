@@ -3,6 +3,7 @@
 ghost use Rattle.std.specs.Prelude.{◌≡◌, [], ◌∷◌, List, IfOk, IfSome};
 ghost use Rattle.std.proofs.Props.{props};
 ghost use Rattle.core_tests.specs.Ready.{IsReady};
+ghost use Rattle.tsdb_core.specs.Core.{store_of};
 ghost use Rattle.tsdb_core.specs.Flushes.{IsOut};
 ghost use Rattle.tsdb_flush.specs.Jobs.{IsJob};
 ghost use Rattle.tsdb_flush.specs.declared.job.FlushJob.{FlushJob as JobOf};
@@ -103,6 +104,7 @@ fn run<J: Journal, F: Files>(
 ) -> Option<Commit>
     requires is_job { IsJob job }
     requires out { IsOut core.old job }
+    requires port { F.Port.store port.old ≡ store_of core.old }
     ensures ready { (others jobs : List JobOf) → IsWithOne job others jobs
         → IsReady (F.Port.store port.old) core.old jobs → IsReady (F.Port.store port.old) core.new others }
     ensures same_store { F.Port.store port.new ≡ F.Port.store port.old }
@@ -324,7 +326,7 @@ pub fn open_stored(
         return Err(Fail::from("a log"));
     };
     let logged = LoggedMemory::new(alloc, frames, MemoryStore::new(alloc));
-    let core = new_core(alloc, logged, pair_points, next);
+    let core = new_core(alloc, logged, &files, pair_points, next);
     Ok(Stored { core, port, files })
 }
 

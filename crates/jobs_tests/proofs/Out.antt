@@ -1,47 +1,39 @@
 -- What each call of a core hands on of the rights that are out.
-use Rattle.std.proofs.Common.{◌≡◌, ◌∙◌, ◌⊎◌, List, [], ◌++◌, Option, None, Some, Result, Ok, Err, inl, inr}
+use Rattle.std.proofs.Common.{◌≡◌, ◌∙◌, List, [], Option, None, Some, Result, Ok, Err}
 use Rattle.std.proofs.Common.{ap, false, sym, subst}
 use Rattle.std.specs.List.{AllByRecursion as Each}
-use Rattle.std.specs.Option.{option_map}
 use Rattle.std.specs.Prelude.{ℕ, ◌≤◌, IfSome}
 use Rattle.jobs_tests.specs.Begins.{BeginsOrNot}
 use Rattle.jobs_tests.specs.Out.{AreHandedOn, BeginsJob, EndsFlush, EndsJob, EndsPin, HasFlush, HasJob, HasPin, IsHandedOn, IsKept}
 use Rattle.jobs_tests.specs.Out.{TakesFlush, TakesPin}
-use Rattle.tsdb_base.specs.declared.ids.FileNumber.{FileNumber}
 use Rattle.tsdb_base.specs.declared.ids.Space.{Space}
-use Rattle.tsdb_tasks.specs.Files.{NewFile, file_built, new_files}
+use Rattle.tsdb_tasks.specs.Files.{NewFile}
 use Rattle.tsdb_tasks.specs.Ending.{IsOutputNumbered}
 use Rattle.tsdb_tasks.specs.declared.finishing.InputRuns.{InputRuns}
 use Rattle.tsdb_compactions.specs.Outputs.{IsOutputOf}
 use Rattle.tsdb_compactions.specs.declared.job.Input.{Input}
 use Rattle.tsdb_compactions.specs.declared.job.Job.{Job}
 use Rattle.tsdb_core.proofs.LoansOut.{none_lent, nothing_lent}
-use Rattle.tsdb_core.proofs.Out.{first_job, flush_can_end, flush_joins, flush_leaves, job_can_end, job_joins}
+use Rattle.tsdb_core.proofs.Out.{first_job, flush_can_end, flush_joins, job_can_end, job_joins}
 use Rattle.tsdb_core.proofs.Out.{job_leaves, no_flush, no_job, pin_is_held, pin_joins, pin_leaves}
 use Rattle.tsdb_core.proofs.Out.{no_pin as not_pinned}
 use Rattle.tsdb_core.specs.Out.{nothing_out, with_job, with_pin}
 use Rattle.tsdb_core.specs.Beginnings.{IsBegunOrNot}
 use Rattle.tsdb_core.specs.Compactions.{IsHandedOut, IsJobOut}
-use Rattle.tsdb_core.specs.Core.{IsAboveNumbers, KeepsJobs, files_of, is_sequence_claimed}
-use Rattle.tsdb_core.specs.Flushes as flushes
+use Rattle.tsdb_core.specs.Core.{IsAboveNumbers, KeepsJobs, files_of, is_sequence_claimed, store_of}
 use Rattle.tsdb_core.specs.Flushes.{IsOut, IsFlushTakenOrNot, TakesMemory}
 use Rattle.tsdb_core.specs.Loans.{AreUnclaimed, KeepsLoans}
 use Rattle.tsdb_core.specs.Pins.{IsNotPinned, IsPinned, IsUnpinned}
 use Rattle.tsdb_core.specs.Replacements as ends
-use Rattle.tsdb_core.specs.declared.commit.Commit.{Commit}
 use Rattle.tsdb_core.specs.declared.commit.CoreFault.{CoreFault}
 use Rattle.tsdb_core.specs.declared.engine.Core.{Core}
 use Rattle.tsdb_inner.specs.Inputs.{IsInputOf}
-use Rattle.tsdb_flush.specs.BuiltFile.{IsPartDone}
-use Rattle.tsdb_flush.specs.Parts.{Filled}
 use Rattle.tsdb_flush.specs.declared.job.Built.{Built}
-use Rattle.tsdb_flush.specs.declared.job.Flushed.{Flushed}
 use Rattle.tsdb_flush.specs.declared.job.FlushJob.{FlushJob}
 use Rattle.tsdb_fileset.specs.Files.{KeptFiles, kept_file, none_kept}
 use Rattle.tsdb_fileset.specs.Places.{AreOfStore, AreUnread, KeptFile}
 use Rattle.tsdb_fileset.specs.Rights.{IsRightTo}
 use Rattle.tsdb_base.proofs.Lists.{each_weaker}
-use Rattle.tsdb_base.specs.Lists.{if_some}
 use Rattle.tsdb_outside.specs.Files.{NamedFile, Store}
 use Rattle.tsdb_outside.specs.declared.disk.Disk as disk
 use Rattle.tsdb_outside.specs.declared.faults.Counted as counted
@@ -52,46 +44,17 @@ use Rattle.tsdb_pins.specs.Reading.{AreColumnsOf, HaveNodes}
 
 -- ---- files
 
-each_of : (Q : NewFile → Type 0) (a b : Option NewFile) → IfSome a Q → IfSome b Q → Each Q (if_some a ++ if_some b)
-each_of Q None None p q = tt
-each_of Q None (Some b) p q = (q, tt)
-each_of Q (Some a) None p q = (p, tt)
-each_of Q (Some a) (Some b) p q = (p, (q, tt))
-
 -- a right to read a file of the store is to one of the store
 of_right : {R : Type 0} (name : R → NamedFile) (store : Store) (kept : Option KeptFile) (right : R)
     → IsRightTo name kept (Some right) → IfSome kept (λ file. file.name.store ≡ store) → (name right).store ≡ store
 of_right name store None right is of = absurd is
 of_right name store (Some file) right is of = ap (λ (named : NamedFile). named.store) is ∙ of
 
-module _ {F S R P : Type 0} (file : S → NamedFile) where
-  pub new_in : (store : Store) (output : Option (Built F S R P))
-      → IfSome output (λ built. (file built.sealed).store ≡ store)
-      → IfSome (option_map (file_built file) output) (λ one. one.token.name.store ≡ store)
-  new_in store None is = tt
-  new_in store (Some built) is = is
-
 module _ {F S R P : Type 0} (file : S → NamedFile) (name : R → NamedFile) (rights : S → ℕ) (job : Job F S R P) where
   pub numbered : (output : Option (Built F S R P)) → IsOutputOf name file rights job output
       → IfSome output (IsOutputNumbered rights job)
   numbered None is = tt
   numbered (Some built) is = record { number = is.file_is.kept.number_is; unread = is.file_is.unread }
-
-module _ {F S R P : Type 0} (file : S → NamedFile) (rights : S → ℕ) (store : Store) where
-  of_part : (born : ℕ) (part : List Filled) (number : Option FileNumber) (built : Option (Built F S R P))
-      → IsPartDone file rights store born part number built
-      → IfSome (option_map (file_built file) built) (λ one. one.token.name.store ≡ store)
-  of_part born part None None done = tt
-  of_part born part None (Some built) done = absurd done
-  of_part born part (Some number) None done = absurd done
-  of_part born part (Some number) (Some built) done = done.in_store
-
-  of_part_so_far : (born : ℕ) (part : List Filled) (number : Option FileNumber) (built : Option (Built F S R P))
-      → (built ≡ None) ⊎ IsPartDone file rights store born part number built
-      → IfSome (option_map (file_built file) built) (λ one. one.token.name.store ≡ store)
-  of_part_so_far born part number built (inl none) =
-      subst (λ (b : Option (Built F S R P)). IfSome (option_map (file_built file) b) (λ one. one.token.name.store ≡ store)) (sym none) tt
-  of_part_so_far born part number built (inr done) = of_part born part number built done
 
 module _ {J F S R P : Type 0} {means : disk.Ghosts J} {counts : counted.Ghosts J} where
   -- ---- one call and then another
@@ -134,19 +97,6 @@ module _ {J F S R P : Type 0} {means : disk.Ghosts J} {counts : counted.Ghosts J
   pub flush_is_out : (store : Store) (core : Core J F S R P means counts) (job : FlushJob) → HasFlush store core job
       → IsOut core job
   flush_is_out store core job has = flush_can_end core job store has.1 has.2
-
-  pub flush_ended : (file : S → NamedFile) (rights : S → ℕ) (store : Store) (old new : Core J F S R P means counts)
-      (job : FlushJob) (files : Flushed F S R P) (commit : Commit) (first second : List Filled)
-      → flushes.HasEndedFlush old new job (new_files file files) commit
-      → (files.sequence ≡ None) ⊎ IsPartDone file rights store job.born.0 first job.sequence files.sequence
-      → (files.unsequence ≡ None) ⊎ IsPartDone file rights store job.born.0 second job.unsequence files.unsequence
-      → EndsFlush store old new job
-  flush_ended file rights store old new job files commit first second ended sequence unsequence out kept =
-      flush_leaves old new job (new_files file files) commit ended store out
-      (each_of (λ one. one.token.name.store ≡ store)
-      (option_map (file_built file) files.sequence) (option_map (file_built file) files.unsequence)
-      (of_part_so_far file rights store job.born.0 first job.sequence files.sequence sequence)
-      (of_part_so_far file rights store job.born.0 second job.unsequence files.unsequence unsequence)) kept
 
   pub takes_and_ends : (store : Store) (a b c : Core J F S R P means counts) (job : FlushJob) → TakesFlush a b (Some job)
       → EndsFlush store b c job → IsHandedOn store a c
@@ -196,12 +146,12 @@ module _ {J F S R P : Type 0} {means : disk.Ghosts J} {counts : counted.Ghosts J
       pub job_is_out : IsJobOut name core job
       job_is_out = job_can_end name core job store has.1 has.2 has.0 has.3 has.4
 
-      pub inputs_in_store : Each (IsInputOf name store) job.inputs
-      inputs_in_store = each_weaker
+      pub inputs_in_store : AreOfStore (store_of core) (files_of core).places → Each (IsInputOf name store) job.inputs
+      inputs_in_store are = each_weaker
           (λ (input : Input F S R P). IsRightTo name (kept_file input.number.0 (files_of core)) (Some input.right))
           (IsInputOf name store)
-          (λ input held. of_right name store (kept_file input.number.0 (files_of core)) input.right held
-          (has.4.of_store input.number.0)) job.inputs job_is_out.kept.held.held
+          (λ input held. of_right name (store_of core) (kept_file input.number.0 (files_of core)) input.right held
+          (are input.number.0) ∙ sym has.4.of_store) job.inputs job_is_out.kept.held.held
 
       pub kept_beside : IsKept store core
       kept_beside = (has.2, has.4)
@@ -212,10 +162,9 @@ module _ {J F S R P : Type 0} {means : disk.Ghosts J} {counts : counted.Ghosts J
         subst (λ (s : Store). HasJob name s b job) (sym same) (has.0, has.1, has.2, has.3, hands has.2 has.4)
 
     pub job_ended : (store : Store) (old new : Core J F S R P means counts) (job : Job F S R P) (file : Option NewFile)
-        → ends.HasEndedJob old new job file → IsJobOut name old job → IfSome file (λ one. one.token.name.store ≡ store)
-        → EndsJob name store old new job
-    job_ended store old new job file ended is_out in_store others all is kept = job_leaves name old new job file ended
-        store others all handed in_store is kept
+        → ends.HasEndedJob old new job file → IsJobOut name old job → EndsJob name store old new job
+    job_ended store old new job file ended is_out others all is kept = job_leaves name old new job file ended
+        store others all handed is kept
       where
         handed : IsHandedOut job
         handed = record {
@@ -265,8 +214,9 @@ module _ {J F S R P : Type 0} {means : disk.Ghosts J} {counts : counted.Ghosts J
       pub columns_held : AreColumnsHeld name (files_of core) pin.columns
       columns_held = pin_is_held name core pin store has.1 has.2
 
-      pub columns_in_store : AreColumnsOf name store pin.columns
-      columns_in_store = columns_of name (files_of core) store has.2.of_store pin.columns columns_held
+      pub columns_in_store : AreOfStore (store_of core) (files_of core).places → AreColumnsOf name store pin.columns
+      columns_in_store are = columns_of name (files_of core) store
+          (subst (λ s. AreOfStore s (files_of core).places) (sym has.2.of_store) are) pin.columns columns_held
 
       pub kept_under : IsKept store core
       kept_under = (with_pin name pin has.1, has.2)
@@ -291,11 +241,12 @@ module _ {J F S R P : Type 0} {means : disk.Ghosts J} {counts : counted.Ghosts J
 
   -- ---- a new core
 
-  pub new_store : (core : Core J F S R P means counts) (store : Store) → files_of core ≡ none_kept
-      → AreOfStore store (files_of core).places
-  new_store core store none = subst (λ (files : KeptFiles). AreOfStore store files.places) (sym none) (λ n. tt)
+  pub new_store : (core : Core J F S R P means counts) (store : Store) → files_of core ≡ none_kept store
+      → store ≡ store_of core
+  new_store core store none = sym (ap (λ (files : KeptFiles). files.store) none)
 
-  pub new_loans : (core : Core J F S R P means counts) → KeepsJobs core [] [] → files_of core ≡ none_kept
+  pub new_loans : {store : Store} (core : Core J F S R P means counts) → KeepsJobs core [] []
+      → files_of core ≡ none_kept store
       → is_sequence_claimed core ≡ false → KeepsLoans core [] [] []
   new_loans core jobs none free = nothing_lent core [] jobs
       (subst (λ (files : KeptFiles). AreUnread files.places) (sym none) (λ n. tt))
@@ -305,19 +256,18 @@ module _ {J F S R P : Type 0} {means : disk.Ghosts J} {counts : counted.Ghosts J
       })
 
   pub new_kept : (core : Core J F S R P means counts) (store : Store) → KeepsLoans core [] [] []
-      → AreOfStore store (files_of core).places → IsKept store core
+      → store ≡ store_of core → IsKept store core
   new_kept core store loans of_store = (nothing_out, record { loans = loans; of_store = of_store })
 
   pub unread : (store : Store) (old new : Core J F S R P means counts) → IsHandedOn store old new
-      → KeepsLoans old [] [] [] → AreOfStore store (files_of old).places → AreUnread (files_of new).places
+      → KeepsLoans old [] [] [] → store ≡ store_of old → AreUnread (files_of new).places
   unread store old new hands loans of_store =
       none_lent new [] [] (hands nothing_out (record { loans = loans; of_store = of_store })).loans
 
   pub stays_in : (store other : Store) (old new : Core J F S R P means counts) → other ≡ store → IsHandedOn store old new
-      → KeepsLoans old [] [] [] → AreOfStore store (files_of old).places → AreOfStore other (files_of new).places
+      → KeepsLoans old [] [] [] → store ≡ store_of old → other ≡ store_of new
   stays_in store other old new same hands loans of_store =
-      subst (λ (s : Store). AreOfStore s (files_of new).places) (sym same)
-      (hands nothing_out (record { loans = loans; of_store = of_store })).of_store
+      same ∙ (hands nothing_out (record { loans = loans; of_store = of_store })).of_store
 
-pub none_above : (next : ℕ) → 1 ≤ next → IsAboveNumbers next none_kept
-none_above next from = record { from_one = from; below = λ n. tt }
+pub none_above : (store : Store) (next : ℕ) → 1 ≤ next → IsAboveNumbers next (none_kept store)
+none_above store next from = record { from_one = from; below = λ n. tt }

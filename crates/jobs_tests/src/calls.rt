@@ -2,6 +2,7 @@
 ghost use Rattle.jobs_tests.specs.Out.{AreHandedOn, EndsFlush, HasFlush, IsHandedOn, IsKept, TakesFlush};
 ghost use Rattle.std.specs.Prelude.{◌≡◌, IfSome};
 ghost use Rattle.tsdb_tasks.specs.Files.{AreDone, new_files};
+ghost use Rattle.tsdb_core.specs.Core.{store_of};
 ghost use Rattle.tsdb_core.specs.Flushes as flushes;
 ghost use Rattle.tsdb_model.specs.Commands.{IsWellFormed};
 
@@ -51,7 +52,7 @@ fn take<J: Journal, F: Files>(core: &mut Core<J, F>) -> Option<FlushJob>
 /// Commits the files of a flush.
 fn commit<J: Journal, F: Files>(core: &mut Core<J, F>, job: FlushJob, files: Flushed<F>) -> Commit
     requires out { flushes.IsOut core.old job }
-    requires done { AreDone F.Sealed.file F.Sealed.rights job files }
+    requires done { AreDone F.Sealed.file F.Sealed.rights (store_of core.old) job files }
     ensures { flushes.HasEndedFlush core.old core.new job (new_files F.Sealed.file files) result }
 {
     core.commit_flush(job, files)

@@ -4,9 +4,8 @@ ghost use Rattle.jobs_tests.specs.Out.{AreHandedOn, EndsJob, EndsPin, HasJob, Ha
 ghost use Rattle.std.specs.Prelude.{◌≡◌, [], ◌≤◌, IfSome};
 ghost use Rattle.tsdb_compactions.specs.Outputs.{IsOutputOf};
 ghost use Rattle.tsdb_core.specs.Compactions.{IsJobOut};
-ghost use Rattle.tsdb_core.specs.Core.{files_of};
+ghost use Rattle.tsdb_core.specs.Core.{store_of};
 ghost use Rattle.tsdb_core.specs.Loans.{KeepsLoans};
-ghost use Rattle.tsdb_fileset.specs.Places.{AreOfStore};
 ghost use Rattle.tsdb_model.specs.Commands.{IsWellFormed};
 ghost use Rattle.tsdb_outside.specs.Files.{Store};
 
@@ -81,8 +80,8 @@ fn end<J: Journal, F: Files>(
 ) -> Option<Result<(), Failed>>
     requires out { IsJobOut F.Right.file core.old job }
     requires output { IsOutputOf F.Right.file F.Sealed.file F.Sealed.rights job output }
-    ensures { (store : Store) → IfSome output (λ built. (F.Sealed.file built.sealed).store ≡ store)
-        → EndsJob F.Right.file store core.old core.new job }
+    requires store { IfSome output (λ built. (F.Sealed.file built.sealed).store ≡ store_of core.old) }
+    ensures { (store : Store) → EndsJob F.Right.file store core.old core.new job }
 {
     if commits {
         return Some(commit(core, job, output));
@@ -103,6 +102,7 @@ fn rewrite<J: Journal, F: Files>(
     ensures ends { EndsJob F.Right.file (F.Port.store port.old) core.old core.new job }
     ensures same_store { F.Port.store port.new ≡ F.Port.store port.old }
 {
+    core.sound();
     match run_job::<F>(alloc, kind, &job, port) {
         Ok(output) => commit(core, job, output).is_ok(),
         Err(_) => {
@@ -221,6 +221,7 @@ fn write<J: Journal, F: Files>(
     ensures ends { EndsJob F.Right.file (F.Port.store port.old) core.old core.new job }
     ensures same_store { F.Port.store port.new ≡ F.Port.store port.old }
 {
+    core.sound();
     match run_job::<F>(alloc, course.kind, &job, port) {
         Ok(output) => {
             let points = Some(points_of(&output));
@@ -311,6 +312,7 @@ fn under_pin<J: Journal, F: Files>(
     ensures same_store { F.Port.store port.new ≡ F.Port.store port.old }
 {
     let taken = take_course::<J, F>(alloc, core, port, course);
+    core.sound();
     let rows = read::<F>(alloc, port, &pin, course.times);
     unpin(core, pin);
     taken.map(|(compacted, swept)| UnderPin {
@@ -352,6 +354,7 @@ fn look<J: Journal, F: Files>(
 {
     match pin(core, command) {
         Some(pin) => {
+            core.sound();
             let rows = read::<F>(alloc, port, &pin, times);
             unpin(core, pin);
             rows
@@ -457,13 +460,18 @@ fn first_other<J: Journal, F: Files>(
     Ok(None)
 }
 
-/// A core over a log and memory that are new, the next file of which gets this number.
-fn new_core<J: Journal, F: Files>(alloc: Global, logged: LoggedMemory<J>, next: u64) -> Core<J, F>
+/// A core of the store of these files over a log and memory that are new, the next file of which gets this number.
+fn new_core<J: Journal, F: Files>(
+    alloc: Global,
+    logged: LoggedMemory<J>,
+    files: &F,
+    next: u64,
+) -> Core<J, F>
     requires { 1 ≤ next }
     ensures loans { KeepsLoans result [] [] [] }
-    ensures of_store { (store : Store) → AreOfStore store (files_of result).places }
+    ensures of_store { F.store files.now ≡ store_of result }
 {
-    let kept = KeptFiles::new(alloc);
+    let kept = KeptFiles::new(alloc, files);
     let options = Options { pair_points: 2 };
     Core::new(alloc, logged, kept, options, FileNumber(next))
 }
@@ -481,7 +489,7 @@ fn lead<J: Journal, F: Files>(
     requires same { F.store files.old ≡ F.Port.store port.old }
     ensures { F.store files.new ≡ F.Port.store port.new }
 {
-    let mut core = new_core::<J, F>(alloc, logged, next);
+    let mut core = new_core::<J, F>(alloc, logged, files, next);
     let other = first_other::<J, F>(alloc, &mut core, port, cases);
     (other, core.close(files))
 }

@@ -8,6 +8,7 @@ ghost use Rattle.tsdb_tasks.specs.Ending.{IsOutputNumbered};
 ghost use Rattle.tsdb_compactions.specs.Jobs.{IsJobFormed};
 ghost use Rattle.tsdb_compactions.specs.Outputs.{IsOutputOf};
 ghost use Rattle.tsdb_core.specs.Compactions.{IsJobOut};
+ghost use Rattle.tsdb_core.specs.Core.{store_of};
 ghost use Rattle.tsdb_inner.specs.Inputs.{IsInputOf};
 ghost use Rattle.tsdb_outside.specs.Files.{Store};
 ghost use Rattle.tsdb_pins.specs.Reading.{AreColumnsOf, HaveNodes};
@@ -115,8 +116,8 @@ pub fn commit<J: Journal, F: Files>(
 ) -> Result<(), Failed>
     requires out { IsJobOut F.Right.file core.old job }
     requires output { IsOutputOf F.Right.file F.Sealed.file F.Sealed.rights job output }
-    ensures { (store : Store) → IfSome output (λ built. (F.Sealed.file built.sealed).store ≡ store)
-        → EndsJob F.Right.file store core.old core.new job }
+    requires store { IfSome output (λ built. (F.Sealed.file built.sealed).store ≡ store_of core.old) }
+    ensures { (store : Store) → EndsJob F.Right.file store core.old core.new job }
 {
     if job.is_cross() {
         core.commit_cross(job, output)
@@ -129,8 +130,8 @@ pub fn commit<J: Journal, F: Files>(
 pub fn give_up<J: Journal, F: Files>(core: &mut Core<J, F>, job: Job<F>, output: Option<Built<F>>)
     requires out { IsJobOut F.Right.file core.old job }
     requires output { IfSome output (IsOutputNumbered F.Sealed.rights job) }
-    ensures { (store : Store) → IfSome output (λ built. (F.Sealed.file built.sealed).store ≡ store)
-        → EndsJob F.Right.file store core.old core.new job }
+    requires store { IfSome output (λ built. (F.Sealed.file built.sealed).store ≡ store_of core.old) }
+    ensures { (store : Store) → EndsJob F.Right.file store core.old core.new job }
 {
     core.abandon(job, output);
 }

@@ -68,18 +68,19 @@ impl Served<MemJournal, MemFiles> {
     }
 }
 
-/// A core over a log and memory that are new, the next file of which gets this number.
+/// A core of the store of these files over a log and memory that are new, the next file of which gets this number.
 fn new_core<J: Journal, F: Files>(
     alloc: Global,
     logged: LoggedMemory<J>,
+    files: &F,
     pair_points: u64,
     next: u64,
 ) -> Core<J, F>
     requires limit { IsPairLimit pair_points }
     requires next { 1 ≤ next }
-    ensures { (store : Store) → IsReady store result }
+    ensures { IsReady (F.store files.now) result }
 {
-    let kept = KeptFiles::new(alloc);
+    let kept = KeptFiles::new(alloc, files);
     Core::new(
         alloc,
         logged,
@@ -106,7 +107,7 @@ pub fn open(
         return Err(Fail::from("a log"));
     };
     let logged = LoggedMemory::new(alloc, frames, MemoryStore::new(alloc));
-    let core = new_core(alloc, logged, pair_points, next);
+    let core = new_core(alloc, logged, &files, pair_points, next);
     Ok(Served { core, port, files })
 }
 

@@ -40,7 +40,6 @@ use Rattle.tsdb_core.specs.declared.engine.Core.{Core}
 use Rattle.tsdb_fileset.specs.StateOfFiles.{AreFilesOf, listed}
 use Rattle.tsdb_state.proofs.ImageLemmas.Storing.{begin_stored}
 use Rattle.tsdb_fileset.specs.Files.{AreKept, KeptFiles, kept_file}
-use Rattle.tsdb_fileset.specs.Places.{KeptFile}
 use Rattle.tsdb_fileset.specs.Replacing.{IsWithin, claim_run, run_length}
 use Rattle.tsdb_base.proofs.Lists.{each_weaker}
 use Rattle.tsdb_base.specs.Lists.{Among, count}
@@ -49,7 +48,7 @@ use Rattle.tsdb_memory.specs.LogState.{IsSoundLogged, Outside, memory_of, framed
 use Rattle.tsdb_memory.specs.declared.logged_memory.LoggedMemory.{LoggedMemory}
 use Rattle.tsdb_marks.specs.Lists.{is_of}
 use Rattle.tsdb_model.specs.declared.command.Schema.{Schema}
-use Rattle.tsdb_outside.specs.Files.{NamedFile, Store}
+use Rattle.tsdb_outside.specs.Files.{NamedFile}
 use Rattle.tsdb_outside.specs.declared.disk.Disk as disk
 use Rattle.tsdb_outside.specs.declared.faults.Counted as counted
 use Rattle.tsdb_tasks.specs.Changes.{more_rights}
@@ -379,11 +378,6 @@ module _ {J F S R P : Type 0} {means : disk.Ghosts J} {counts : counted.Ghosts J
           × IsSeen new outside (began made engine)
       step = (compaction, compaction_is, begins, shows)
 
-    names_stay : (store : Store) (k : ℕ) (o : Option KeptFile) → IfSome o (λ file. file.name.store ≡ store)
-        → IfSome (option_map (more_rights k) o) (λ file. file.name.store ≡ store)
-    names_stay store k None same = tt
-    names_stay store k (Some file) same = same
-
     -- the marks and the schemas of its series, memory had before
     of_before : AreSeriesOfJob (run_paths runs old.files) (memory_of old.logged) series
     of_before = record {
@@ -419,8 +413,7 @@ module _ {J F S R P : Type 0} {means : disk.Ghosts J} {counts : counted.Ghosts J
             fit.unsequence;
         logged = prepared;
         limit = refl;
-        store = λ store all n. subst (λ o. IfSome o (λ file. file.name.store ≡ store)) (sym (has_found n))
-            (names_stay store (rights n) (kept_file n old.files) (all n));
+        store = ap (λ (kept : KeptFiles). kept.store) begun.claimed ∙ begun.all.more.lists.store;
       };
       rights = has_found;
       jobs = jobs;

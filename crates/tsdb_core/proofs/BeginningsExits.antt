@@ -78,7 +78,7 @@ module _ {J F S R P : Type 0} {means : disk.Ghosts J} {counts : counted.Ghosts J
   pub memory_taken : (old : Core J F S R P means counts) (logged : LoggedMemory J means counts) → IsPrepared old.logged logged
       → IsNotBegun old (record old { logged = logged })
   memory_taken old logged prepared = not_begun old logged old.files prepared
-      (record { sequence = refl; unsequence = refl; outgoing = refl })
+      (record { store = refl; sequence = refl; unsequence = refl; outgoing = refl })
       (record { files = λ n. refl; places = λ n is. is }) refl
 
   pub nothing_begun : (core : Core J F S R P means counts) → IsNotBegun core core

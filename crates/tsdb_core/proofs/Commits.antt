@@ -8,7 +8,7 @@ use Rattle.tsdb_base.specs.declared.answers.Answer.TheVariants as answer
 use Rattle.tsdb_base.specs.declared.ids.FileNumber.{FileNumber}
 use Rattle.tsdb_base.specs.declared.ids.Space.TheVariants.{Sequence, Unsequence}
 use Rattle.tsdb_base.specs.declared.ids.Stamp.{Stamp}
-use Rattle.tsdb_tasks.proofs.Coming.{of_store, sent_out, stand_last, tell_on}
+use Rattle.tsdb_tasks.proofs.Coming.{sent_out, stand_last, tell_on}
 use Rattle.tsdb_tasks.proofs.Committing.{all_there, can_commit, drawn_from_one, ended_stored, least_after}
 use Rattle.tsdb_tasks.proofs.Stored.{stored_with, worlds_with}
 use Rattle.tsdb_tasks.specs.Coming.{AreSentOut, HaveCome, StandLast}
@@ -154,7 +154,7 @@ module _ {J F S R P : Type 0} {means : disk.Ghosts J} {counts : counted.Ghosts J
       lists = both_lists commit job.sequence job.unsequence files.sequence files.unsequence core.files mid new first
           second;
       come = come;
-      of_store = λ store all these. of_store (drawn_for job) files core.files new come store all these;
+      store = second.store ∙ first.store;
       jobs = λ flush others flushes compactions has is_out keeps. others_kept core job flush others flushes compactions
           has
           is_out keeps files new come drawn (second.room ∙ ap (less_if Unsequence job.unsequence) first.room);
@@ -405,7 +405,7 @@ module _ {J F S R P : Type 0} {means : disk.Ghosts J} {counts : counted.Ghosts J
   ends_both old logged kept job files commit more ends = record {
     lists = ends.lists;
     come = ends.come;
-    of_store = ends.of_store;
+    store = ends.store;
     jobs = λ flush others flushes compactions has out keeps. ends.jobs flush others flushes compactions has out
         (jobs_stay old logged more flushes compactions keeps);
     loans = λ flush others flushes compactions lent has out keeps. ends.loans flush others flushes compactions lent has

@@ -1,7 +1,5 @@
 -- What each call of a core makes of what is out, and of what it keeps for it.
-use Rattle.std.proofs.Common.{◌≡◌, ℕ, List, [], ◌∷◌, Option, Result, Ok, Err, inl, ap, refl, sym, subst}
-use Rattle.std.specs.List.{AllByRecursion as Each}
-use Rattle.std.specs.Prelude.{IfSome}
+use Rattle.std.proofs.Common.{◌≡◌, ◌∙◌, ℕ, List, [], ◌∷◌, Option, Result, Ok, Err, inl, ap, refl, sym, subst}
 use Rattle.tsdb_base.proofs.Lists.{among_right}
 use Rattle.tsdb_base.specs.Lists.{Among, IsWithOne}
 use Rattle.tsdb_core.proofs.Loans.{on_columns}
@@ -10,7 +8,7 @@ use Rattle.tsdb_core.proofs.LoansOut.{flush_out, is_compaction, job_out, none_le
 use Rattle.tsdb_core.specs.Beginnings.{IsBegun, IsNotBegun}
 use Rattle.tsdb_core.specs.Commands.{KeepsFiles}
 use Rattle.tsdb_core.specs.Compactions.{IsHandedOut, IsJobKept, IsJobOut, job_rights}
-use Rattle.tsdb_core.specs.Core.{KeepsJobs, files_of}
+use Rattle.tsdb_core.specs.Core.{KeepsJobs, files_of, store_of}
 use Rattle.tsdb_core.specs.Flushes.{HasEndedFlush, HasNumbersOf, IsNotTaken, IsOut, IsFlushTaken, TakesMemory}
 use Rattle.tsdb_core.specs.Loans.{IsNothingClaimed, KeepsLoans}
 use Rattle.tsdb_core.specs.Out.{HandsOn, IsWithJob, KeepsOut, Loans, compaction_of, flush_of, nothing_out, with_flush}
@@ -20,15 +18,14 @@ use Rattle.tsdb_core.specs.Replacements.{HasEndedJob}
 use Rattle.tsdb_core.specs.Sweeps.{IsSwept}
 use Rattle.tsdb_core.specs.declared.commit.Commit.{Commit}
 use Rattle.tsdb_core.specs.declared.engine.Core.{Core}
-use Rattle.tsdb_fileset.proofs.Taken.{still_all}
 use Rattle.tsdb_fileset.specs.Files.{KeptFiles}
 use Rattle.tsdb_fileset.specs.FlushJob.{FlushJob}
-use Rattle.tsdb_fileset.specs.Places.{AllFiles, AreOfStore, AreUnread, KeptFile, OnlyMakesPlaces, Places}
+use Rattle.tsdb_fileset.specs.Places.{AreUnread}
 use Rattle.tsdb_outside.specs.Files.{NamedFile, Store}
 use Rattle.tsdb_outside.specs.declared.disk.Disk as disk
 use Rattle.tsdb_outside.specs.declared.faults.Counted as counted
 use Rattle.tsdb_outside.specs.declared.faults.Failed.{Failed}
-use Rattle.tsdb_tasks.specs.Files.{NewFile, NewFiles, all_of}
+use Rattle.tsdb_tasks.specs.Files.{NewFile, NewFiles}
 use Rattle.tsdb_tasks.specs.Job.{Job}
 use Rattle.tsdb_tasks.specs.Pin.{Pin}
 use Rattle.tsdb_tasks.specs.Pins.{AreColumnsHeld}
@@ -73,14 +70,11 @@ module _ {F S R P : Type 0} (name : R → NamedFile) where
     lent = behind_one (job_rights name job) (job_rights name second) others.lent all.lent is.lent;
   }
 
-still_made : (Q : KeptFile → Type 0) (old new : Places) → OnlyMakesPlaces old new → AllFiles Q old → AllFiles Q new
-still_made Q old new made all n = subst (λ found. IfSome found Q) (sym (made.files n)) (all n)
-
 module _ {J F S R P : Type 0} {means : disk.Ghosts J} {counts : counted.Ghosts J} where
   -- ---- nothing is out
 
   pub none_out : (core : Core J F S R P means counts) (store : Store) → KeepsJobs core [] []
-      → AreUnread (files_of core).places → IsNothingClaimed core → AreOfStore store (files_of core).places
+      → AreUnread (files_of core).places → IsNothingClaimed core → store ≡ store_of core
       → KeepsOut store nothing_out core
   none_out core store jobs unread none of_store =
       record { loans = nothing_lent core [] jobs unread none; of_store = of_store }
@@ -94,44 +88,36 @@ module _ {J F S R P : Type 0} {means : disk.Ghosts J} {counts : counted.Ghosts J
   pub files_handed : (old new : Core J F S R P means counts) → KeepsFiles old new → HandsOn old new
   files_handed old new keeps store out kept = record {
     loans = keeps.loans out.flushes out.compactions out.lent kept.loans;
-    of_store = subst (λ (files : KeptFiles). AreOfStore store files.places) (sym keeps.files) kept.of_store;
+    of_store = kept.of_store ∙ sym (ap (λ (files : KeptFiles). files.store) keeps.files);
   }
 
   pub swept_handed : (old new : Core J F S R P means counts) (result : Result ℕ Failed) → IsSwept old new result
       → HandsOn old new
   swept_handed old new (Ok count) swept store out kept = record {
     loans = swept.all.loans out.flushes out.compactions out.lent kept.loans;
-    of_store = still_all (λ file. file.name.store ≡ store) _ (files_of old).places (files_of new).places
-        swept.all.left.places kept.of_store;
+    of_store = kept.of_store ∙ sym swept.all.left.store;
   }
   swept_handed old new (Err failed) swept store out kept = record {
     loans = swept.stopped.1.loans out.flushes out.compactions out.lent kept.loans;
-    of_store = still_all (λ file. file.name.store ≡ store) _ (files_of old).places (files_of new).places
-        swept.stopped.1.left.places kept.of_store;
+    of_store = kept.of_store ∙ sym swept.stopped.1.left.store;
   }
-
-  takes_store : (old new : Core J F S R P means counts) → TakesMemory old new → (store : Store)
-      → AreOfStore store (files_of old).places → AreOfStore store (files_of new).places
-  takes_store old new takes store of =
-      still_made (λ file. file.name.store ≡ store) (files_of old).places (files_of new).places takes.places of
 
   pub no_flush : (old new : Core J F S R P means counts) → TakesMemory old new → IsNotTaken old new → HandsOn old new
   no_flush old new takes not store out kept = record {
     loans = not.loans out.flushes out.compactions out.lent kept.loans;
-    of_store = takes_store old new takes store kept.of_store;
+    of_store = kept.of_store ∙ sym takes.lists.store;
   }
 
   pub no_job : (old new : Core J F S R P means counts) → IsNotBegun old new → HandsOn old new
   no_job old new not store out kept = record {
     loans = not.same.loans out.flushes out.compactions out.lent kept.loans;
-    of_store = still_made (λ file. file.name.store ≡ store) (files_of old).places (files_of new).places not.places
-        kept.of_store;
+    of_store = kept.of_store ∙ sym not.lists.store;
   }
 
   pub no_pin : (old new : Core J F S R P means counts) → IsNotPinned old new → HandsOn old new
   no_pin old new not store out kept = record {
     loans = not.loans out.flushes out.compactions out.lent kept.loans;
-    of_store = not.rest.store store kept.of_store;
+    of_store = kept.of_store ∙ sym not.rest.store;
   }
 
   -- ---- flushes
@@ -140,7 +126,7 @@ module _ {J F S R P : Type 0} {means : disk.Ghosts J} {counts : counted.Ghosts J
       → (store : Store) (out : Loans) → KeepsOut store out old → KeepsOut store (with_flush job out) new
   flush_joins old new job takes taken store out kept = record {
     loans = taken.loans (flush_of job) out.flushes out.compactions out.lent (has_numbers job) kept.loans;
-    of_store = takes_store old new takes store kept.of_store;
+    of_store = kept.of_store ∙ sym takes.lists.store;
   }
 
   pub flush_can_end : (core : Core J F S R P means counts) (job : FlushJob) (store : Store) (out : Loans)
@@ -149,13 +135,12 @@ module _ {J F S R P : Type 0} {means : disk.Ghosts J} {counts : counted.Ghosts J
       out.compactions out.lent (has_numbers job) (first_one (flush_of job) out.flushes) kept.loans
 
   pub flush_leaves : (old new : Core J F S R P means counts) (job : FlushJob) (files : NewFiles) (commit : Commit)
-      → HasEndedFlush old new job files commit → (store : Store) (out : Loans)
-      → Each (λ file. file.token.name.store ≡ store) (all_of files) → KeepsOut store (with_flush job out) old
+      → HasEndedFlush old new job files commit → (store : Store) (out : Loans) → KeepsOut store (with_flush job out) old
       → KeepsOut store out new
-  flush_leaves old new job files commit ended store out in_store kept = record {
+  flush_leaves old new job files commit ended store out kept = record {
     loans = ended.loans (flush_of job) out.flushes (flush_of job ∷ out.flushes) out.compactions out.lent
         (has_numbers job) (first_one (flush_of job) out.flushes) kept.loans;
-    of_store = ended.of_store store kept.of_store in_store;
+    of_store = kept.of_store ∙ sym ended.store;
   }
 
   module _ (name : R → NamedFile) where
@@ -173,7 +158,7 @@ module _ {J F S R P : Type 0} {means : disk.Ghosts J} {counts : counted.Ghosts J
           record {
             loans = begun.loans (compaction_of job) out.flushes out.compactions out.lent (is_compaction job handed)
                 kept.loans;
-            of_store = begun.lists.store store kept.of_store;
+            of_store = kept.of_store ∙ sym begun.lists.store;
           },
         )
 
@@ -185,13 +170,12 @@ module _ {J F S R P : Type 0} {means : disk.Ghosts J} {counts : counted.Ghosts J
 
     pub job_leaves : (old new : Core J F S R P means counts) (job : Job F S R P) (file : Option NewFile)
         → HasEndedJob old new job file → (store : Store) (others all : Loans) → IsHandedOut job
-        → IfSome file (λ one. one.token.name.store ≡ store) → IsWithJob name job others all → KeepsOut store all old
-        → KeepsOut store others new
-    job_leaves old new job file ended store others all handed in_store is kept = record {
+        → IsWithJob name job others all → KeepsOut store all old → KeepsOut store others new
+    job_leaves old new job file ended store others all handed is kept = record {
       loans = ended.loans (compaction_of job) others.compactions all.compactions others.flushes
           (job_rights name job) others.lent all.lent (is_compaction job handed) is.compactions (on_inputs name job)
           is.lent (subst (λ them. KeepsLoans old them all.compactions all.lent) is.flushes kept.loans);
-      of_store = ended.of_store store kept.of_store in_store;
+      of_store = kept.of_store ∙ sym ended.store;
     }
 
     -- ---- pins
@@ -200,7 +184,7 @@ module _ {J F S R P : Type 0} {means : disk.Ghosts J} {counts : counted.Ghosts J
         → (store : Store) (out : Loans) → KeepsOut store out old → KeepsOut store (with_pin name pin out) new
     pin_joins old new pin pinned store out kept = record {
       loans = pinned.loans out.flushes out.compactions out.lent kept.loans;
-      of_store = pinned.rest.store store kept.of_store;
+      of_store = kept.of_store ∙ sym pinned.rest.store;
     }
 
     pub pin_is_held : (core : Core J F S R P means counts) (pin : Pin F S R P) (store : Store) (out : Loans)
@@ -213,5 +197,5 @@ module _ {J F S R P : Type 0} {means : disk.Ghosts J} {counts : counted.Ghosts J
     pin_leaves old new pin unpinned store out kept = record {
       loans = unpinned.loans out.flushes out.compactions (pin_rights name pin) out.lent (pin_rights name pin ∷ out.lent)
           (on_columns name pin) (first_one (pin_rights name pin) out.lent) kept.loans;
-      of_store = unpinned.rest.store store kept.of_store;
+      of_store = kept.of_store ∙ sym unpinned.rest.store;
     }

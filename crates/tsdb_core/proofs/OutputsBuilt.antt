@@ -82,6 +82,21 @@ module _ {F S R P : Type 0} (file : S → NamedFile) (rights : S → ℕ) where
         subst (λ (b : Option (Built F S R P)). IfSome b (IsNumberedOutput rights number)) (sym none) tt
     numbered number built (inr done) = numbered_done number built done
 
+    -- the file of a part is in the store
+    in_store_done : (number : Option FileNumber) (built : Option (Built F S R P))
+        → IsPartDone file rights store born part number built → IfSome built (λ one. (file one.sealed).store ≡ store)
+    in_store_done None None done = tt
+    in_store_done None (Some built) done = absurd done
+    in_store_done (Some number) None done = absurd done
+    in_store_done (Some number) (Some built) done = done.in_store
+
+    in_store : (number : Option FileNumber) (built : Option (Built F S R P))
+        → (built ≡ None) ⊎ IsPartDone file rights store born part number built
+        → IfSome built (λ one. (file one.sealed).store ≡ store)
+    in_store number built (inl none) =
+        subst (λ (b : Option (Built F S R P)). IfSome b (λ one. (file one.sealed).store ≡ store)) (sym none) tt
+    in_store number built (inr done) = in_store_done number built done
+
   -- no job has claimed the file of a part
   fresh_part : (store : Store) (born : ℕ) (part : List Filled) (number : Option FileNumber)
       (built : Option (Built F S R P)) → (built ≡ None) ⊎ IsPartDone file rights store born part number built
@@ -100,45 +115,52 @@ module _ {F S R P : Type 0} (file : S → NamedFile) (rights : S → ℕ) where
 
   -- ---- both parts
 
-  module _ (job : FlushJob) (files : Flushed F S R P) where
-    pub so_far : AreDone file rights job files → AreDoneSoFar file rights job files
-    so_far done = record { store = done.store; sequence = inr done.sequence; unsequence = inr done.unsequence }
+  module _ (store : Store) (job : FlushJob) (files : Flushed F S R P) where
+    pub so_far : AreDone file rights store job files → AreDoneSoFar file rights store job files
+    so_far done = record { sequence = inr done.sequence; unsequence = inr done.unsequence }
 
-    pub all_there : AreDone file rights job files → AreAllThere job (new_files file files)
+    pub all_there : AreDone file rights store job files → AreAllThere job (new_files file files)
     all_there done = record {
-      sequence = all_done done.store job.born.0 (job_part Sequence job) job.sequence files.sequence done.sequence;
-      unsequence = all_done done.store job.born.0 (job_part Unsequence job) job.unsequence files.unsequence
+      sequence = all_done store job.born.0 (job_part Sequence job) job.sequence files.sequence done.sequence;
+      unsequence = all_done store job.born.0 (job_part Unsequence job) job.unsequence files.unsequence
           done.unsequence;
     }
 
-    pub of_job_done : (done : AreDone file rights job files) → AreFilesOfJob done.store job (new_files file files)
+    pub of_job_done : AreDone file rights store job files → AreFilesOfJob store job (new_files file files)
     of_job_done done = record {
-      sequence = of_done done.store job.born.0 (job_part Sequence job) job.sequence files.sequence done.sequence;
-      unsequence = of_done done.store job.born.0 (job_part Unsequence job) job.unsequence files.unsequence
+      sequence = of_done store job.born.0 (job_part Sequence job) job.sequence files.sequence done.sequence;
+      unsequence = of_done store job.born.0 (job_part Unsequence job) job.unsequence files.unsequence
           done.unsequence;
     }
 
-    module _ (done : AreDoneSoFar file rights job files) where
-      pub of_job : AreFilesOfJob done.store job (new_files file files)
+    module _ (done : AreDoneSoFar file rights store job files) where
+      pub of_job : AreFilesOfJob store job (new_files file files)
       of_job = record {
-        sequence = of_part done.store job.born.0 (job_part Sequence job) job.sequence files.sequence done.sequence;
-        unsequence = of_part done.store job.born.0 (job_part Unsequence job) job.unsequence files.unsequence
+        sequence = of_part store job.born.0 (job_part Sequence job) job.sequence files.sequence done.sequence;
+        unsequence = of_part store job.born.0 (job_part Unsequence job) job.unsequence files.unsequence
             done.unsequence;
       }
 
       pub sequence_numbered : IfSome files.sequence (IsNumberedOutput rights job.sequence)
-      sequence_numbered = numbered done.store job.born.0 (job_part Sequence job) job.sequence files.sequence
+      sequence_numbered = numbered store job.born.0 (job_part Sequence job) job.sequence files.sequence
           done.sequence
 
       pub unsequence_numbered : IfSome files.unsequence (IsNumberedOutput rights job.unsequence)
       unsequence_numbered =
-          numbered done.store job.born.0 (job_part Unsequence job) job.unsequence files.unsequence done.unsequence
+          numbered store job.born.0 (job_part Unsequence job) job.unsequence files.unsequence done.unsequence
+
+      pub sequence_in_store : IfSome files.sequence (λ one. (file one.sealed).store ≡ store)
+      sequence_in_store = in_store store job.born.0 (job_part Sequence job) job.sequence files.sequence done.sequence
+
+      pub unsequence_in_store : IfSome files.unsequence (λ one. (file one.sealed).store ≡ store)
+      unsequence_in_store =
+          in_store store job.born.0 (job_part Unsequence job) job.unsequence files.unsequence done.unsequence
 
       pub all_fresh : AreFresh (new_files file files)
       all_fresh = each_append (λ (f : NewFile). f.entry.claimed ≡ false)
           (if_some (option_map (file_built file) files.sequence)) (if_some (option_map (file_built file) files.unsequence))
-          (fresh_part done.store job.born.0 (job_part Sequence job) job.sequence files.sequence done.sequence)
-          (fresh_part done.store job.born.0 (job_part Unsequence job) job.unsequence files.unsequence done.unsequence)
+          (fresh_part store job.born.0 (job_part Sequence job) job.sequence files.sequence done.sequence)
+          (fresh_part store job.born.0 (job_part Unsequence job) job.unsequence files.unsequence done.unsequence)
 
       pub all_drawn : Each (λ (f : NewFile). Among (file_number f) (drawn_for job)) (all_of (new_files file files))
       all_drawn = each_append _ (if_some (option_map (file_built file) files.sequence))
@@ -195,21 +217,21 @@ module _ {F S R P : Type 0} (file : S → NamedFile) (rights : S → ℕ) (space
   pub listed_as : (commit : Commit) (old new : KeptFiles) → commit ≡ Done → Appends space built.entry old new
       → new.outgoing ≡ old.outgoing → kept_file built.entry.number.0 new ≡ Some (file_built file built).token
       → OthersStay built.entry.number.0 old.places new.places → new.spare ≡ less_room space old.spare
-      → PartEnds commit space number (option_map (file_built file) given) old new
-  listed_as commit old new done appends outgoing kept others room = as_given commit old new
+      → new.store ≡ old.store → PartEnds commit space number (option_map (file_built file) given) old new
+  listed_as commit old new done appends outgoing kept others room store = as_given commit old new
       (subst (λ c. PartEnds c space number (Some (file_built file built)) old new) (sym done)
-      (part_listed old new space number (file_built file built) of_built.drawn appends outgoing kept others room))
+      (part_listed old new space number (file_built file built) of_built.drawn appends outgoing kept others room store))
 
   pub sent_as : (commit : Commit) (old new : KeptFiles) → (commit ≡ Gone) ⊎ (commit ≡ Device)
       → new.sequence ≡ old.sequence → new.unsequence ≡ old.unsequence
       → new.outgoing ≡ old.outgoing ++ outgoing_of (file_built file built) ∷ []
       → kept_file built.entry.number.0 new ≡ Some (file_built file built).token
       → OthersStay built.entry.number.0 old.places new.places → new.spare ≡ less_room space old.spare
-      → PartEnds commit space number (option_map (file_built file) given) old new
-  sent_as commit old new how sequence unsequence outgoing kept others room = as_given commit old new
+      → new.store ≡ old.store → PartEnds commit space number (option_map (file_built file) given) old new
+  sent_as commit old new how sequence unsequence outgoing kept others room store = as_given commit old new
       (part_sent old new commit (⊎_elim (λ gone done. not_gone (sym gone ∙ done)) (λ device done. not_device (sym
       device ∙ done))
-      how) space number (file_built file built) of_built.drawn sequence unsequence outgoing kept others room)
+      how) space number (file_built file built) of_built.drawn sequence unsequence outgoing kept others room store)
     where
       not_gone : Gone ≡ Done → ⊥
       not_gone same = cc

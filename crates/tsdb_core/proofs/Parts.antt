@@ -53,11 +53,13 @@ module _ (old new : KeptFiles) where
   pub part_listed : (space : Space) (number : Option FileNumber) (file : NewFile) → plain number ≡ Some (file_number file)
       → Appends space file.entry old new → new.outgoing ≡ old.outgoing
       → kept_file (file_number file) new ≡ Some file.token → OthersStay (file_number file) old.places new.places
-      → new.spare ≡ less_room space old.spare → PartEnds Done space number (Some file) old new
-  part_listed space number file is appends outgoing kept others room = record {
+      → new.spare ≡ less_room space old.spare → new.store ≡ old.store
+      → PartEnds Done space number (Some file) old new
+  part_listed space number file is appends outgoing kept others room store = record {
     come = one_come space number file is kept others;
     lists = last space appends;
     room = less_of space number (file_number file) is room;
+    store = store;
   }
     where
       last : (space : Space) → Appends space file.entry old new → StandLast (only space (Some file)) old new
@@ -83,17 +85,19 @@ module _ (old new : KeptFiles) where
       → plain number ≡ Some (file_number file) → new.sequence ≡ old.sequence → new.unsequence ≡ old.unsequence
       → new.outgoing ≡ old.outgoing ++ outgoing_of file ∷ [] → kept_file (file_number file) new ≡ Some file.token
       → OthersStay (file_number file) old.places new.places → new.spare ≡ less_room space old.spare
-      → PartEnds commit space number (Some file) old new
-  part_sent Done not space number file is sequence unsequence outgoing kept others room = absurd (not refl)
-  part_sent Gone not space number file is sequence unsequence outgoing kept others room = record {
+      → new.store ≡ old.store → PartEnds commit space number (Some file) old new
+  part_sent Done not space number file is sequence unsequence outgoing kept others room store = absurd (not refl)
+  part_sent Gone not space number file is sequence unsequence outgoing kept others room store = record {
     come = one_come space number file is kept others;
     lists = sent space file sequence unsequence outgoing;
     room = less_of space number (file_number file) is room;
+    store = store;
   }
-  part_sent Device not space number file is sequence unsequence outgoing kept others room = record {
+  part_sent Device not space number file is sequence unsequence outgoing kept others room store = record {
     come = one_come space number file is kept others;
     lists = sent space file sequence unsequence outgoing;
     room = less_of space number (file_number file) is room;
+    store = store;
   }
 
   -- no list changes
@@ -129,6 +133,7 @@ module _ (old new : KeptFiles) where
     come = by space;
     lists = same_lists commit space lists;
     room = room;
+    store = lists.store;
   }
     where
       stay : (n : ℕ) → (Among n (number.0 ∷ []) → ⊥) → place_of_number n new.places ≡ place_of_number n old.places
@@ -142,8 +147,10 @@ module _ (old new : KeptFiles) where
 pub no_part : (files : KeptFiles) (commit : Commit) (space : Space) → PartEnds commit space None None files files
 no_part files commit space = record {
   come = by space;
-  lists = same_lists files files commit space (record { sequence = refl; unsequence = refl; outgoing = refl });
+  lists = same_lists files files commit space
+      (record { store = refl; sequence = refl; unsequence = refl; outgoing = refl });
   room = refl;
+  store = refl;
 }
   where
     by : (space : Space) → HaveCome [] (only space None) files files

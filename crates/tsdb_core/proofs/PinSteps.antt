@@ -77,7 +77,7 @@ module _ {J F S R P : Type 0} {means : disk.Ghosts J} {counts : counted.Ghosts J
       limit = refl;
       claimed = refl;
       jobs = jobs_stay;
-      store = λ store all. names_stay (λ n name. name.store ≡ store) change leaves old.files files changes all;
+      store = changes.lists.store;
     }
 
     claims_on : (compactions : List Compaction) → AreClaimed old compactions

@@ -23,7 +23,7 @@ use Rattle.tsdb_core.proofs.ReplacementsClaims.{claims_without, over_finished, o
 use Rattle.tsdb_core.proofs.ReplacementsFiles.{can_replace, ended_later, files_finished, files_given_up, items_later}
 use Rattle.tsdb_core.proofs.ReplacementsFiles.{output_stands, place, same_record, stored_later, told_later}
 use Rattle.tsdb_core.proofs.ReplacementsFiles.{worlds_later}
-use Rattle.tsdb_core.proofs.ReplacementsJobs.{IsGone, gone_finished, gone_up, others_kept, store_of_each}
+use Rattle.tsdb_core.proofs.ReplacementsJobs.{IsGone, gone_finished, gone_up, others_kept}
 use Rattle.tsdb_core.specs.Compactions.{IsJobOut}
 use Rattle.tsdb_core.specs.Core.{AreClaimed, IsSeen, KeepsJobs}
 use Rattle.tsdb_core.specs.Replacements.{AppendsEnd, CommitsIn, EndsFiles, HasEndedJob, IsJobAbandoned, IsJobCommit}
@@ -144,7 +144,7 @@ module _ {J F S R P : Type 0} {means : disk.Ghosts J} {counts : counted.Ghosts J
       claimed = refl;
       next = refl;
       limit = refl;
-      of_store = λ store all output. store_of_each job file old.files kept gone store all output;
+      store = gone.store;
       jobs = jobs_left gone;
       loans = λ compaction others compactions flushes mine others_lent lent is out on lent_out keeps. record {
         jobs = jobs_left gone compaction others compactions flushes is out keeps.jobs;

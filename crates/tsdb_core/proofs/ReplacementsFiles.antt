@@ -122,6 +122,7 @@ module _ {F S R P : Type 0} (job : Job F S R P) (old : KeptFiles) (runs : InputR
 
   abbrev imagined : KeptFiles
   imagined = record {
+    store = old.store;
     places = (job.output.0, option_map (λ (one : NewFile). one.token) file)
         ∷ give_all (input_numbers job.inputs) old.places;
     sequence = replace_run runs.sequence (if_some (output_in Sequence job.space entry)) old.sequence;
@@ -132,7 +133,7 @@ module _ {F S R P : Type 0} (job : Job F S R P) (old : KeptFiles) (runs : InputR
 
   imagined_finishes : Finishes old imagined job runs file
   imagined_finishes = record {
-    lists = record { sequence_is = refl; unsequence_is = refl; outgoing_is = refl };
+    lists = record { sequence_is = refl; unsequence_is = refl; outgoing_is = refl; store_is = refl };
     here = ap (λ b. file_at (cond b (Some (option_map (λ (one : NewFile). one.token) file))
         (place_of_number job.output.0 (give_all (input_numbers job.inputs) old.places))))
         (ap is_eq (tied_itself nat_cmp_total job.output.0));

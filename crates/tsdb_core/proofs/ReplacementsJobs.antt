@@ -20,14 +20,13 @@ use Rattle.tsdb_core.proofs.Jobs.{is_counted, is_there}
 use Rattle.tsdb_core.specs.Core.{KeepsJobs, kept_room, next_of}
 use Rattle.tsdb_core.specs.declared.engine.Core.{Core}
 use Rattle.tsdb_fileset.specs.Files.{IsOpen, KeptFiles, kept_file}
-use Rattle.tsdb_fileset.specs.Places.{AreOfStore, KeptFile, file_at, place_of_number}
+use Rattle.tsdb_fileset.specs.Places.{KeptFile, file_at, place_of_number}
 use Rattle.tsdb_fileset.specs.Replacing.{less_compaction}
 use Rattle.tsdb_fileset.specs.declared.room.Spare.{Spare}
 use Rattle.tsdb_base.proofs.Lists.{each_among, each_from_among, each_weaker, with_one_each}
 use Rattle.tsdb_base.specs.Lists.{Among, IsWithOne, count}
 use Rattle.tsdb_memory.specs.LogState.{framed_room}
 use Rattle.tsdb_memory.specs.declared.logged_memory.LoggedMemory.{LoggedMemory}
-use Rattle.tsdb_outside.specs.Files.{Store}
 use Rattle.tsdb_outside.specs.declared.disk.Disk as disk
 use Rattle.tsdb_outside.specs.declared.faults.Counted as counted_by
 use Rattle.tsdb_tasks.specs.Changes.{fewer_rights}
@@ -45,14 +44,16 @@ pub record IsGone {F S R P : Type 0} (job : Job F S R P) (file : Option NewFile)
   pub here : kept_file job.output.0 new ≡ option_map (λ (one : NewFile). one.token) file
   pub others : OthersGiveRights job old new
   pub room : new.spare ≡ less_compaction job.space (length job.inputs) old.spare
+  pub store : new.store ≡ old.store
 
 pub gone_up : {F S R P : Type 0} (job : Job F S R P) (file : Option NewFile) (old new : KeptFiles)
     → GivesUp old new job file → IsGone job file old new
-gone_up job file old new up = record { here = up.here; others = up.others; room = up.room }
+gone_up job file old new up = record { here = up.here; others = up.others; room = up.room; store = up.store }
 
 pub gone_finished : {F S R P : Type 0} (job : Job F S R P) (file : Option NewFile) (runs : InputRuns)
     (old new : KeptFiles) → Finishes old new job runs file → IsGone job file old new
-gone_finished job file runs old new up = record { here = up.here; others = up.others; room = up.room }
+gone_finished job file runs old new up =
+    record { here = up.here; others = up.others; room = up.room; store = up.lists.store_is }
 
 -- the places that are left
 less_sequence : (space : Space) (n : ℕ) (spare : Spare)
@@ -95,12 +96,6 @@ name_of_each P job file old new gone fewer output all n = by (job.output.0 == n)
         (λ same. false≢true (sym e ∙ (unsigned_Decides job.output.0 n).1 same)))
         ∙ file_changed (fewer_rights k) (place_of_number n old.places)))
         (less k (kept_file n old) (all n))
-
-pub store_of_each : {F S R P : Type 0} (job : Job F S R P) (file : Option NewFile) (old new : KeptFiles)
-    → IsGone job file old new → (store : Store) → AreOfStore store old.places
-    → IfSome file (λ one. one.token.name.store ≡ store) → AreOfStore store new.places
-store_of_each job file old new gone store all output =
-    name_of_each (λ n one. one.name.store ≡ store) job file old new gone (λ n k one is. is) output all
 
 module _ {J F S R P : Type 0} {means : disk.Ghosts J} {counts : counted_by.Ghosts J} where
   module _ (core : Core J F S R P means counts) (logged : LoggedMemory J means counts) (kept : KeptFiles) (claimed : Bool)

@@ -15,19 +15,19 @@ use Rattle.tsdb_tasks.specs.CompactionsOutputs.{TellsTruth}
 use Rattle.tsdb_tasks.specs.Job.{Job}
 use Rattle.tsdb_core.specs.Compactions.{IsJobKept, job_rights}
 use Rattle.tsdb_core.specs.Core.{IsSeen, KeepsJobs, files_of, is_sequence_claimed, limit_of, logged_of, next_of}
+use Rattle.tsdb_core.specs.Core.{store_of}
 use Rattle.tsdb_core.specs.Flushes.{IsNotTaken}
 use Rattle.tsdb_core.specs.Loans.{KeepsLoans, LentRight}
 use Rattle.tsdb_core.specs.declared.commit.CoreFault.{CoreFault}
 use Rattle.tsdb_core.specs.declared.commit.CoreFault.TheVariants.{Memory, Full}
 use Rattle.tsdb_core.specs.declared.engine.Core.{Core}
 use Rattle.tsdb_fileset.specs.Files.{KeepsLists, kept_file}
-use Rattle.tsdb_fileset.specs.Places.{AreOfStore, OnlyMakesPlaces}
+use Rattle.tsdb_fileset.specs.Places.{OnlyMakesPlaces}
 use Rattle.tsdb_fileset.specs.Replacing.{claim_run}
 use Rattle.tsdb_memory.specs.Commands.{IsPrepared}
 use Rattle.tsdb_memory.specs.LogState.{Outside, memory_of}
 use Rattle.tsdb_marks.specs.Lists.{is_of}
 use Rattle.tsdb_base.specs.Lists.{count}
-use Rattle.tsdb_outside.specs.Files as outside
 use Rattle.tsdb_outside.specs.Files.{NamedFile}
 use Rattle.tsdb_outside.specs.declared.disk.Disk as disk
 use Rattle.tsdb_outside.specs.declared.faults.Counted as counted
@@ -125,8 +125,7 @@ module _ {J F S R P : Type 0} {means : disk.Ghosts J} {counts : counted.Ghosts J
     pub outgoing : (files_of new).outgoing ≡ (files_of old).outgoing
     pub logged : IsPrepared (logged_of old) (logged_of new)
     pub limit : limit_of new ≡ limit_of old
-    pub store : (store : outside.Store) → AreOfStore store (files_of old).places
-        → AreOfStore store (files_of new).places
+    pub store : store_of new ≡ store_of old
 
   -- The job has begun: the core keeps it, and its inputs are claimed. Each state that the core shows is now one in
   -- which its compaction has begun, and the job is told the truth there.

@@ -13,6 +13,7 @@ use Rattle.tsdb_memory.specs.declared.logged_memory.LoggedMemory.{LoggedMemory}
 use Rattle.tsdb_memory.specs.StateOfMemory.{IsMemoryOf}
 use Rattle.tsdb_memory.specs.Store.{FrozenPair}
 use Rattle.tsdb_memtable.specs.Pairs.{Pair}
+use Rattle.tsdb_outside.specs.Files.{Store}
 use Rattle.tsdb_outside.specs.declared.disk.Disk as disk
 use Rattle.tsdb_outside.specs.declared.faults.Counted as counted
 use Rattle.tsdb_state.specs.Jobs.{KeepsRoom, drawn_numbers}
@@ -50,6 +51,10 @@ module _ {J F S R P : Type 0} {means : disk.Ghosts J} {counts : counted.Ghosts J
   -- the files that are kept
   abbrev pub files_of : Core J F S R P means counts → KeptFiles
   files_of core = core.files
+
+  -- the store that it is of
+  abbrev pub store_of : Core J F S R P means counts → Store
+  store_of core = (files_of core).store
 
   -- the most points of a working pair of several rows
   abbrev pub limit_of : Core J F S R P means counts → ℕ

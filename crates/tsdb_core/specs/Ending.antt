@@ -63,3 +63,4 @@ pub record PartEnds (commit : Commit) (space : Space) (number : Option FileNumbe
   pub come : HaveCome (numbers_if number) (only space file) old new
   pub lists : AreAfterCommit commit (only space file) old new
   pub room : new.spare ≡ less_if space number old.spare
+  pub store : new.store ≡ old.store

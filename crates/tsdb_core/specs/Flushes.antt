@@ -2,15 +2,15 @@
 use Rattle.std.specs.Prelude.{◌≡◌, ◌⊎◌, ℕ, ◌+◌, ◌<◌, ◌≤◌, List, ◌∷◌, length, Option, None, Some, Result}
 use Rattle.std.specs.Prelude.{drop, slice_get}
 use Rattle.std.specs.Arc.{arc_value}
-use Rattle.std.specs.List.{AllByRecursion as Each, range_with_len}
+use Rattle.std.specs.List.{range_with_len}
 use Rattle.std.specs.Option.{IsSomeAnd, option_map}
 use Rattle.std.specs.declared.result.Result.TheVariants.{Ok, Err}
 use Rattle.tsdb_base.specs.declared.ids.FileNumber.{FileNumber}
 use Rattle.tsdb_base.specs.declared.ids.Stamp.{Stamp}
 use Rattle.tsdb_tasks.specs.Coming.{HaveCome}
-use Rattle.tsdb_tasks.specs.Files.{IsOutAs, NewFiles, TellBytes, all_of, state_files, told_after_flush, with_files}
+use Rattle.tsdb_tasks.specs.Files.{IsOutAs, NewFiles, TellBytes, state_files, told_after_flush, with_files}
 use Rattle.tsdb_core.specs.Core.{IsSeen, KeepsJobs, files_of, is_sequence_claimed, limit_of, logged_of, next_of}
-use Rattle.tsdb_core.specs.Core.{working_of}
+use Rattle.tsdb_core.specs.Core.{store_of, working_of}
 use Rattle.tsdb_core.specs.Ending.{AreAfterCommit, IsLeastWith, drawn_for, number_for}
 use Rattle.tsdb_core.specs.Loans.{KeepsAllLoans, KeepsLoans, LentRight}
 use Rattle.tsdb_core.specs.Worlds.{IsWorldOf}
@@ -27,7 +27,7 @@ use Rattle.tsdb_fileset.specs.Jobs.{IsJob}
 use Rattle.tsdb_fileset.specs.Taking as taking
 use Rattle.tsdb_fileset.specs.FlushJob.{FlushJob}
 use Rattle.tsdb_fileset.specs.Files.{KeepsLists, listed_borns}
-use Rattle.tsdb_fileset.specs.Places.{AreOfStore, OnlyMakesPlaces}
+use Rattle.tsdb_fileset.specs.Places.{OnlyMakesPlaces}
 use Rattle.tsdb_base.specs.Lists.{IsWithOne}
 use Rattle.tsdb_memory.specs.Changes.{KeepsSeries}
 use Rattle.tsdb_memory.specs.Commands.{IsPrepared}
@@ -36,7 +36,6 @@ use Rattle.tsdb_memory.specs.LogState.{LeavesStates, Outside, log_of, memory_of,
 use Rattle.tsdb_model.specs.World.{World}
 use Rattle.tsdb_memory.specs.Store.{FrozenPair, MemoryState}
 use Rattle.tsdb_base.specs.Causes.{Rose}
-use Rattle.tsdb_outside.specs.Files as outside
 use Rattle.tsdb_outside.specs.declared.disk.Disk as disk
 use Rattle.tsdb_outside.specs.declared.faults.Counted as counted
 use Rattle.tsdb_outside.specs.declared.faults.Failed.{Failed}
@@ -149,8 +148,7 @@ module _ {J F S R P : Type 0} {means : disk.Ghosts J} {counts : counted.Ghosts J
       : Type 0 where
     pub lists : AreAfterCommit commit files (files_of old) (files_of new)
     pub come : HaveCome (drawn_for job) files (files_of old) (files_of new)
-    pub of_store : (store : outside.Store) → AreOfStore store (files_of old).places
-        → Each (λ file. file.token.name.store ≡ store) (all_of files) → AreOfStore store (files_of new).places
+    pub store : store_of new ≡ store_of old
     pub jobs : (flush : state.FlushState) (others flushes : List state.FlushState) (compactions : List Compaction)
         → HasNumbersOf job flush → IsWithOne flush others flushes → KeepsJobs old flushes compactions
         → KeepsJobs new others compactions

@@ -5,12 +5,11 @@ use Rattle.std.specs.Option.{option_map}
 use Rattle.tsdb_base.specs.Lists.{IsWithOne}
 use Rattle.tsdb_base.specs.declared.ids.FileNumber.{FileNumber}
 use Rattle.tsdb_core.specs.Compactions.{job_rights}
-use Rattle.tsdb_core.specs.Core.{files_of}
+use Rattle.tsdb_core.specs.Core.{store_of}
 use Rattle.tsdb_core.specs.Loans.{KeepsLoans, LentRight}
 use Rattle.tsdb_core.specs.Pins.{pin_rights}
 use Rattle.tsdb_core.specs.declared.engine.Core.{Core}
 use Rattle.tsdb_fileset.specs.FlushJob.{FlushJob}
-use Rattle.tsdb_fileset.specs.Places.{AreOfStore}
 use Rattle.tsdb_outside.specs.Files.{NamedFile, Store}
 use Rattle.tsdb_outside.specs.declared.disk.Disk as disk
 use Rattle.tsdb_outside.specs.declared.faults.Counted as counted
@@ -80,10 +79,10 @@ module _ {F S R P : Type 0} (name : R → NamedFile) where
   }
 
 module _ {J F S R P : Type 0} {means : disk.Ghosts J} {counts : counted.Ghosts J} where
-  -- the core keeps what is out, and its files are of the store
+  -- the core keeps what is out, and is of the store
   pub record KeepsOut (store : Store) (out : Loans) (core : Core J F S R P means counts) : Type 0 where
     pub loans : KeepsLoans core out.flushes out.compactions out.lent
-    pub of_store : AreOfStore store (files_of core).places
+    pub of_store : store ≡ store_of core
 
   -- what was kept for all that is out is kept
   abbrev pub HandsOn : Core J F S R P means counts → Core J F S R P means counts → Type 0

@@ -2,13 +2,12 @@
 use Rattle.std.specs.Prelude.{◌≡◌, List, [], ◌∷◌}
 use Rattle.std.specs.List.{flat_map}
 use Rattle.tsdb_core.specs.Core.{IsSeen, KeepsJobs, files_of, is_sequence_claimed, limit_of, logged_of, next_of}
+use Rattle.tsdb_core.specs.Core.{store_of}
 use Rattle.tsdb_core.specs.Loans.{KeepsAllLoans, KeepsLoans, LentRight, lent_numbers}
 use Rattle.tsdb_core.specs.declared.engine.Core.{Core}
-use Rattle.tsdb_fileset.specs.Places.{AreOfStore}
 use Rattle.tsdb_base.specs.Lists.{IsWithOne}
 use Rattle.tsdb_memory.specs.LogState.{Outside}
 use Rattle.tsdb_model.specs.World.{World}
-use Rattle.tsdb_outside.specs.Files as outside
 use Rattle.tsdb_outside.specs.Files.{NamedFile}
 use Rattle.tsdb_outside.specs.declared.disk.Disk as disk
 use Rattle.tsdb_outside.specs.declared.faults.Counted as counted
@@ -40,7 +39,7 @@ module _ {F S R P : Type 0} (name : R → NamedFile) where
 
 module _ {J F S R P : Type 0} {means : disk.Ghosts J} {counts : counted.Ghosts J} where
   -- Nothing has changed but how many rights are out: log and memory, the number of the next file, the limit of a pair,
-  -- whether the sequence list is claimed, what is kept for jobs, and the store of the files.
+  -- whether the sequence list is claimed, what is kept for jobs, and the store.
   pub record ChangesRights (old new : Core J F S R P means counts) : Type 0 where
     pub logged : logged_of new ≡ logged_of old
     pub next : next_of new ≡ next_of old
@@ -48,8 +47,7 @@ module _ {J F S R P : Type 0} {means : disk.Ghosts J} {counts : counted.Ghosts J
     pub claimed : is_sequence_claimed new ≡ is_sequence_claimed old
     pub jobs : (flushes : List FlushState) (compactions : List Compaction) → KeepsJobs old flushes compactions
         → KeepsJobs new flushes compactions
-    pub store : (store : outside.Store) → AreOfStore store (files_of old).places
-        → AreOfStore store (files_of new).places
+    pub store : store_of new ≡ store_of old
 
   -- The pin is one that the state gives; the core shows the state with it; and it stands for the state's world.
   pub record IsPinStep (new : Core J F S R P means counts) (outside : Outside) (engine : EngineState) (pin : Pin F S R P)

@@ -16,14 +16,13 @@ use Rattle.tsdb_tasks.specs.CompactionsOutputs.{TellsInputs}
 use Rattle.tsdb_tasks.specs.Job.{Job}
 use Rattle.tsdb_core.specs.Compactions.{AreOnInputs}
 use Rattle.tsdb_core.specs.Core.{IsSeen, KeepsJobs, files_of, is_sequence_claimed, limit_of, logged_of, next_of}
-use Rattle.tsdb_core.specs.Core.{working_of}
+use Rattle.tsdb_core.specs.Core.{store_of, working_of}
 use Rattle.tsdb_core.specs.Loans.{KeepsLoans, LentRight}
 use Rattle.tsdb_core.specs.Worlds.{IsWorldOf}
 use Rattle.tsdb_core.specs.declared.engine.Core.{Core}
 use Rattle.tsdb_frames.specs.Calls.{KeepsToSlot}
 use Rattle.tsdb_frames.specs.Frames.{faults_of}
 use Rattle.tsdb_fileset.specs.Files.{KeptFiles, listed_borns}
-use Rattle.tsdb_fileset.specs.Places.{AreOfStore}
 use Rattle.tsdb_fileset.specs.Replacing.{HasReplaced}
 use Rattle.tsdb_base.specs.Lists.{IsWithOne}
 use Rattle.tsdb_state.specs.Places.{Content}
@@ -36,7 +35,6 @@ use Rattle.tsdb_memory.specs.Replacing.{IsReplaced}
 use Rattle.tsdb_model.specs.World.{World}
 use Rattle.tsdb_memory.specs.Least.{IsLeastOf}
 use Rattle.tsdb_outside.specs.Causes.{HasCause}
-use Rattle.tsdb_outside.specs.Files as outside
 use Rattle.tsdb_outside.specs.Files.{NamedFile}
 use Rattle.tsdb_outside.specs.declared.disk.Disk as disk
 use Rattle.tsdb_outside.specs.declared.faults.Counted as counted
@@ -94,15 +92,14 @@ module _ {F S R P : Type 0} where
   EndsFiles job runs file old new (Err fault) = GivesUp old new job file
 
 module _ {J F S R P : Type 0} {means : disk.Ghosts J} {counts : counted.Ghosts J} where
-  -- What each end of a compaction leaves: the sequence list is free where the job had claimed it, the tokens are of one
-  -- store, and what is kept for the other jobs stays.
+  -- What each end of a compaction leaves: the sequence list is free where the job had claimed it, and what is kept for
+  -- the other jobs stays.
   pub record HasEndedJob (old new : Core J F S R P means counts) (job : Job F S R P)
       (file : Option NewFile) : Type 0 where
     pub claimed : is_sequence_claimed new ≡ without_claim job.space (is_sequence_claimed old)
     pub next : next_of new ≡ next_of old
     pub limit : limit_of new ≡ limit_of old
-    pub of_store : (store : outside.Store) → AreOfStore store (files_of old).places
-        → IfSome file (λ one. one.token.name.store ≡ store) → AreOfStore store (files_of new).places
+    pub store : store_of new ≡ store_of old
     pub jobs : (compaction : Compaction) (others compactions : List Compaction) (flushes : List FlushState)
         → IsCompactionOf job compaction → IsWithOne compaction others compactions
         → KeepsJobs old flushes compactions → KeepsJobs new flushes others

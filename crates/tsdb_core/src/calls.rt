@@ -1,7 +1,7 @@
 //! The calls of a core that change it. Depends on `engine`.
 ghost use Rattle.std.specs.Prelude.{◌≡◌, ◌⊎◌, ◌↔◌, ◌<◌, IsTrue, OnOk, length};
 ghost use Rattle.tsdb_fileset.specs.Closing.{ArePutBack, AreNumbersRising, names_at};
-ghost use Rattle.tsdb_fileset.specs.Places.{AreOfStore, AreUnread};
+ghost use Rattle.tsdb_fileset.specs.Places.{AreUnread};
 ghost use Rattle.tsdb_log.specs.declared.record.LogRecord.{LogRecord};
 ghost use Rattle.tsdb_memory.specs.Answers.{IsCreateAnswer, IsDeleteAnswer, IsFreezeAnswer};
 ghost use Rattle.tsdb_memory.specs.Changes.{HasCreated, HasFrozen, MemoryAfter};
@@ -20,7 +20,7 @@ use tsdb_path::Path;
 
 impl<J: Journal, F: Files> Core<J, F> {
     ghost use Rattle.tsdb_core.specs.Commands.{DeletesPoints, IsCoreCommand, KeepsFiles};
-    ghost use Rattle.tsdb_core.specs.Core.{HasStateCounts, files_of, logged_of, working_of};
+    ghost use Rattle.tsdb_core.specs.Core.{HasStateCounts, files_of, logged_of, store_of, working_of};
     ghost use Rattle.tsdb_core.specs.Rows.{CanFreezeNow};
     ghost use Rattle.tsdb_core.specs.Sweeps.{IsSwept};
     ghost use Rattle.tsdb_core.specs.Worlds.{CoreFollowsMap, CoreKeepsWorld};
@@ -96,7 +96,7 @@ impl<J: Journal, F: Files> Core<J, F> {
     /// their order, and returns how many. After `Ok` no removal has failed. After `Failed` the file that could not be
     /// removed is spent too, and those behind it were not tried.
     pub fn sweep(&mut self, port: &mut F::Port) -> Result<u64, Failed>
-        requires store { AreOfStore (F.Port.store port.old) (files_of self.old).places }
+        requires store { F.Port.store port.old ≡ store_of self.old }
         ensures swept { IsSwept self.old self.new result }
         ensures world { CoreKeepsWorld self.old self.new }
         ensures same_store { F.Port.store port.new ≡ F.Port.store port.old }
@@ -110,7 +110,7 @@ impl<J: Journal, F: Files> Core<J, F> {
     /// Closes a gate in doubt, then gives each token back to its store, and the journal to the caller.
     pub fn close(self, files: &mut F) -> J
         requires no_rights { AreUnread (files_of self).places }
-        requires store { AreOfStore (F.store files.old) (files_of self).places }
+        requires store { F.store files.old ≡ store_of self }
         ensures log { IsClosed (logged_of self) (J.state result) (J.faults result) }
         ensures at_rest { WhereTold (ArePutBack (names_at (files_of self).places)) (F.at_rest files.old)
             (F.at_rest files.new) }

@@ -23,6 +23,7 @@ pub(crate) fn end_part<F: Files>(
     requires place { IfSome number (λ drawn. IsOpen drawn.0 files.old) }
     requires room { IfSome number (λ drawn. HasRoom space files.old.spare) }
     requires numbered { IfSome file (IsNumberedOutput F.Sealed.rights number) }
+    requires store { IfSome file (λ built. (F.Sealed.file built.sealed).store ≡ files.old.store) }
     ensures { PartEnds commit space number (option_map (file_built F.Sealed.file) file) files.old files.new }
 {
     let Some(built) = file else {

@@ -4,6 +4,7 @@ ghost use Rattle.std.specs.Option.{option_map};
 ghost use Rattle.tsdb_core.specs.Limits.{IsPairLimit};
 ghost use Rattle.tsdb_fileset.specs.StateOfFiles.{AreFilesOf, TellTheirBytes};
 ghost use Rattle.tsdb_fileset.specs.Files.{AreKept, entries_in};
+ghost use Rattle.tsdb_fileset.specs.Places.{AreOfStore};
 ghost use Rattle.tsdb_memory.specs.LogState.{Outside};
 ghost use Rattle.tsdb_memtable.specs.Pairs.{space_count};
 ghost use Rattle.tsdb_state.specs.NewStore.{opened};
@@ -30,7 +31,7 @@ pub struct Core<J: Journal, F: Files> {
 
 impl<J: Journal, F: Files> Core<J, F> {
     ghost use Rattle.tsdb_core.specs.Core.{IsAboveNumbers, IsSeen, KeepsJobs, files_of, limit_of, logged_of};
-    ghost use Rattle.tsdb_core.specs.Core.{is_sequence_claimed, newest_born, next_of, working_of};
+    ghost use Rattle.tsdb_core.specs.Core.{is_sequence_claimed, newest_born, next_of, store_of, working_of};
     ghost use Rattle.tsdb_memory.specs.LogState.{IsSoundLogged, memory_of};
 
     /// The core of these, where the next file gets this number.
@@ -112,7 +113,8 @@ impl<J: Journal, F: Files> Core<J, F> {
 
     /// It does nothing, and tells what always holds of the kept files.
     pub fn sound(&self)
-        ensures { AreKept (files_of self.now) }
+        ensures kept { AreKept (files_of self.now) }
+        ensures of_store { AreOfStore (store_of self.now) (files_of self.now).places }
     {
         self.files.sound();
     }

@@ -21,7 +21,7 @@ use tsdb_outside::{Failed, Files, Journal};
 
 impl<J: Journal, F: Files> Core<J, F> {
     ghost use Rattle.tsdb_tasks.specs.Files.{AreDone, AreDoneSoFar, new_files};
-    ghost use Rattle.tsdb_core.specs.Core.{files_of, logged_of, next_of};
+    ghost use Rattle.tsdb_core.specs.Core.{files_of, logged_of, next_of, store_of};
     ghost use Rattle.tsdb_core.specs.Flushes.{HasEndedFlush, IsAbandoned, IsCommit, IsCommitAnswer, IsLoggedAs};
     ghost use Rattle.tsdb_core.specs.Flushes.{IsNotTaken, IsOldestPair, IsOut, IsTakeAnswer, IsFlushTaken};
     ghost use Rattle.tsdb_core.specs.Flushes.{IsFlushTakenOrNot};
@@ -74,7 +74,7 @@ impl<J: Journal, F: Files> Core<J, F> {
     /// longer. Where it was already, or the log could not be written, they are on their way out. It takes no memory.
     pub fn commit_flush(&mut self, job: FlushJob, files: Flushed<F>) -> Commit
         requires out { IsOut self.old job }
-        requires done { AreDone F.Sealed.file F.Sealed.rights job files }
+        requires done { AreDone F.Sealed.file F.Sealed.rights (store_of self.old) job files }
         ensures { IsCommit self.old self.new job (new_files F.Sealed.file files) result }
     {
         let commit = self.log_flush(&job);
@@ -86,7 +86,7 @@ impl<J: Journal, F: Files> Core<J, F> {
     /// no memory.
     pub fn abandon_flush(&mut self, job: FlushJob, files: Flushed<F>)
         requires out { IsOut self.old job }
-        requires done { AreDoneSoFar F.Sealed.file F.Sealed.rights job files }
+        requires done { AreDoneSoFar F.Sealed.file F.Sealed.rights (store_of self.old) job files }
         ensures { IsAbandoned self.old self.new job (new_files F.Sealed.file files) }
     {
         self.end_flush(&job, files, Commit::Gone);
@@ -127,7 +127,7 @@ impl<J: Journal, F: Files> Core<J, F> {
     /// Ends a job that is out: each of its files is listed or on its way out, as the commit says.
     fn end_flush(&mut self, job: &FlushJob, files: Flushed<F>, commit: Commit)
         requires out { IsOut self.old job.now }
-        requires done { AreDoneSoFar F.Sealed.file F.Sealed.rights job.now files }
+        requires done { AreDoneSoFar F.Sealed.file F.Sealed.rights (store_of self.old) job.now files }
         ensures ends { HasEndedFlush self.old self.new job.now (new_files F.Sealed.file files) commit }
         ensures rest { self.new ≡ record self.old { files = files_of self.new } }
     {

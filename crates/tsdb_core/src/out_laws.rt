@@ -1,11 +1,10 @@
 //! The laws of what is out of a core, as one record: which calls hand it on, what joins it, what leaves it, and that what
 //! is in it can be ended. The functions do nothing; their contracts are the laws. Depends on `engine`.
-ghost use Rattle.std.specs.Prelude.{◌≡◌, [], ℕ, IfSome, Option, Result};
-ghost use Rattle.std.specs.List.{AllByRecursion as Each};
+ghost use Rattle.std.specs.Prelude.{◌≡◌, [], ℕ, Option, Result};
 ghost use Rattle.tsdb_core.specs.Beginnings.{IsBegun, IsNotBegun};
 ghost use Rattle.tsdb_core.specs.Commands.{KeepsFiles};
 ghost use Rattle.tsdb_core.specs.Compactions.{IsHandedOut, IsJobOut};
-ghost use Rattle.tsdb_core.specs.Core.{KeepsJobs, files_of};
+ghost use Rattle.tsdb_core.specs.Core.{KeepsJobs, files_of, store_of};
 ghost use Rattle.tsdb_core.specs.Flushes.{HasEndedFlush, IsNotTaken, IsOut, IsFlushTaken, TakesMemory};
 ghost use Rattle.tsdb_core.specs.Loans.{IsNothingClaimed};
 ghost use Rattle.tsdb_core.specs.Out.{HandsOn, IsWithJob, KeepsOut, Loans, nothing_out, with_flush, with_job, with_pin};
@@ -14,10 +13,10 @@ ghost use Rattle.tsdb_core.specs.Replacements.{HasEndedJob};
 ghost use Rattle.tsdb_core.specs.Sweeps.{IsSwept};
 ghost use Rattle.tsdb_core.specs.declared.commit.Commit.{Commit};
 ghost use Rattle.tsdb_base.specs.declared.ids.Space.{Space};
-ghost use Rattle.tsdb_fileset.specs.Places.{AreOfStore, AreUnread};
+ghost use Rattle.tsdb_fileset.specs.Places.{AreUnread};
 ghost use Rattle.tsdb_outside.specs.Files.{Store};
 ghost use Rattle.tsdb_outside.specs.declared.faults.Failed.{Failed};
-ghost use Rattle.tsdb_tasks.specs.Files.{NewFile, NewFiles, all_of};
+ghost use Rattle.tsdb_tasks.specs.Files.{NewFile, NewFiles};
 ghost use Rattle.tsdb_tasks.specs.Pins.{AreColumnsHeld};
 ghost use Rattle.tsdb_tasks.specs.declared.finishing.InputRuns.{InputRuns};
 
@@ -29,7 +28,7 @@ use tsdb_tasks::{Job, Pin};
 /// Of a core that keeps and has claimed nothing for anybody nothing is out; and where nothing is out, no right is.
 pub fn nothing_is_out<J: Journal, F: Files>(_core: &Core<J, F>)
     ensures none { (store : Store) → KeepsJobs _core.now [] [] → AreUnread (files_of _core.now).places
-        → IsNothingClaimed _core.now → AreOfStore store (files_of _core.now).places
+        → IsNothingClaimed _core.now → store ≡ store_of _core.now
         → KeepsOut store nothing_out _core.now }
     ensures unread { (store : Store) → KeepsOut store nothing_out _core.now → AreUnread (files_of _core.now).places }
 {}
@@ -66,8 +65,8 @@ pub fn an_ended_flush_is_out_no_longer<J: Journal, F: Files>(
     _job: &FlushJob,
 )
     ensures { (files : NewFiles) (commit : Commit) → HasEndedFlush _old.now _new.now _job.now files commit
-        → (store : Store) (out : Loans) → Each (λ file. file.token.name.store ≡ store) (all_of files)
-        → KeepsOut store (with_flush _job.now out) _old.now → KeepsOut store out _new.now }
+        → (store : Store) (out : Loans) → KeepsOut store (with_flush _job.now out) _old.now
+        → KeepsOut store out _new.now }
 {}
 
 /// A compaction that has begun joins what is out.
@@ -91,8 +90,7 @@ pub fn an_ended_job_is_out_no_longer<J: Journal, F: Files>(
     _job: &Job<F>,
 )
     ensures { (file : Option NewFile) → HasEndedJob _old.now _new.now _job.now file
-        → (store : Store) (others all : Loans) → IsHandedOut _job.now
-        → IfSome file (λ one. one.token.name.store ≡ store) → IsWithJob F.Right.file _job.now others all
+        → (store : Store) (others all : Loans) → IsHandedOut _job.now → IsWithJob F.Right.file _job.now others all
         → KeepsOut store all _old.now → KeepsOut store others _new.now }
 {}
 

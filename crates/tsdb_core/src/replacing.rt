@@ -20,7 +20,7 @@ use tsdb_tasks::{InputRuns, Job, finish, give_up, runs_of};
 
 impl<J: Journal, F: Files> Core<J, F> {
     ghost use Rattle.tsdb_core.specs.Compactions.{IsJobOut};
-    ghost use Rattle.tsdb_core.specs.Core.{files_of, is_sequence_claimed, logged_of};
+    ghost use Rattle.tsdb_core.specs.Core.{files_of, is_sequence_claimed, logged_of, store_of};
     ghost use Rattle.tsdb_core.specs.Replacements.{AppendsEnd, IsJobAbandoned, IsJobCommit};
 
     /// Ends an inner compaction that is out: its output stands in the place of its inputs, and these are on their way
@@ -29,6 +29,7 @@ impl<J: Journal, F: Files> Core<J, F> {
         requires kind { is_cross job ≡ false }
         requires out { IsJobOut F.Right.file self.old job }
         requires output { IsOutputOf F.Right.file F.Sealed.file F.Sealed.rights job output }
+        requires store { IfSome output (λ built. (F.Sealed.file built.sealed).store ≡ store_of self.old) }
         ensures { IsJobCommit F.Right.file self.old self.new job (option_map (file_built F.Sealed.file) output) result }
     {
         self.commit_job(job, output)
@@ -39,6 +40,7 @@ impl<J: Journal, F: Files> Core<J, F> {
         requires kind { is_cross job ≡ true }
         requires out { IsJobOut F.Right.file self.old job }
         requires output { IsOutputOf F.Right.file F.Sealed.file F.Sealed.rights job output }
+        requires store { IfSome output (λ built. (F.Sealed.file built.sealed).store ≡ store_of self.old) }
         ensures { IsJobCommit F.Right.file self.old self.new job (option_map (file_built F.Sealed.file) output) result }
     {
         self.commit_job(job, output)
@@ -49,6 +51,7 @@ impl<J: Journal, F: Files> Core<J, F> {
     pub fn abandon(&mut self, job: Job<F>, output: Option<Built<F>>)
         requires out { IsJobOut F.Right.file self.old job }
         requires output { IfSome output (IsOutputNumbered F.Sealed.rights job) }
+        requires store { IfSome output (λ built. (F.Sealed.file built.sealed).store ≡ store_of self.old) }
         ensures { IsJobAbandoned self.old self.new job (option_map (file_built F.Sealed.file) output) }
     {
         self.files.sound();
@@ -60,6 +63,7 @@ impl<J: Journal, F: Files> Core<J, F> {
     fn commit_job(&mut self, job: Job<F>, output: Option<Built<F>>) -> Result<(), Failed>
         requires out { IsJobOut F.Right.file self.old job }
         requires output { IsOutputOf F.Right.file F.Sealed.file F.Sealed.rights job output }
+        requires store { IfSome output (λ built. (F.Sealed.file built.sealed).store ≡ store_of self.old) }
         ensures { IsJobCommit F.Right.file self.old self.new job (option_map (file_built F.Sealed.file) output) result }
     {
         self.files.sound();
@@ -117,6 +121,7 @@ impl<J: Journal, F: Files> Core<J, F> {
         requires all { length job.sequence + length job.unsequence ≡ length job.inputs }
         requires runs { AreRunsOf job runs (files_of self.old) }
         requires output { IfSome output (IsOutputNumbered F.Sealed.rights job) }
+        requires store { IfSome output (λ built. (F.Sealed.file built.sealed).store ≡ store_of self.old) }
         ensures files { EndsFiles job runs (option_map (file_built F.Sealed.file) output) (files_of self.old)
             (files_of self.new) outcome.now }
         ensures rest { self.new ≡ record self.old { files = files_of self.new } }

@@ -1,19 +1,20 @@
 -- What stands at a place once another place has changed.
 use Rattle.std.proofs.Common.{◌≡◌, ◌≢◌, ℕ, Bool, true, false, cond, [], ◌∷◌, Some, None, refl, sym, ap, ◌∙◌}
 use Rattle.std.proofs.Common.{arith, nat_eq, ◌<◌, Option, subst, Less}
-use Rattle.std.specs.Prelude.{◌||◌}
+use Rattle.std.specs.Prelude.{◌||◌, IfSome}
 use Rattle.std.specs.Cmp.{Equal-is, ranks}
 use Rattle.std.specs.Ordering.{MatchOrdering, is_eq, nat_cmp}
 use Rattle.std.specs.List.{All, AllByRecursion as Each}
 use Rattle.std.specs.BTreeMap.Range.{IsLtBy}
 use Rattle.std.specs.Map.{keys_of}
 use Rattle.std.proofs.lemmas.List.Elements.{recursion_from_All}
-use Rattle.std.proofs.lemmas.Bool.{false≢true}
+use Rattle.std.proofs.lemmas.Bool.{eq-eqb, eqb-true, false≢true}
 use Rattle.std.proofs.lemmas.Bool.Decides.{nat_tests}
 use Rattle.std.proofs.lemmas.Cmp.{nat_cmp_total, tied_itself}
 use Rattle.std.proofs.lemmas.Bool.{false_from_ne_true}
 use Rattle.std.proofs.lemmas.Map.Lookups.{exact_unsigned}
-use Rattle.tsdb_fileset.specs.Places.{KeptFile, OnlyMakesPlaces, Places, TakesAway, file_at, is_same_number, is_one_of, place_of_number}
+use Rattle.tsdb_fileset.specs.Places.{AllFiles, KeptFile, OnlyMakesPlaces, OthersStay, Places, TakesAway, file_at}
+use Rattle.tsdb_fileset.specs.Places.{is_same_number, is_one_of, place_of_number}
 
 pub same_number : (number other : ℕ) → is_same_number number other ≡ true → number ≡ other
 same_number number other is = exact_unsigned number other ((Equal-is (nat_cmp number other)).0 is)
@@ -63,6 +64,18 @@ one_taken number old new set other =
         by : (b : Bool) → nat_eq other number ≡ b → false ≡ (nat_eq other number || false)
         by false e = sym (ap (λ b. b || false) e)
         by true e = absurd (false≢true (sym is ∙ is_same number other (equal number other e)))
+
+-- what holds of each file, and of what has come to one place, holds of each
+pub all_with : (Q : KeptFile → Type 0) (number : ℕ) (file : Option KeptFile) (old new : Places)
+    → file_at (place_of_number number new) ≡ file → OthersStay number old new → IfSome file Q → AllFiles Q old
+    → AllFiles Q new
+all_with Q number file old new here others this all n = by (nat_eq number n) refl
+  where
+    by : (b : Bool) → nat_eq number n ≡ b → IfSome (file_at (place_of_number n new)) Q
+    by true is = subst (λ m. IfSome (file_at (place_of_number m new)) Q) (eqb-true number n is)
+        (subst (λ found. IfSome found Q) (sym here) this)
+    by false is = subst (λ place. IfSome (file_at place) Q)
+        (sym (others n (λ same. false≢true (sym is ∙ eq-eqb number n same)))) (all n)
 
 -- the numbers behind the first are above it
 pub all_above : (number : ℕ) (places : Places) → All (IsLtBy nat_cmp number) (keys_of places)

@@ -14,13 +14,14 @@ use Rattle.tsdb_base.specs.declared.ids.Space.{Space}
 use Rattle.tsdb_base.specs.declared.ids.Space.TheVariants.{Sequence, Unsequence}
 use Rattle.tsdb_base.specs.declared.ids.Stamp.{Stamp}
 use Rattle.tsdb_fileset.proofs.Numbers.{all_counted}
+use Rattle.tsdb_fileset.proofs.PlaceFacts.{all_with}
 use Rattle.tsdb_fileset.specs.declared.files.KeptFiles.TheInside.{Inside}
 use Rattle.tsdb_fileset.specs.declared.files.Outgoing.{Outgoing}
 use Rattle.tsdb_fileset.specs.Files.{AreKept, IsOpen, KeptFiles, entry_numbers, kept_file, listed_borns, all_numbers}
 use Rattle.tsdb_fileset.specs.Files.{outgoing_numbers}
 use Rattle.tsdb_fileset.specs.Growth.{HasRoomLeft}
 use Rattle.tsdb_fileset.specs.SoundFiles.{AreSound, view_of}
-use Rattle.tsdb_fileset.specs.Places.{KeptFile, OthersStay, file_at, place_of_number}
+use Rattle.tsdb_fileset.specs.Places.{AreOfStore, KeptFile, OthersStay, file_at, place_of_number}
 use Rattle.tsdb_fileset.specs.Replacing.{HasClaims, HasListRoom, IsReplacedIn, IsWithin, claim_run, leaving}
 use Rattle.tsdb_fileset.specs.Replacing.{HasReplaced, entry_borns, leaving_run, less_compaction, output_in, replace_run}
 use Rattle.tsdb_fileset.specs.Replacing.{run_length, stamps_of, with_claim}
@@ -28,6 +29,7 @@ use Rattle.tsdb_base.proofs.Lists.{count_append}
 use Rattle.tsdb_base.specs.Lists.{count, if_some}
 use Rattle.tsdb_flush.proofs.Borns.{least_all}
 use Rattle.tsdb_flush.specs.Least.{IsLeastOf, least_with, lesser_born}
+use Rattle.tsdb_outside.specs.Files.{Store}
 use Rattle.tsdb_plan.specs.declared.entry.FileEntry.{FileEntry}
 use Rattle.tsdb_plan.specs.declared.entry.Run.{Run}
 
@@ -244,6 +246,18 @@ entry_of_output {B = B} number output entry_in file_in entry file entry_is file_
     by None of = tt
     by (Some built) of = of
 
+-- the file of an output of the store is of the store
+pub store_of_output : {B : Type 0} (store : Store) (output : Option B) (file_in : B → KeptFile) (file : Option KeptFile)
+    → file ≡ option_map file_in output → IfSome output (λ built. (file_in built).name.store ≡ store)
+    → IfSome file (λ one. one.name.store ≡ store)
+store_of_output {B = B} store output file_in file is of =
+    subst (λ found. IfSome found (λ one. one.name.store ≡ store)) (sym is) (by output of)
+  where
+    by : (output : Option B) → IfSome output (λ built. (file_in built).name.store ≡ store)
+        → IfSome (option_map file_in output) (λ one. one.name.store ≡ store)
+    by None of = tt
+    by (Some built) of = of
+
 counts_once : (n number : ℕ) (entry : Option FileEntry) (file : Option KeptFile) → IsEntryOf number entry file
     → number ≡ n → count n (entry_numbers (if_some entry)) ≡ length (if_some file)
 counts_once n number None None is same = refl
@@ -310,12 +324,13 @@ module _ {F S R P : Type 0} where
     pub in_unsequence : IsReplacedIn unsequence (output_in Unsequence space entry) old.unsequence new.unsequence middle
         new.outgoing
 
-  replaced_counts : (space : Space) (sequence unsequence : Run) (entry : Option FileEntry) (old new : Inside F S R P)
+  replaced_counts : (store_of : F → Store) (space : Space) (sequence unsequence : Run) (entry : Option FileEntry)
+      (old new : Inside F S R P)
       → IsWithin sequence old.sequence.items → IsWithin unsequence old.unsequence.items
       → AreReplaced space sequence unsequence entry old new → (n : ℕ)
-      → count n (all_numbers (view_of new))
-      ≡ count n (all_numbers (view_of old)) + count n (entry_numbers (if_some entry))
-  replaced_counts space sequence unsequence entry old new in_s in_u is n =
+      → count n (all_numbers (view_of store_of new))
+      ≡ count n (all_numbers (view_of store_of old)) + count n (entry_numbers (if_some entry))
+  replaced_counts store_of space sequence unsequence entry old new in_s in_u is n =
       let s = output_in Sequence space entry in
       let u = output_in Unsequence space entry in
       let leave_s = leaving_run sequence old.sequence.items in
@@ -324,8 +339,8 @@ module _ {F S R P : Type 0} where
       is.in_unsequence.out_items ∙ ap (λ files. files ++ leave_u) is.in_sequence.out_items in
       omega (
         arith,
-        all_counted n (view_of old),
-        all_counted n (view_of new),
+        all_counted n (view_of store_of old),
+        all_counted n (view_of store_of new),
         ap (λ entries. count n (entry_numbers entries)) is.in_sequence.items,
         ap (λ entries. count n (entry_numbers entries)) is.in_unsequence.items,
         count_put n sequence (if_some s) old.sequence.items,
@@ -390,33 +405,39 @@ module _ {F S R P : Type 0} where
     );
   }
 
-  pub replaced_sound : (space : Space) (sequence unsequence : Run) (number : ℕ) (entry : Option FileEntry)
-      (file : Option KeptFile) (old new : Inside F S R P) → AreSound old
-      → CanReplace space sequence unsequence number (view_of old) → IsEntryOf number entry file
-      → kept_file number (view_of new) ≡ file → OthersStay number old.tokens.entries new.tokens.entries
+  pub replaced_sound : (store_of : F → Store) (space : Space) (sequence unsequence : Run) (number : ℕ)
+      (entry : Option FileEntry) (file : Option KeptFile) (old new : Inside F S R P) → AreSound store_of old
+      → CanReplace space sequence unsequence number (view_of store_of old) → IsEntryOf number entry file
+      → kept_file number (view_of store_of new) ≡ file → OthersStay number old.tokens.entries new.tokens.entries
       → AreReplaced space sequence unsequence entry old new
       → new.spare ≡ less_compaction space (run_length sequence + run_length unsequence) old.spare
       → new.least ≡ least_with (least_with None (entry_borns new.sequence.items)) (entry_borns new.unsequence.items)
-      → AreSound new
-  replaced_sound space sequence unsequence number entry file old new sound can of here others is spare least = record {
-    kept = kept_with number entry file (view_of old) (view_of new) sound.kept can.place of here others
-        (replaced_counts space sequence unsequence entry old new can.in_sequence can.in_unsequence is);
-    room = subst (λ s. HasRoomLeft s new.sequence new.unsequence new.outgoing) (sym spare)
-        (replaced_room space sequence unsequence entry old new sound.room can.list can.outgoing is);
-    least = subst (λ l. IsLeastOf l (listed_borns (view_of new))) (sym least)
-        (least_of_both new.sequence.items new.unsequence.items);
-  }
+      → store_of new.store.value ≡ store_of old.store.value
+      → IfSome file (λ one. one.name.store ≡ store_of old.store.value) → AreSound store_of new
+  replaced_sound store_of space sequence unsequence number entry file old new sound can of here others is spare least
+      same_store in_store = record {
+        kept = kept_with number entry file (view_of store_of old) (view_of store_of new) sound.kept can.place of here
+            others (replaced_counts store_of space sequence unsequence entry old new can.in_sequence can.in_unsequence is);
+        of_store = subst (λ store. AreOfStore store new.tokens.entries) (sym same_store)
+            (all_with (λ one. one.name.store ≡ store_of old.store.value) number file old.tokens.entries
+            new.tokens.entries here others in_store sound.of_store);
+        room = subst (λ s. HasRoomLeft s new.sequence new.unsequence new.outgoing) (sym spare)
+            (replaced_room space sequence unsequence entry old new sound.room can.list can.outgoing is);
+        least = subst (λ l. IsLeastOf l (listed_borns (view_of store_of new))) (sym least)
+            (least_of_both new.sequence.items new.unsequence.items);
+      }
 
-  pub claimed_sound : (run : Run) (claimed : Bool) (old new : Inside F S R P) → AreSound old
+  pub claimed_sound : (store_of : F → Store) (run : Run) (claimed : Bool) (old new : Inside F S R P)
+      → AreSound store_of old
       → IsWithin run old.unsequence.items → HasClaims run claimed old.unsequence new.unsequence
       → new.tokens ≡ old.tokens → new.sequence ≡ old.sequence → new.outgoing ≡ old.outgoing → new.spare ≡ old.spare
-      → new.least ≡ old.least → AreSound new
-  claimed_sound run claimed old new sound within is tokens sequence outgoing spare least =
+      → new.least ≡ old.least → store_of new.store.value ≡ store_of old.store.value → AreSound store_of new
+  claimed_sound store_of run claimed old new sound within is tokens sequence outgoing spare least same_store =
       let numbers : entry_numbers new.unsequence.items ≡ entry_numbers old.unsequence.items = ap entry_numbers is.items
       ∙ run_stays (λ (e : FileEntry). e.number.0) claimed run old.unsequence.items (claim_numbers claimed) within in
       let borns : entry_borns new.unsequence.items ≡ entry_borns old.unsequence.items = ap entry_borns is.items
       ∙ run_stays (λ (e : FileEntry). e.born.0) claimed run old.unsequence.items (claim_borns claimed) within in
-      let all : listed_borns (view_of new) ≡ listed_borns (view_of old) =
+      let all : listed_borns (view_of store_of new) ≡ listed_borns (view_of store_of old) =
       map-append (λ (e : FileEntry). e.born.0) new.sequence.items new.unsequence.items
       ∙ (λ i. entry_borns (sequence i).items ++ borns i)
       ∙ sym (map-append (λ (e : FileEntry). e.born.0) old.sequence.items old.unsequence.items) in
@@ -424,6 +445,8 @@ module _ {F S R P : Type 0} where
         kept = λ n. ap (count n)
             (λ i. (entry_numbers (sequence i).items ++ numbers i) ++ outgoing_numbers (outgoing i).items)
             ∙ sound.kept n ∙ ap (λ t. length (if_some (file_at (place_of_number n t.entries)))) (sym tokens);
+        of_store = subst (λ store. AreOfStore store new.tokens.entries) (sym same_store)
+            (subst (λ t. AreOfStore (store_of old.store.value) t.entries) (sym tokens) sound.of_store);
         room = record {
           sequence_room = omega (
             arith,
@@ -448,5 +471,5 @@ module _ {F S R P : Type 0} where
           );
         };
         least = subst (λ bs. IsLeastOf new.least bs) (sym all)
-            (subst (λ l. IsLeastOf l (listed_borns (view_of old))) (sym least) sound.least);
+            (subst (λ l. IsLeastOf l (listed_borns (view_of store_of old))) (sym least) sound.least);
       }

@@ -13,14 +13,17 @@ use Rattle.tsdb_fileset.specs.Files.{AreKept, KeptFiles, entry_numbers, kept_fil
 use Rattle.tsdb_fileset.specs.Files.{listed_borns, all_numbers, outgoing_numbers}
 use Rattle.tsdb_fileset.specs.SoundFiles.{AreSound, view_of}
 use Rattle.tsdb_fileset.specs.StateOfFiles.{may_go, told_numbers}
-use Rattle.tsdb_fileset.specs.Places.{AreUnread, KeptFile, Places, TakesAway, file_at, is_one_of, place_of_number}
+use Rattle.tsdb_fileset.specs.Places.{AreOfStore, AreUnread, KeptFile, Places, TakesAway, file_at, is_one_of}
+use Rattle.tsdb_fileset.specs.Places.{place_of_number}
 use Rattle.tsdb_fileset.specs.Sweeps.{AreOnce, LeavesWithout, StopsSweepAt, free_numbers, has_no_right, has_place, is_free}
 use Rattle.tsdb_fileset.specs.Sweeps.{is_that, tried_numbers}
 use Rattle.tsdb_fileset.proofs.Counts.{among_counted, count_fewer, count_left, counted, filter_agrees, same_test}
 use Rattle.tsdb_fileset.proofs.Numbers.{all_counted}
+use Rattle.tsdb_fileset.proofs.Taken.{still_all}
 use Rattle.tsdb_base.specs.Lists.{Among, count, if_some}
 use Rattle.tsdb_base.proofs.Lists.{count_append, each_from_among}
 use Rattle.tsdb_flush.specs.Least.{IsLeastOf}
+use Rattle.tsdb_outside.specs.Files.{Store}
 use Rattle.tsdb_outside.specs.declared.faults.Failed.{Failed}
 
 at_most_one : (file : Option KeptFile) → length (if_some file) ≤ 1
@@ -106,27 +109,33 @@ tried_fewer doubted places tried behind outgoing are n =
     ∙ count_append n (outgoing_numbers tried) (outgoing_numbers behind) in
     omega (arith, count_fewer n (is_free doubted places) tried, all)
 
-module _ {F S R P : Type 0} (doubted : List (Option FileNumber)) (old new : Inside F S R P) (sound : AreSound old)
+module _ {F S R P : Type 0} (store_of : F → Store) (doubted : List (Option FileNumber)) (old new : Inside F S R P)
+    (sound : AreSound store_of old)
     (files : new.outgoing.items ≡ filter (has_place new.tokens.entries) old.outgoing.items)
     (len : vec_len new.outgoing ≤ vec_len old.outgoing)
     (capacity : vec_capacity new.outgoing ≡ vec_capacity old.outgoing)
     (sequence : new.sequence ≡ old.sequence) (unsequence : new.unsequence ≡ old.unsequence)
-    (spare : new.spare ≡ old.spare) (least : new.least ≡ old.least) where
+    (spare : new.spare ≡ old.spare) (least : new.least ≡ old.least)
+    (store : store_of new.store.value ≡ store_of old.store.value) where
   leaves : (gone : List ℕ) → TakesAway gone old.tokens.entries new.tokens.entries
-      → LeavesWithout gone (view_of old) (view_of new)
+      → LeavesWithout gone (view_of store_of old) (view_of store_of new)
   leaves gone away = record {
     outgoing = files ∙ still_placed gone old.tokens.entries new.tokens.entries old.outgoing.items away
-        (all_placed (view_of old) sound.kept);
+        (all_placed (view_of store_of old) sound.kept);
     places = away;
     sequence = ap (λ v. v.items) sequence;
     unsequence = ap (λ v. v.items) unsequence;
     spare = spare;
+    store = store;
   }
 
   sound_left : (gone : List ℕ) → TakesAway gone old.tokens.entries new.tokens.entries
-      → ((n : ℕ) → count n gone ≤ count n (outgoing_numbers old.outgoing.items)) → AreSound new
+      → ((n : ℕ) → count n gone ≤ count n (outgoing_numbers old.outgoing.items)) → AreSound store_of new
   sound_left gone away fewer = record {
-    kept = kept_left gone (view_of old) (view_of new) sound.kept (leaves gone away) fewer;
+    kept = kept_left gone (view_of store_of old) (view_of store_of new) sound.kept (leaves gone away) fewer;
+    of_store = subst (λ s. AreOfStore s new.tokens.entries) (sym store)
+        (still_all (λ file. file.name.store ≡ store_of old.store.value) gone old.tokens.entries new.tokens.entries away
+        sound.of_store);
     room = record {
       sequence_room = subst (λ v. vec_len v + new.spare.sequence ≤ vec_capacity v) (sym sequence)
           (subst (λ s. vec_len old.sequence + s.sequence ≤ vec_capacity old.sequence) (sym spare)
@@ -138,7 +147,7 @@ module _ {F S R P : Type 0} (doubted : List (Option FileNumber)) (old new : Insi
           let promised = ap (λ s. s.outgoing) spare in
           omega (arith, sound.room.outgoing_room, len, capacity, promised);
     };
-    least = subst (λ l. IsLeastOf l (listed_borns (view_of new))) (sym least)
+    least = subst (λ l. IsLeastOf l (listed_borns (view_of store_of new))) (sym least)
         (subst (λ entries. IsLeastOf old.least (map (λ entry. entry.born.0) entries))
         (λ i. sym (ap (λ v. v.items) sequence) i ++ sym (ap (λ v. v.items) unsequence) i) sound.least);
   }
@@ -151,7 +160,7 @@ module _ {F S R P : Type 0} (doubted : List (Option FileNumber)) (old new : Insi
   SomeLeave = (stop : StopsSweepAt doubted old.tokens.entries old.outgoing.items)
       × TakesAway (tried_numbers doubted old.tokens.entries stop) old.tokens.entries new.tokens.entries
 
-  pub swept_sound : (result : Result ℕ Failed) → OnOk result AllLeave → OnErr result SomeLeave → AreSound new
+  pub swept_sound : (result : Result ℕ Failed) → OnOk result AllLeave → OnErr result SomeLeave → AreSound store_of new
   swept_sound (Ok count) ok err =
       sound_left (free_numbers doubted old.tokens.entries old.outgoing.items) ok
       (λ n. count_fewer n (is_free doubted old.tokens.entries) old.outgoing.items)
@@ -161,14 +170,16 @@ module _ {F S R P : Type 0} (doubted : List (Option FileNumber)) (old new : Insi
       (err.0.are ∙ sym (append_assoc err.0.before (err.0.failed ∷ []) err.0.behind)))
 
   pub swept_ok : (result : Result ℕ Failed) → OnOk result AllLeave
-      → OnOk result (LeavesWithout (free_numbers doubted (view_of old).places (view_of old).outgoing) (view_of old)
-      (view_of new))
+      → OnOk result (LeavesWithout
+      (free_numbers doubted (view_of store_of old).places (view_of store_of old).outgoing) (view_of store_of old)
+      (view_of store_of new))
   swept_ok (Ok count) ok = leaves (free_numbers doubted old.tokens.entries old.outgoing.items) ok
   swept_ok (Err fault) ok = tt
 
   pub swept_failed : (result : Result ℕ Failed) → OnErr result SomeLeave
-      → OnErr result ((stop : StopsSweepAt doubted (view_of old).places (view_of old).outgoing)
-      × LeavesWithout (tried_numbers doubted (view_of old).places stop) (view_of old) (view_of new))
+      → OnErr result ((stop : StopsSweepAt doubted (view_of store_of old).places (view_of store_of old).outgoing)
+      × LeavesWithout (tried_numbers doubted (view_of store_of old).places stop) (view_of store_of old)
+      (view_of store_of new))
   swept_failed (Ok count) err = tt
   swept_failed (Err fault) err = (err.0, leaves (tried_numbers doubted old.tokens.entries err.0) err.1)
 

@@ -10,19 +10,23 @@ use Rattle.tsdb_fileset.specs.Places.{KeptFile, Places, file_at, place_of_number
 use Rattle.tsdb_fileset.specs.Room.{no_room}
 use Rattle.tsdb_base.specs.Lists.{count, if_some}
 use Rattle.tsdb_flush.specs.Places.{is_path}
+use Rattle.tsdb_outside.specs.Files.{Store}
 use Rattle.tsdb_plan.specs.declared.entry.FileEntry.{FileEntry}
 
--- the places, the two lists, the files on their way out, and the places promised to jobs that are out
+-- the store that the files are of, the places, the two lists, the files on their way out, and the places promised to
+-- jobs that are out
 pub record KeptFiles : Type 0 where
+  pub store : Store
   pub places : Places
   pub sequence : List FileEntry
   pub unsequence : List FileEntry
   pub outgoing : List Outgoing
   pub spare : Spare
 
--- nothing is kept
-abbrev pub none_kept : KeptFiles
-none_kept = record { places = []; sequence = []; unsequence = []; outgoing = []; spare = no_room }
+-- nothing is kept of the store
+abbrev pub none_kept : Store → KeptFiles
+none_kept store =
+    record { store = store; places = []; sequence = []; unsequence = []; outgoing = []; spare = no_room }
 
 -- the file that is kept under the number
 abbrev pub kept_file : ℕ → KeptFiles → Option KeptFile
@@ -63,8 +67,9 @@ listed_borns files = map (λ entry. entry.born.0) (files.sequence ++ files.unseq
 abbrev pub AreKept : KeptFiles → Type 0
 AreKept files = (number : ℕ) → count number (all_numbers files) ≡ length (if_some (kept_file number files))
 
--- the two lists and the outgoing files stay
+-- the store, the two lists and the outgoing files stay
 pub record KeepsLists (old new : KeptFiles) : Type 0 where
+  pub store : new.store ≡ old.store
   pub sequence : new.sequence ≡ old.sequence
   pub unsequence : new.unsequence ≡ old.unsequence
   pub outgoing : new.outgoing ≡ old.outgoing

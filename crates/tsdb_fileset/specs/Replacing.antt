@@ -57,6 +57,7 @@ pub record HasReplaced (space : Space) (sequence unsequence : Run) (output : Opt
       ≡ replace_run unsequence (if_some (output_in Unsequence space output)) old.unsequence
   pub outgoing_is : new.outgoing
       ≡ old.outgoing ++ (leaving_run sequence old.sequence ++ leaving_run unsequence old.unsequence)
+  pub store_is : new.store ≡ old.store
 
 -- a compaction needs a place for its output in the list of its space, and one for each input among the outgoing files
 abbrev pub compaction_room : Space → ℕ → Spare

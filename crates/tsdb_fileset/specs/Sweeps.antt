@@ -41,6 +41,7 @@ pub record LeavesWithout (numbers : List ℕ) (old new : KeptFiles) : Type 0 whe
   pub sequence : new.sequence ≡ old.sequence
   pub unsequence : new.unsequence ≡ old.unsequence
   pub spare : new.spare ≡ old.spare
+  pub store : new.store ≡ old.store
 
 -- a file that may go could not be removed; those before it that may go are removed, and those behind it are not tried
 pub record StopsSweepAt (doubted : List (Option FileNumber)) (places : Places) (outgoing : List Outgoing) : Type 0 where

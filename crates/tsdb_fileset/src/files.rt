@@ -21,6 +21,7 @@ use crate::sweeping::{keep_placed, remove_free};
 use std::alloc::Global;
 use std::collections::BTreeMap;
 use std::marker::Model;
+use std::snapshot::Snapshot;
 use tsdb_base::{FileNumber, Memory, Space, Stamp};
 use tsdb_flush::{Built, lesser};
 use tsdb_outside::{Failed, Files};
@@ -34,9 +35,12 @@ pub struct Outgoing {
     pub born: Stamp,
 }
 
-/// The kept files. A contract sees the places that were made for numbers, each with what is kept of its file where that
-/// is there, the entries of the two lists, the outgoing files, and the room promised to jobs that are out.
+/// The kept files. A contract sees the store that they are of, the places that were made for numbers, each with what
+/// is kept of its file where that is there, the entries of the two lists, the outgoing files, and the room promised to
+/// jobs that are out.
 pub struct KeptFiles<F: Files> {
+    // What hands the files out, as it was at first: it says which store they are of, also where there is no file.
+    store: Snapshot<F>,
     tokens: Places<F>,
     sequence: Vec<FileEntry>,
     unsequence: Vec<FileEntry>,
@@ -52,9 +56,9 @@ impl<F: Files> Model for KeptFiles<F> {
 
     ghost Value = { KeptFiles };
 
-    ghost view = { view_of };
+    ghost view = { view_of F.store };
 
-    ghost invariant = { AreSound };
+    ghost invariant = { AreSound F.store };
 }
 
 impl<F: Files> KeptFiles<F> {
@@ -70,11 +74,12 @@ impl<F: Files> KeptFiles<F> {
     ghost use Rattle.tsdb_fileset.specs.Room.{HasRoom, flush_room as flush_room_of, less_room as less_room_of, more_room};
     ghost use Rattle.tsdb_fileset.specs.Sweeps.{LeavesWithout, StopsSweepAt, free_numbers, tried_numbers};
 
-    /// No file.
-    pub fn new(alloc: Global) -> KeptFiles<F>
-        ensures { result ≡ none_kept }
+    /// No file of the store of these files.
+    pub fn new(alloc: Global, files: &F) -> KeptFiles<F>
+        ensures { result ≡ none_kept (F.store files.now) }
     {
         KeptFiles {
+            store: Snapshot::of(files),
             tokens: BTreeMap::new(alloc),
             sequence: Vec::new(alloc),
             unsequence: Vec::new(alloc),
@@ -176,6 +181,7 @@ impl<F: Files> KeptFiles<F> {
         requires outgoing { run_length sequence + run_length unsequence ≤ self.old.spare.outgoing }
         requires numbered { IfSome output (λ built. built.entry.number.0 ≡ number.0) }
         requires no_rights { IfSome output (λ built. F.Sealed.rights built.sealed ≡ 0) }
+        requires store { IfSome output (λ built. (F.Sealed.file built.sealed).store ≡ self.old.store) }
         ensures lists { HasReplaced space sequence unsequence (option_map (λ built. built.entry) output) self.old
             self.new }
         ensures file { kept_file number.0 self.new ≡ option_map
@@ -233,12 +239,14 @@ impl<F: Files> KeptFiles<F> {
         requires place { IsOpen built.entry.number.0 self.old }
         requires room { HasRoom space self.old.spare }
         requires no_rights { F.Sealed.rights built.sealed ≡ 0 }
+        requires store { (F.Sealed.file built.sealed).store ≡ self.old.store }
         ensures entry { Appends space built.entry self.old self.new }
         ensures outgoing { self.new.outgoing ≡ self.old.outgoing }
         ensures file { kept_file built.entry.number.0 self.new
             ≡ Some (record { name = F.Sealed.file built.sealed; series = built.series; rights = 0 }) }
         ensures others { OthersStay built.entry.number.0 self.old.places self.new.places }
         ensures room { self.new.spare ≡ less_room_of space self.old.spare }
+        ensures store { self.new.store ≡ self.old.store }
     {
         let Built {
             sealed,
@@ -260,6 +268,7 @@ impl<F: Files> KeptFiles<F> {
         requires place { IsOpen built.entry.number.0 self.old }
         requires room { HasRoom space self.old.spare }
         requires no_rights { F.Sealed.rights built.sealed ≡ 0 }
+        requires store { (F.Sealed.file built.sealed).store ≡ self.old.store }
         ensures sequence { self.new.sequence ≡ self.old.sequence }
         ensures unsequence { self.new.unsequence ≡ self.old.unsequence }
         ensures outgoing { self.new.outgoing
@@ -268,6 +277,7 @@ impl<F: Files> KeptFiles<F> {
             ≡ Some (record { name = F.Sealed.file built.sealed; series = built.series; rights = 0 }) }
         ensures others { OthersStay built.entry.number.0 self.old.places self.new.places }
         ensures room { self.new.spare ≡ less_room_of space self.old.spare }
+        ensures store { self.new.store ≡ self.old.store }
     {
         let Built {
             sealed,
@@ -330,7 +340,8 @@ impl<F: Files> KeptFiles<F> {
 
     /// It does nothing, and tells what always holds of the kept files.
     pub fn sound(&self)
-        ensures { AreKept self.now }
+        ensures kept { AreKept self.now }
+        ensures of_store { AreOfStore self.now.store self.now.places }
     {
         // (a type's invariant is at hand where a field is used)
         let _ = &self.outgoing;
@@ -344,7 +355,7 @@ impl<F: Files> KeptFiles<F> {
         port: &mut F::Port,
         doubted: [Option<FileNumber>; 2],
     ) -> Result<u64, Failed>
-        requires store { AreOfStore (F.Port.store port.old) self.old.places }
+        requires store { F.Port.store port.old ≡ self.old.store }
         ensures count { IfOk result (λ count. count
             ≡ length (free_numbers doubted self.old.places self.old.outgoing)) }
         ensures swept { OnOk result
@@ -409,7 +420,7 @@ impl<F: Files> KeptFiles<F> {
     /// Gives each token back to its store, in order of the numbers; no other file comes to be at rest.
     pub fn close(self, files: &mut F)
         requires no_rights { AreUnread self.places }
-        requires store { AreOfStore (F.store files.old) self.places }
+        requires store { F.store files.old ≡ self.store }
         ensures at_rest { WhereTold (ArePutBack (names_at self.places)) (F.at_rest files.old) (F.at_rest files.new) }
         ensures rising { AreNumbersRising self.places }
         ensures kept { AreKept self }
@@ -417,6 +428,7 @@ impl<F: Files> KeptFiles<F> {
         ensures faults { F.faults files.new ≡ F.faults files.old }
     {
         let KeptFiles {
+            store: _,
             tokens,
             sequence: _,
             unsequence: _,

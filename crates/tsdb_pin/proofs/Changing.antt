@@ -39,6 +39,7 @@ pub changed_twice : (f g h : ℕ → KeptFile → KeptFile) (a b c : KeptFiles)
 changed_twice f g h a b c both first second = record {
   places = λ n. second.places n ∙ ap (at_place (g n)) (first.places n) ∙ both_at (f n) (g n) (h n) (both n) (place_of_number n a.places);
   lists = record {
+    store = second.lists.store ∙ first.lists.store;
     sequence = second.lists.sequence ∙ first.lists.sequence;
     unsequence = second.lists.unsequence ∙ first.lists.unsequence;
     outgoing = second.lists.outgoing ∙ first.lists.outgoing;
@@ -62,7 +63,7 @@ changed_as f g a b same change = record {
     as_at f g same (Some (Some file)) = ap (λ (x : KeptFile). Some (Some x)) (same file)
 
 pub same_lists : (a : KeptFiles) → KeepsLists a a
-same_lists a = record { sequence = refl; unsequence = refl; outgoing = refl }
+same_lists a = record { store = refl; sequence = refl; unsequence = refl; outgoing = refl }
 
 pub nothing_changed : (a : KeptFiles) → ChangesNoFile a a
 nothing_changed a = record {

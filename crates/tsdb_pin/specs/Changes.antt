@@ -17,7 +17,8 @@ more_rights more file = record file { rights = file.rights + more }
 abbrev pub fewer_rights : ℕ → KeptFile → KeptFile
 fewer_rights fewer file = record file { rights = file.rights - fewer }
 
--- Each kept file has become another, as its number says. No file comes or goes, and the lists and the room stay.
+-- Each kept file has become another, as its number says. No file comes or goes, and the store, the lists and the room
+-- stay.
 pub record ChangesFiles (change : ℕ → KeptFile → KeptFile) (old new : KeptFiles) : Type 0 where
   pub places : (number : ℕ)
       → place_of_number number new.places ≡ option_map (λ place. option_map (change number) place)

@@ -2,11 +2,11 @@
 use Rattle.std.proofs.Common.{◌≡◌, ℕ, List, [], Option, None, Some, arith, refl, sym, subst, ap, ◌∙◌}
 use Rattle.std.specs.Option.{option_map}
 use Rattle.std.specs.Prelude.{IfSome}
-use Rattle.tsdb_serving.specs.Core.{files_of, logged_of, next_of}
-use Rattle.tsdb_serving.specs.Pins.{IsNotPinned, IsPinned, IsUnpinned}
+use Rattle.tsdb_serving.specs.Core.{files_of, logged_of, next_of, store_of}
+use Rattle.tsdb_serving.specs.Pins.{ChangesRights, IsNotPinned, IsPinned, IsUnpinned}
 use Rattle.tsdb_serving.specs.CoreType.{Core}
 use Rattle.tsdb_frames.proofs.CallLemmas.{same_keeps_to_slot}
-use Rattle.tsdb_pin.specs.Places.{KeptFile, file_at, place_of_number}
+use Rattle.tsdb_pin.specs.Places.{AreOfStore, KeptFile, file_at, place_of_number}
 use Rattle.tsdb_base.specs.Lists.{count}
 use Rattle.tsdb_memory.specs.LogState.{log_of}
 use Rattle.tsdb_model.specs.State as plain
@@ -52,6 +52,12 @@ module _ {J F S R P : Type 0} {means : disk.Ghosts J} {counts : counted.Ghosts J
     held = serving.held;
   }
 
+  -- what is kept once a pin is taken is of the store of the port
+  pub still_of : (store : Store) (old new : Core J F S R P means counts) → ChangesRights old new → IsReady store old
+      → AreOfStore (store_of new) (files_of new).places → AreOfStore store (files_of new).places
+  still_of store old new rest ready are =
+      subst (λ s. AreOfStore s (files_of new).places) (rest.store ∙ sym ready.of_store) are
+
   module _ (name : R → NamedFile) (old mid new : Core J F S R P means counts) (pin : Pin F S R P)
       (took : IsPinned name old mid pin) (gave : IsUnpinned mid new pin) where
     pub ready_still : (store : Store) → IsReady store old → IsReady store new
@@ -60,7 +66,7 @@ module _ {J F S R P : Type 0} {means : disk.Ghosts J} {counts : counted.Ghosts J
       unread = λ n. none_out (place_of_number n (files_of old).places) (place_of_number n (files_of mid).places)
           (place_of_number n (files_of new).places) (count n (column_numbers pin.columns)) (took.rights.places n)
           (gave.rights.places n) (ready.unread n);
-      of_store = gave.rest.store store (took.rest.store store ready.of_store);
+      of_store = ready.of_store ∙ sym (gave.rest.store ∙ took.rest.store);
     }
 
     pub same_log : log_of (logged_of new) ≡ log_of (logged_of old)

@@ -87,6 +87,8 @@ fn answer_rows<J: Journal, F: Files>(
         Err(PinFault::WrongType) => return Reply::Plain(Answer::WrongType),
         Err(PinFault::Memory) => return Reply::Plain(Answer::Memory),
     };
+    // (it tells that the kept files, and so the rights of the pin, are of the store of the core)
+    core.sound();
     let lines = tsdb_pins::select(alloc, &pin, port);
     core.unpin(pin);
     match lines {

@@ -123,6 +123,8 @@ fn answer_values<J: Journal, F: Files>(
         Err(PinFault::WrongType) => return Reply::Plain(Answer::WrongType),
         Err(PinFault::Memory) => return Reply::Plain(Answer::Memory),
     };
+    // (it tells that the kept files, and so the rights of the pin, are of the store of the core)
+    core.sound();
     let values = read_values::<F, Brand>(alloc, &pin, port, Blank::new(1));
     core.unpin(pin);
     match values {

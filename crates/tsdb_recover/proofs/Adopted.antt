@@ -17,7 +17,7 @@ use Rattle.tsdb_fileset.specs.StateOfFiles.{TellTheirBytes, entry_of}
 use Rattle.tsdb_state.specs.StoredEngine.{kept_bytes}
 use Rattle.tsdb_index.specs.declared.index.FileMeta.{FileMeta}
 use Rattle.tsdb_fileset.specs.Files.{AreKept, KeptFiles, kept_file, none_kept}
-use Rattle.tsdb_fileset.specs.Places.{AreOfStore, KeptFile}
+use Rattle.tsdb_fileset.specs.Places.{KeptFile}
 use Rattle.tsdb_base.proofs.Lists.{among_left, among_right}
 use Rattle.tsdb_base.specs.Lists.{Among}
 use Rattle.tsdb_log.specs.declared.record.LogRecord.{LogRecord}
@@ -34,7 +34,8 @@ use Rattle.tsdb_state.specs.StoreOrder.{StoreInOrder}
 
 -- ---- the beginning, and the next file
 
-pub begun : (files : KeptFiles) (store : StoreState) → files ≡ none_kept → AreFirstOf files store
+pub begun : {directory : Store} (files : KeptFiles) (store : StoreState) → files ≡ none_kept directory
+    → AreFirstOf files store
 begun files store is = subst (λ f. AreFirstOf f store) (sym is) (record {
   sequence = record { others = store.sequence; is = refl };
   unsequence = record { others = store.unsequence; is = refl };
@@ -89,11 +90,6 @@ module _ (name : NamedFile) (meta : FileMeta) (store : StoreState) (old new : Ke
   pub still_first : AreFirstOf old store → AreFirstOf new store
   still_first first = first_with store adopted.space adopted.file adopted.entry token old new adopted.taken adopted.wanted
       adopted.kept.number adopted.kept.born adopted.kept.free refl first
-
-  pub of_store : (directory : Store) → AreOfStore directory old.places → name.store ≡ directory
-      → AreOfStore directory new.places
-  of_store directory all is = of_each adopted.space adopted.entry token old new adopted.taken
-      (λ n (f : KeptFile). f.name.store ≡ directory) all is
 
   pub tell_more : (kept : List StoredFile) → name.number ≡ adopted.file.number → TellTheirBytes old kept
       → name.bytes ≡ kept_bytes kept name.number → TellTheirBytes new kept

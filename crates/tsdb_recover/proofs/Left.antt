@@ -232,13 +232,13 @@ module _ {F S R P : Type 0} (old new : Adopting F S R P) (opening : Opening)
     (begins : (items : List LogRecord) (recorded : Recorded) → IsOpeningOf opening recorded
     → Replays store_steps store_steps.new_store items recorded → IsAdoptingOf old recorded) where
   -- what is at rest after an error, once each token is given back
-  pub has_left : (store : Store) (start mid now : Option (List StoredFile)) (answer : OpenFault)
-      → adopting_files old ≡ none_kept → HasTakenUp store old new start mid (Err answer)
+  pub has_left : {directory : Store} (start mid now : Option (List StoredFile)) (answer : OpenFault)
+      → adopting_files old ≡ none_kept directory → HasTakenUp old new start mid (Err answer)
       → WhereTold (ArePutBack (names_at (adopting_files new).places)) mid now → AreNumbersRising (adopting_files new).places
       → AreKept (adopting_files new) → IfSome start (λ stored. (items : List LogRecord) (recorded : Recorded)
       → IsReplay opening items recorded → AreStored stored → IsSomeAnd now (AreLeft (IsUnlisted recorded.store) stored))
-  has_left store None mid now answer none takes puts rising are_kept = tt
-  has_left store (Some stored) mid now answer none takes puts rising are_kept = λ items recorded replay are.
+  has_left None mid now answer none takes puts rising are_kept = tt
+  has_left (Some stored) mid now answer none takes puts rising are_kept = λ items recorded replay are.
       let adopting = begins items recorded replay.shown replay.replayed in
       by recorded are (takes.goes_on.adopting recorded adopting) takes.left.before mid takes.left.gone
       (takes.left.taken stored recorded adopting (begun stored recorded.store (adopting_files old) none are)) puts
@@ -276,14 +276,14 @@ module _ {F S R P : Type 0} (old new : Adopting F S R P) (opening : Opening)
               ∙ (kept_where_listed files recorded.store n are_kept later.first wanted).1 among)
 
   -- a damaged store has each of its files
-  pub has_kept : (store : Store) (start mid now : Option (List StoredFile)) (answer : OpenFault)
-      → adopting_files old ≡ none_kept → HasTakenUp store old new start mid (Err answer)
+  pub has_kept : {directory : Store} (start mid now : Option (List StoredFile)) (answer : OpenFault)
+      → adopting_files old ≡ none_kept directory → HasTakenUp old new start mid (Err answer)
       → WhereTold (ArePutBack (names_at (adopting_files new).places)) mid now → AreNumbersRising (adopting_files new).places
       → AreKept (adopting_files new) → IfSome start (λ stored. (items : List LogRecord) (recorded : Recorded)
       → IsReplay opening items recorded → AreStored stored → (part : Part) (at : ℕ) → answer ≡ fault.Damaged part at
       → IsSomeAnd now (AreLeft NoneMayGo stored))
-  has_kept store None mid now answer none takes puts rising are_kept = tt
-  has_kept store (Some stored) mid now answer none takes puts rising are_kept = λ items recorded replay are part at is.
+  has_kept None mid now answer none takes puts rising are_kept = tt
+  has_kept (Some stored) mid now answer none takes puts rising are_kept = λ items recorded replay are part at is.
       let adopting = begins items recorded replay.shown replay.replayed in
       by recorded are (takes.goes_on.adopting recorded adopting) takes.left.before mid part at is takes.left.gone
       (takes.left.taken stored recorded adopting (begun stored recorded.store (adopting_files old) none are)) puts

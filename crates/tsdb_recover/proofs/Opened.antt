@@ -24,8 +24,8 @@ use Rattle.tsdb_state.specs.Stores.{Recorded}
 use Rattle.tsdb_state.specs.State.{StoreState}
 
 -- at the beginning all files are at rest
-pub begun : (stored : List StoredFile) (store : StoreState) (files : KeptFiles) → files ≡ none_kept → AreStored stored
-    → IsTakingUp stored store files (Some stored)
+pub begun : {directory : Store} (stored : List StoredFile) (store : StoreState) (files : KeptFiles)
+    → files ≡ none_kept directory → AreStored stored → IsTakingUp stored store files (Some stored)
 begun stored store files none are =
     subst (λ f. IsTakingUp stored store f (Some stored)) (sym none) (record {
       taken = record {
@@ -59,8 +59,9 @@ none_left stored files list mid now are rest gone exact =
         (found_contains stored n bytes is)) kept
 
 module _ {F S R P : Type 0} (old new : Adopting F S R P) where
-  all_taken : (rest mid now : Option (List StoredFile)) (list : List ℕ) (last : Option FileNumber)
-      → adopting_files old ≡ none_kept → HasTakenMore old new rest mid → AreGoneIn list (adopting_files new) mid now
+  all_taken : {directory : Store} (rest mid now : Option (List StoredFile)) (list : List ℕ) (last : Option FileNumber)
+      → adopting_files old ≡ none_kept directory → HasTakenMore old new rest mid → AreGoneIn list (adopting_files new)
+      mid now
       → IfSome rest (λ files. IsListOf files list) → All IsFileNumber list → IsGreatestNumber last list
       → IfSome rest (λ stored. (recorded : Recorded) → IsAdoptingOf old recorded → AreStored stored
       → AreAllTaken stored recorded.store (adopting_files new) last now)
@@ -86,17 +87,18 @@ module _ {F S R P : Type 0} (old new : Adopting F S R P) where
       (recorded : Recorded) → IsAdoptingOf old recorded → IsTakingUp stored recorded.store (adopting_files old) rest
       → IsFileDamaged (kept_bytes stored) recorded.store part at
 
-  damage_is : (rest : Option (List StoredFile)) (answer : OpenFault) → adopting_files old ≡ none_kept → Damages rest answer
+  damage_is : {directory : Store} (rest : Option (List StoredFile)) (answer : OpenFault)
+      → adopting_files old ≡ none_kept directory → Damages rest answer
       → (part : Part) (at : ℕ) → answer ≡ fault.Damaged part at → IfSome rest (λ stored. (recorded : Recorded)
       → IsAdoptingOf old recorded → AreStored stored → IsFileDamaged (kept_bytes stored) recorded.store part at)
   damage_is None answer none damages part at is = tt
   damage_is (Some stored) answer none damages part at is = λ recorded adopting are.
       damages part at is stored recorded adopting (begun stored recorded.store (adopting_files old) none are)
 
-  pub is_refused : (store : Store) (rest now : Option (List StoredFile)) (answer : OpenFault) → adopting_files old ≡ none_kept
-      → KeepsAdopting store old new → Damages rest answer → HasLeft old new rest now answer
-      → HasTakenUp store old new rest now (Err answer)
-  is_refused store rest now answer none goes damages left = record {
+  pub is_refused : {directory : Store} (rest now : Option (List StoredFile)) (answer : OpenFault)
+      → adopting_files old ≡ none_kept directory → KeepsAdopting old new → Damages rest answer
+      → HasLeft old new rest now answer → HasTakenUp old new rest now (Err answer)
+  is_refused rest now answer none goes damages left = record {
     left = left;
     goes_on = goes;
     all = tt;
@@ -106,11 +108,12 @@ module _ {F S R P : Type 0} (old new : Adopting F S R P) where
         at same;
   }
 
-  pub is_taken_up : (store : Store) (rest mid now : Option (List StoredFile)) (list : List ℕ) (last : Option FileNumber)
-      → adopting_files old ≡ none_kept → KeepsAdopting store old new → HasAdoptedAll new → HasTakenMore old new rest mid
+  pub is_taken_up : {directory : Store} (rest mid now : Option (List StoredFile)) (list : List ℕ)
+      (last : Option FileNumber) → adopting_files old ≡ none_kept directory → KeepsAdopting old new → HasAdoptedAll new
+      → HasTakenMore old new rest mid
       → AreGoneIn list (adopting_files new) mid now → IfSome rest (λ files. IsListOf files list) → All IsFileNumber list
-      → IsGreatestNumber last list → HasTakenUp store old new rest now (Ok last)
-  is_taken_up store rest mid now list last none goes all taken gone exact numbers is = record {
+      → IsGreatestNumber last list → HasTakenUp old new rest now (Ok last)
+  is_taken_up rest mid now list last none goes all taken gone exact numbers is = record {
     goes_on = goes;
     all = all;
     number = below_end last list is numbers;

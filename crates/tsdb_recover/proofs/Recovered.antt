@@ -25,7 +25,7 @@ use Rattle.tsdb_model.specs.State as plain
 use Rattle.tsdb_redo.specs.Opening.{IsOpeningOf, next_number}
 use Rattle.tsdb_redo.specs.declared.opening.Opening.{Opening}
 use Rattle.tsdb_outside.specs.Disk.{Image, DiskState}
-use Rattle.tsdb_outside.specs.Files.{Store, StoredFile}
+use Rattle.tsdb_outside.specs.Files.{StoredFile}
 use Rattle.tsdb_outside.specs.declared.disk.Disk as disk
 use Rattle.tsdb_outside.specs.declared.disk.Slot.TheVariants.{A}
 use Rattle.tsdb_outside.specs.declared.faults.Counted as counted
@@ -56,9 +56,8 @@ module _ {F S R P : Type 0} (old : Adopting F S R P) (opening : Opening)
     (begins : (items : List LogRecord) (recorded : Recorded) → IsOpeningOf opening recorded
     → Replays store_steps store_steps.new_store items recorded → IsAdoptingOf old recorded) where
   pub has_opened : {J : Type 0} {means : disk.Ghosts J} {counts : counted.Ghosts J} (new : Adopting F S R P)
-      (core : Core J F S R P means counts) (log : Frames J means counts) (store : Store)
-      (rest now : Option (List StoredFile)) (last : Option FileNumber) → HasTakenUp store old new rest now (Ok last)
-      → AreKept (adopting_files new)
+      (core : Core J F S R P means counts) (log : Frames J means counts) (rest now : Option (List StoredFile))
+      (last : Option FileNumber) → HasTakenUp old new rest now (Ok last) → AreKept (adopting_files new)
       → ((items : List LogRecord) (recorded : Recorded) (kept : List StoredFile) (told : ToldContents)
       → IsLog log (map spelling items) None → All IsRecord items
       → Replays store_steps store_steps.new_store items recorded → IsAdoptingOf new recorded
@@ -70,8 +69,8 @@ module _ {F S R P : Type 0} (old : Adopting F S R P) (opening : Opening)
       → ((recorded : Recorded) → IsOpeningOf (opening_of new) recorded → next_of core ≡ next_number last recorded.named)
       → IfSome rest (λ stored. (items : List LogRecord) (recorded : Recorded) → IsReplay opening items recorded
       → AreStored stored → HasOpened core log stored now items recorded)
-  has_opened new core log store None now last takes are_kept seen next = tt
-  has_opened new core log store (Some stored) now last takes are_kept seen next = λ items recorded replay are.
+  has_opened new core log None now last takes are_kept seen next = tt
+  has_opened new core log (Some stored) now last takes are_kept seen next = λ items recorded replay are.
       let adopting = begins items recorded replay.shown replay.replayed in
       let later = takes.goes_on.adopting recorded adopting in
       let all = takes.taken recorded adopting are in

@@ -1,17 +1,16 @@
 -- One part of taking up behind another.
-use Rattle.std.proofs.Common.{◌≡◌, ◌∙◌, ◌+◌, ◌-◌, ◌<◌, ◌≤◌, List, length, map, Option, sym, ap, subst, arith}
+use Rattle.std.proofs.Common.{◌≡◌, ◌∙◌, ◌+◌, ◌-◌, ◌<◌, ◌≤◌, List, length, map, Option, ap, arith}
 use Rattle.std.proofs.Common.{length-append}
 use Rattle.std.proofs.lemmas.List.{length-map}
 use Rattle.tsdb_recover.specs.Adopting.{AreFirst, AreFirstOf, IsAdoptingOf, adopting_files, opening_of}
 use Rattle.tsdb_recover.specs.declared.adopting.Adopting.{Adopting}
 use Rattle.tsdb_fileset.specs.StateOfFiles.{listed}
 use Rattle.tsdb_fileset.specs.Files.{KeptFiles}
-use Rattle.tsdb_fileset.specs.Places.{AreOfStore}
 use Rattle.tsdb_redo.specs.Lists.{file_of}
 use Rattle.tsdb_redo.specs.Opening.{IsOpeningOf, listed_in}
 use Rattle.tsdb_redo.specs.declared.lists.ListedFile.{ListedFile}
 use Rattle.tsdb_redo.specs.declared.opening.Opening.{Opening}
-use Rattle.tsdb_outside.specs.Files.{Store, StoredFile}
+use Rattle.tsdb_outside.specs.Files.{StoredFile}
 use Rattle.tsdb_plan.specs.declared.entry.FileEntry.{FileEntry}
 use Rattle.tsdb_recover.specs.Taking.{KeepsAdopting, HasTakenMore, kept_count}
 use Rattle.tsdb_state.specs.Stores.{Recorded}
@@ -37,33 +36,30 @@ few_kept opening recorded files is first =
     omega (arith, sequence, unsequence)
 
 module _ {F S R P : Type 0} where
-  pub goes_nowhere : (store : Store) (a : Adopting F S R P) → KeepsAdopting store a a
-  goes_nowhere store a = record {
+  pub goes_nowhere : (a : Adopting F S R P) → KeepsAdopting a a
+  goes_nowhere a = record {
     opening = λ i. opening_of a;
     adopting = λ recorded is. is;
-    of_store = λ are. are;
+    store = λ i. (adopting_files a).store;
   }
 
-  pub goes_then : (store now : Store) (a b c : Adopting F S R P) → now ≡ store → KeepsAdopting store a b → KeepsAdopting now b c
-      → KeepsAdopting store a c
-  goes_then store now a b c same one two = record {
+  pub goes_then : (a b c : Adopting F S R P) → KeepsAdopting a b → KeepsAdopting b c → KeepsAdopting a c
+  goes_then a b c one two = record {
     opening = two.opening ∙ one.opening;
     adopting = λ recorded is. two.adopting recorded (one.adopting recorded is);
-    of_store = λ are. subst (λ s. AreOfStore s (adopting_files c).places) same
-        (two.of_store (subst (λ s. AreOfStore s (adopting_files b).places) (sym same) (one.of_store are)));
+    store = two.store ∙ one.store;
   }
 
-  pub takes_then : (store : Store) (a b c : Adopting F S R P) (rest mid now : Option (List StoredFile))
-      → KeepsAdopting store a b
+  pub takes_then : (a b c : Adopting F S R P) (rest mid now : Option (List StoredFile)) → KeepsAdopting a b
       → HasTakenMore a b rest mid → HasTakenMore b c mid now → HasTakenMore a c rest now
-  takes_then store a b c rest mid now goes one two =
+  takes_then a b c rest mid now goes one two =
       λ stored recorded is up. two stored recorded (goes.adopting recorded is) (one stored recorded is up)
 
   -- fewer files are left
-  pub fewer_left : (store now : Store) (a b c : Adopting F S R P) (recorded : Recorded) → IsAdoptingOf a recorded
-      → KeepsAdopting store a b → KeepsAdopting now b c → kept_count (adopting_files c) ≡ kept_count (adopting_files b) + 1
+  pub fewer_left : (a b c : Adopting F S R P) (recorded : Recorded) → IsAdoptingOf a recorded → KeepsAdopting a b
+      → KeepsAdopting b c → kept_count (adopting_files c) ≡ kept_count (adopting_files b) + 1
       → listed_in (opening_of c) - kept_count (adopting_files c) < listed_in (opening_of b) - kept_count (adopting_files b)
-  fewer_left store now a b c recorded is one two more =
+  fewer_left a b c recorded is one two more =
       let later = two.adopting recorded (one.adopting recorded is) in
       let few = few_kept (opening_of c) recorded (adopting_files c) later.opening later.first in
       let same = ap listed_in two.opening in

@@ -14,11 +14,10 @@ use Rattle.tsdb_base.specs.declared.ids.Space.TheVariants.{Sequence, Unsequence}
 use Rattle.tsdb_fileset.specs.StateOfFiles.{entry_of, listed}
 use Rattle.tsdb_fileset.proofs.Counts.{counted}
 use Rattle.tsdb_fileset.specs.Files.{AreKept, KeptFiles, entry_numbers, kept_file, all_numbers, outgoing_numbers}
-use Rattle.tsdb_fileset.specs.Places.{AreOfStore, KeptFile}
+use Rattle.tsdb_fileset.specs.Places.{KeptFile}
 use Rattle.tsdb_base.proofs.Lists.{among_left, among_map, among_right, any_among, each_among, each_append, each_from_among}
 use Rattle.tsdb_base.specs.Lists.{Among, if_some}
 use Rattle.tsdb_log.specs.declared.record.LogRecord.{LogRecord}
-use Rattle.tsdb_outside.specs.Files.{Store}
 use Rattle.tsdb_plan.specs.declared.entry.FileEntry.{FileEntry}
 use Rattle.tsdb_state.specs.Replays.{Replays}
 use Rattle.tsdb_state.specs.Stores.{Recorded, store_steps}
@@ -151,11 +150,6 @@ first_same store old new keeps first = record {
   unread = λ n. subst (λ found. IfSome found (λ (f : KeptFile). f.rights ≡ 0)) (sym (keeps.places.files n)) (first.unread n);
 }
 
-pub store_same : (store : Store) (old new : KeptFiles) → KeepsFileLists old new → AreOfStore store old.places
-    → AreOfStore store new.places
-store_same store old new keeps are = λ n.
-    subst (λ found. IfSome found (λ (f : KeptFile). f.name.store ≡ store)) (sym (keeps.places.files n)) (are n)
-
 -- places are made, and then a file is taken up
 pub taken_from : (space : Space) (entry : FileEntry) (token : KeptFile) (old made new : KeptFiles)
     → KeepsFileLists old made → TakesUp space entry token made new → TakesUp space entry token old new
@@ -164,12 +158,14 @@ taken_from Sequence entry token old made new keeps taken = record {
   outgoing = taken.outgoing ∙ keeps.lists.outgoing;
   here = taken.here;
   others = λ n apart. taken.others n apart ∙ keeps.places.files n;
+  store = taken.store ∙ keeps.lists.store;
 }
 taken_from Unsequence entry token old made new keeps taken = record {
   list = (taken.list.0 ∙ keeps.lists.sequence, taken.list.1 ∙ ap (λ l. l ++ entry ∷ []) keeps.lists.unsequence);
   outgoing = taken.outgoing ∙ keeps.lists.outgoing;
   here = taken.here;
   others = λ n apart. taken.others n apart ∙ keeps.places.files n;
+  store = taken.store ∙ keeps.lists.store;
 }
 
 -- the wanted file is not kept yet

@@ -86,12 +86,13 @@ module _ {F S R P : Type 0} where
     pub is : IsAdoptingOf adopting recorded
     pub all : wanted_file (adopting_files adopting) recorded.store ≡ None
 
--- a file goes to the end of its list with its token, and all others stay
+-- a file goes to the end of its list with its token, and all others stay, as does the store
 pub record TakesUp (space : Space) (entry : FileEntry) (token : KeptFile) (old new : KeptFiles) : Type 0 where
   pub list : Appends space entry old new
   pub outgoing : new.outgoing ≡ old.outgoing
   pub here : kept_file entry.number.0 new ≡ Some token
   pub others : (number : ℕ) → entry.number.0 ≢ number → kept_file number new ≡ kept_file number old
+  pub store : new.store ≡ old.store
 
 -- what is kept of the file of which this was read: what a flush keeps of the file of these series
 pub record IsKeptOf (meta : FileMeta) (file : File) (entry : FileEntry) (series : List (List ℕ)) : Type 0 where

@@ -11,9 +11,9 @@ use Rattle.tsdb_base.specs.declared.ids.Space.TheVariants.{Sequence}
 use Rattle.tsdb_fileset.specs.StateOfFiles.{TellTheirBytes, listed}
 use Rattle.tsdb_state.specs.StoredEngine.{IsKeptWhole, kept_bytes}
 use Rattle.tsdb_fileset.specs.Files.{KeptFiles, kept_file}
-use Rattle.tsdb_fileset.specs.Places.{AreOfStore, KeptFile}
+use Rattle.tsdb_fileset.specs.Places.{KeptFile}
 use Rattle.tsdb_base.specs.Causes.{Rose}
-use Rattle.tsdb_outside.specs.Files.{Store, StoredFile, stored_file_numbers}
+use Rattle.tsdb_outside.specs.Files.{StoredFile, stored_file_numbers}
 use Rattle.tsdb_outside.specs.Limits.{FitsSlot}
 use Rattle.tsdb_recover.specs.declared.fault.OpenFault.{OpenFault}
 use Rattle.tsdb_recover.specs.declared.fault.OpenFault.TheVariants as fault
@@ -69,11 +69,11 @@ abbrev pub IsNextFile : ℕ → KeptFiles → StoreState → Type 0
 IsNextFile number files store = IsSomeAnd (wanted_file files store) (λ wanted. wanted.1.number ≡ number)
 
 module _ {F S R P : Type 0} where
-  -- the log goes on to say what is listed, and the files stay in their store
-  pub record KeepsAdopting (store : Store) (old new : Adopting F S R P) : Type 0 where
+  -- the log goes on to say what is listed, and the files are of the same store
+  pub record KeepsAdopting (old new : Adopting F S R P) : Type 0 where
     pub opening : opening_of new ≡ opening_of old
     pub adopting : (recorded : Recorded) → IsAdoptingOf old recorded → IsAdoptingOf new recorded
-    pub of_store : AreOfStore store (adopting_files old).places → AreOfStore store (adopting_files new).places
+    pub store : (adopting_files new).store ≡ (adopting_files old).store
 
   -- more files are taken up
   abbrev pub HasTakenMore : Adopting F S R P → Adopting F S R P → Option (List StoredFile) → Option (List StoredFile)
@@ -131,10 +131,10 @@ module _ {F S R P : Type 0} where
     pub gone : (now ≡ before) ⊎ (HasAdoptedAll new × AreGoneIn [] (adopting_files new) before now × NoDamage answer)
 
   -- All listed files were taken up and all others removed, or a fault came. Before it these were at rest.
-  pub record HasTakenUp (store : Store) (old new : Adopting F S R P) (rest now : Option (List StoredFile))
+  pub record HasTakenUp (old new : Adopting F S R P) (rest now : Option (List StoredFile))
       (result : Result (Option FileNumber) OpenFault)
       : Type 0 where
-    pub goes_on : KeepsAdopting store old new
+    pub goes_on : KeepsAdopting old new
     pub all : OnOk result (HasAdoptedAll new)
     pub number : IfOk result (λ last. IfSome last (λ number. number.0 < end_of_numbers))
     pub taken : IfOk result (λ last. IfSome rest (λ stored. (recorded : Recorded) → IsAdoptingOf old recorded

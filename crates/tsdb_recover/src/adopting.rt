@@ -7,12 +7,11 @@ ghost use Rattle.tsdb_recover.specs.Steps.{HasPlaceFor, KeepsFileLists, state_fi
 ghost use Rattle.tsdb_fileset.specs.StateOfFiles.{TellTheirBytes};
 ghost use Rattle.tsdb_state.specs.StoredEngine.{kept_bytes};
 ghost use Rattle.tsdb_fileset.specs.Files.{AreKept, IsOpen, kept_file, none_kept};
-ghost use Rattle.tsdb_fileset.specs.Places.{AreOfStore};
 ghost use Rattle.tsdb_fileset.specs.Room.{HasRoom};
 ghost use Rattle.tsdb_log.specs.declared.record.LogRecord.{LogRecord};
 ghost use Rattle.tsdb_redo.specs.Lists.{file_of};
 ghost use Rattle.tsdb_redo.specs.Opening.{IsOpeningOf};
-ghost use Rattle.tsdb_outside.specs.Files.{Store, StoredFile};
+ghost use Rattle.tsdb_outside.specs.Files.{StoredFile};
 ghost use Rattle.tsdb_state.specs.Replays.{Replays};
 ghost use Rattle.tsdb_state.specs.Stores.{Recorded, store_steps};
 ghost use Rattle.tsdb_state.specs.State.{ToldContents};
@@ -46,17 +45,17 @@ pub struct AdoptRefused<F: Files> {
 impl<F: Files> Adopting<F> {
     ghost use Rattle.tsdb_recover.specs.Adopting.{IsAdoptingOf, MayAdopt, adopting_files, opening_of};
 
-    /// No file so far.
-    pub fn new(alloc: Global, opening: Opening) -> Adopting<F>
+    /// No file of the store of these files so far.
+    pub fn new(alloc: Global, opening: Opening, files: &F) -> Adopting<F>
         ensures begins { (items : ListOf LogRecord) (recorded : Recorded) → IsOpeningOf opening recorded
             → Replays store_steps store_steps.new_store items recorded → IsAdoptingOf result recorded }
         ensures opening { opening_of result ≡ opening }
-        ensures files { adopting_files result ≡ none_kept }
+        ensures files { adopting_files result ≡ none_kept (F.store files.now) }
     {
         Adopting {
             alloc,
             opening,
-            files: KeptFiles::new(alloc),
+            files: KeptFiles::new(alloc, files),
         }
     }
 
@@ -112,6 +111,7 @@ impl<F: Files> Adopting<F> {
     pub fn adopt(&mut self, sealed: F::Sealed, meta: &FileMeta) -> Result<(), AdoptRefused<F>>
         requires wanted { MayAdopt (F.Sealed.file sealed).number self.old }
         requires no_rights { F.Sealed.rights sealed ≡ 0 }
+        requires store { (F.Sealed.file sealed).store ≡ (adopting_files self.old).store }
         ensures opening { opening_of self.new ≡ opening_of self.old }
         ensures adopting { (recorded : Recorded) → IsAdoptingOf self.old recorded → IsAdoptingOf self.new recorded }
         ensures adopted { OnOk result ((recorded : Recorded) → IsAdoptingOf self.old recorded
@@ -123,8 +123,7 @@ impl<F: Files> Adopting<F> {
         ensures told { OnOk result ((kept : ListOf StoredFile) → TellTheirBytes (adopting_files self.old) kept
             → (F.Sealed.file sealed).bytes ≡ kept_bytes kept (F.Sealed.file sealed).number
             → TellTheirBytes (adopting_files self.new) kept) }
-        ensures store { (store : Store) → AreOfStore store (adopting_files self.old).places
-            → (F.Sealed.file sealed).store ≡ store → AreOfStore store (adopting_files self.new).places }
+        ensures store { (adopting_files self.new).store ≡ (adopting_files self.old).store }
         ensures token { IfErr result (λ refused. refused.sealed ≡ sealed) }
         ensures same { OnErr result (KeepsFileLists (adopting_files self.old) (adopting_files self.new)) }
     {
@@ -167,6 +166,7 @@ impl<F: Files> Adopting<F> {
         requires place { IsOpen described.entry.number.0 (adopting_files self.old) }
         requires room { HasRoom space (adopting_files self.old).spare }
         requires no_rights { F.Sealed.rights sealed ≡ 0 }
+        requires store { (F.Sealed.file sealed).store ≡ (adopting_files self.old).store }
         ensures rest { self.new ≡ record self.old { files = adopting_files self.new } }
         ensures taken { TakesUp space described.entry
             (record { name = F.Sealed.file sealed; series = described.series; rights = 0 })

@@ -12,7 +12,7 @@ ghost use Rattle.tsdb_fileset.specs.StateOfFiles.{TellTheirBytes};
 ghost use Rattle.tsdb_state.specs.StoredEngine.{IsKeptWhole};
 ghost use Rattle.tsdb_fileset.specs.Closing.{ArePutBack, AreNumbersRising, names_at};
 ghost use Rattle.tsdb_fileset.specs.Files.{AreKept, kept_file};
-ghost use Rattle.tsdb_fileset.specs.Places.{AreOfStore, AreUnread};
+ghost use Rattle.tsdb_fileset.specs.Places.{AreUnread};
 ghost use Rattle.tsdb_base.specs.Lists.{Among};
 ghost use Rattle.tsdb_log.specs.Spelling.{IsRecord, spelling};
 ghost use Rattle.tsdb_log.specs.declared.record.LogRecord.{LogRecord};
@@ -96,7 +96,7 @@ impl<F: Files> Adopting<F> {
     /// files.
     pub fn end(self, files: &mut F)
         requires no_rights { AreUnread (adopting_files self).places }
-        requires store { AreOfStore (F.store files.old) (adopting_files self).places }
+        requires store { F.store files.old ≡ (adopting_files self).store }
         ensures at_rest { WhereTold (ArePutBack (names_at (adopting_files self).places)) (F.at_rest files.old)
             (F.at_rest files.new) }
         ensures rising { AreNumbersRising (adopting_files self).places }

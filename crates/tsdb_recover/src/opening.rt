@@ -5,12 +5,12 @@ ghost use Rattle.std.specs.declared.option.Option.{Option};
 ghost use Rattle.std.specs.List.Sorted.{IsStrictlyIncreasing};
 ghost use Rattle.std.specs.Option.{IsSomeAnd};
 ghost use Rattle.tsdb_recover.specs.Adopting.{HasAdoptedAll, IsAdoptingOf, adopting_files};
-ghost use Rattle.tsdb_core.specs.Core.{KeepsJobs, files_of as core_files, limit_of, logged_of, next_of};
+ghost use Rattle.tsdb_core.specs.Core.{KeepsJobs, files_of as core_files, limit_of, logged_of, next_of, store_of};
 ghost use Rattle.tsdb_core.specs.Limits.{IsPairLimit};
 ghost use Rattle.tsdb_frames.specs.Frames.{disk_of, faults_of, is_in_doubt, journal_of, slot_of};
 ghost use Rattle.tsdb_state.specs.StoredEngine.{kept_bytes};
 ghost use Rattle.tsdb_fileset.specs.Files.{none_kept};
-ghost use Rattle.tsdb_fileset.specs.Places.{AreOfStore, AreUnread};
+ghost use Rattle.tsdb_fileset.specs.Places.{AreUnread};
 ghost use Rattle.tsdb_log.specs.declared.record.LogRecord.{LogRecord};
 ghost use Rattle.tsdb_memory.specs.LogState.{log_of};
 ghost use Rattle.tsdb_model.specs.State as plain;
@@ -72,13 +72,13 @@ pub fn recover<J: Journal, F: Files>(
     ensures damaged_keeps { IfErr result (λ refused. WhereFilesTold (F.at_rest files.old) (λ stored.
         WhereDamaged refused.fault (λ part at. IsSomeAnd (F.at_rest files.new) (AreLeft NoneMayGo stored)))) }
 
-    // Nothing is in doubt, nothing is out, claimed or on its way out, and all files are of the store.
+    // Nothing is in doubt, nothing is out, claimed or on its way out, and the core is of the store of the files.
     ensures no_doubt { IfOk result (λ core. is_in_doubt (log_of (logged_of core)) ≡ false) }
     ensures quiet { IfOk result (λ core. KeepsJobs core [] []) }
     ensures unclaimed { IfOk result (λ core. IsUnclaimed core) }
     ensures none_leaving { IfOk result (λ core. (core_files core).outgoing ≡ []) }
     ensures no_rights { IfOk result (λ core. AreUnread (core_files core).places) }
-    ensures of_store { IfOk result (λ core. AreOfStore (F.store files.old) (core_files core).places) }
+    ensures of_store { IfOk result (λ core. store_of core ≡ F.store files.old) }
     ensures limit { IfOk result (λ core. limit_of core ≡ options.pair_points) }
 
     // It writes nothing.
@@ -122,7 +122,7 @@ fn open_files<J: Journal, F: Files>(
     ensures unclaimed { IfOk result (λ core. IsUnclaimed core) }
     ensures none_leaving { IfOk result (λ core. (core_files core).outgoing ≡ []) }
     ensures no_rights { IfOk result (λ core. AreUnread (core_files core).places) }
-    ensures of_store { IfOk result (λ core. AreOfStore (F.store files.old) (core_files core).places) }
+    ensures of_store { IfOk result (λ core. store_of core ≡ F.store files.old) }
     ensures limit { IfOk result (λ core. limit_of core ≡ options.pair_points) }
     ensures journal { IfErr result (λ refused. refused.journal ≡ journal_of log) }
     ensures same_store { F.store files.new ≡ F.store files.old }
@@ -130,7 +130,7 @@ fn open_files<J: Journal, F: Files>(
     ensures cause { IfErr result (λ refused. refused.fault ≡ OpenFault.Failed
         → Rose (F.faults files.old) (F.faults files.new)) }
 {
-    let mut adopting = Adopting::new(alloc, opening);
+    let mut adopting = Adopting::new(alloc, opening, files);
     match take_up(alloc, &mut adopting, files) {
         Ok(stored) => Ok(adopting.finish(log, stored, options)),
         Err(fault) => {
@@ -150,9 +150,8 @@ fn take_up<F: Files>(
     files: &mut F,
 ) -> Result<Option<FileNumber>, OpenFault>
     requires some { (recorded : Recorded) × IsAdoptingOf adopting.old recorded }
-    requires none { adopting_files adopting.old ≡ none_kept }
-    ensures takes { HasTakenUp (F.store files.old) adopting.old adopting.new (F.at_rest files.old) (F.at_rest files.new)
-        result }
+    requires none { adopting_files adopting.old ≡ none_kept (F.store files.old) }
+    ensures takes { HasTakenUp adopting.old adopting.new (F.at_rest files.old) (F.at_rest files.new) result }
     ensures same_store { F.store files.new ≡ F.store files.old }
     ensures cause { HasOpenCause (F.faults files.old) (F.faults files.new) result }
 {
@@ -175,10 +174,9 @@ fn take_up_through<F: Files>(
     port: &mut F::Port,
 ) -> Result<Option<FileNumber>, OpenFault>
     requires some { (recorded : Recorded) × IsAdoptingOf adopting.old recorded }
-    requires none { adopting_files adopting.old ≡ none_kept }
+    requires none { adopting_files adopting.old ≡ none_kept (F.store files.old) }
     requires port { F.Port.store port.old ≡ F.store files.old }
-    ensures takes { HasTakenUp (F.store files.old) adopting.old adopting.new (F.at_rest files.old) (F.at_rest files.new)
-        result }
+    ensures takes { HasTakenUp adopting.old adopting.new (F.at_rest files.old) (F.at_rest files.new) result }
     ensures same_store { F.store files.new ≡ F.store files.old }
     ensures same_port { F.Port.store port.new ≡ F.Port.store port.old }
     ensures cause { HasFilesCause (F.faults files.old) (F.faults files.new) (F.Port.faults port.old)
@@ -207,7 +205,8 @@ fn take_listed<F: Files>(
 ) -> Result<(), OpenFault>
     requires some { (recorded : Recorded) × IsAdoptingOf adopting.old recorded }
     requires port { F.Port.store port.old ≡ F.store files.old }
-    ensures goes_on { KeepsAdopting (F.store files.old) adopting.old adopting.new }
+    requires store { F.store files.old ≡ (adopting_files adopting.old).store }
+    ensures goes_on { KeepsAdopting adopting.old adopting.new }
     ensures all { OnOk result (HasAdoptedAll adopting.new) }
     ensures taken { OnOk result ((rest : Option (List StoredFile)) × HasTakenMore adopting.old adopting.new
         (F.at_rest files.old) rest × AreGoneIn (plain_numbers numbers.now) (adopting_files adopting.new) rest

@@ -27,7 +27,8 @@ pub(crate) fn adopt_all<F: Files>(
 ) -> Result<(), OpenFault>
     requires some { (recorded : Recorded) × IsAdoptingOf adopting.old recorded }
     requires port { F.Port.store port.old ≡ F.store files.old }
-    ensures goes_on { KeepsAdopting (F.store files.old) adopting.old adopting.new }
+    requires store { F.store files.old ≡ (adopting_files adopting.old).store }
+    ensures goes_on { KeepsAdopting adopting.old adopting.new }
     ensures all { OnOk result (HasAdoptedAll adopting.new) }
     ensures taking { HasTakenMore adopting.old adopting.new (F.at_rest files.old) (F.at_rest files.new) }
     ensures damaged { (part : store_part.Part) (at : ℕ) → IsErrOf result (OpenFault.Damaged part at)
@@ -60,7 +61,8 @@ fn adopt_next<F: Files>(
     requires wanted { (recorded : Recorded) → IsAdoptingOf adopting.old recorded
         → IsNextFile number.0 (adopting_files adopting.old) recorded.store }
     requires port { F.Port.store port.old ≡ F.store files.old }
-    ensures goes_on { KeepsAdopting (F.store files.old) adopting.old adopting.new }
+    requires store { F.store files.old ≡ (adopting_files adopting.old).store }
+    ensures goes_on { KeepsAdopting adopting.old adopting.new }
     ensures taking { HasTakenMore adopting.old adopting.new (F.at_rest files.old) (F.at_rest files.new) }
     ensures one_more { OnOk result (kept_count (adopting_files adopting.new)
         ≡ kept_count (adopting_files adopting.old) + 1) }

@@ -9,7 +9,7 @@ use Rattle.tsdb_compactions.specs.Outputs.{TellsTruth}
 use Rattle.tsdb_compactions.specs.declared.job.Input.{Input}
 use Rattle.tsdb_compactions.specs.declared.job.Job.{Job}
 use Rattle.tsdb_serving.specs.Beginnings.{IsBegun, IsNotBegun}
-use Rattle.tsdb_serving.specs.Core.{files_of}
+use Rattle.tsdb_serving.specs.Core.{files_of, store_of}
 use Rattle.tsdb_serving.specs.CoreType.{Core}
 use Rattle.tsdb_base.specs.declared.ids.Space.{Space}
 use Rattle.tsdb_frames.proofs.CallLemmas.{same_keeps_to_slot}
@@ -18,7 +18,7 @@ use Rattle.tsdb_frames.specs.Frames.{disk_of, faults_of, slot_of}
 use Rattle.tsdb_frames.specs.declared.frames.Frames.{Frames}
 use Rattle.tsdb_inner.specs.Inputs.{IsInputOf}
 use Rattle.tsdb_fileset.specs.Files.{kept_file}
-use Rattle.tsdb_fileset.specs.Places.{KeptFile}
+use Rattle.tsdb_fileset.specs.Places.{AreOfStore, KeptFile}
 use Rattle.tsdb_fileset.specs.Rights.{IsRightTo}
 use Rattle.tsdb_base.proofs.Lists.{each_weaker}
 use Rattle.tsdb_model.specs.State as plain
@@ -59,8 +59,7 @@ module _ {J F S R P : Type 0} {means : disk.Ghosts J} {counts : counted.Ghosts J
       ready = record {
         jobs = not.same.jobs [] [] ready.jobs;
         unread = still_made (λ file. file.rights ≡ 0) (files_of old).places (files_of new).places not.places ready.unread;
-        of_store = still_made (λ file. file.name.store ≡ store port) (files_of old).places (files_of new).places
-            not.places ready.of_store;
+        of_store = ready.of_store ∙ sym not.lists.store;
       };
       stays = record {
         slot = same_keeps_to_slot (log_under old) (log_under new) not.logged.log.log;
@@ -81,15 +80,16 @@ module _ {J F S R P : Type 0} {means : disk.Ghosts J} {counts : counted.Ghosts J
   module _ (name : R → NamedFile) (store : Store) where
     -- its inputs are files of the store
     pub of_the_store : (core : Core J F S R P means counts) (job : Job F S R P) → IsRewriting name store core job
-        → Each (IsInputOf name store) job.inputs
-    of_the_store core job rewriting = each_weaker
+        → AreOfStore (store_of core) (files_of core).places → Each (IsInputOf name store) job.inputs
+    of_the_store core job rewriting are = each_weaker
         (λ (input : Input F S R P). IsRightTo name (kept_file input.number.0 (files_of core)) (Some input.right))
         (IsInputOf name store)
-        (λ input held. of_right name store (kept_file input.number.0 (files_of core)) input.right held
-        (rewriting.of_store input.number.0)) job.inputs rewriting.kept.held.held
+        (λ input held. of_right name (store_of core) (kept_file input.number.0 (files_of core)) input.right held
+        (are input.number.0) ∙ sym rewriting.of_store) job.inputs rewriting.kept.held.held
 
     module _ (space : Space) (runs : InputRuns) (old mid : Core J F S R P means counts) (job : Job F S R P)
-        (begun : IsBegun name space runs old mid job) (ready : IsReady store old) where
+        (begun : IsBegun name space runs old mid job) (ready : IsReady store old)
+        (are : AreOfStore (store_of mid) (files_of mid).places) where
       abbrev rewriting : IsRewriting name store mid job
       rewriting = is_rewriting name store space runs old mid job begun ready
 
@@ -112,7 +112,7 @@ module _ {J F S R P : Type 0} {means : disk.Ghosts J} {counts : counted.Ghosts J
               all = each_weaker (IsInputOf name store) (λ (input : Input F S R P). IsSome (name input.right).bytes)
                   (λ input of. told_bytes (name input.right).bytes
                   (sym (laws input.right) ∙ ap (λ (s : Store). s.tells) of ∙ tells)) job.inputs
-                  (of_the_store mid job rewriting);
+                  (of_the_store mid job rewriting are);
             };
             stands = serving.stands;
             doubt = serving.doubt;
@@ -123,7 +123,7 @@ module _ {J F S R P : Type 0} {means : disk.Ghosts J} {counts : counted.Ghosts J
       pub sure_truth : ((right : R) → Tells (name right)) → IsSure store old
           → (told : ToldContents) × TellsTruth name told job
       sure_truth laws (inl untold) =
-          (nothing, truth_of_nothing name laws store untold job (of_the_store mid job rewriting))
+          (nothing, truth_of_nothing name laws store untold job (of_the_store mid job rewriting are))
       sure_truth laws (inr is) =
           (is.3.outside.told, begun.truth is.3.outside is.3.state is.3.seen)
 

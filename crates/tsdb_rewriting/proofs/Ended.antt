@@ -37,11 +37,11 @@ module _ {J F S R P : Type 0} {means : disk.Ghosts J} {counts : counted.Ghosts J
   later_of a b result cause = cause.later
 
   pub commit_ends : (file : Option NewFile) (result : Result (Unit {0}) Failed) → IsJobCommit name old new job file result
-      → IfSome file (λ one. one.token.rights ≡ 0) → IfSome file (λ one. one.token.name.store ≡ store)
-      → (store.tells ≡ true → TellsNew file) → EndsRewrite name store old new job
-  commit_ends file result commits unread in_store tells = record {
+      → IfSome file (λ one. one.token.rights ≡ 0) → (store.tells ≡ true → TellsNew file)
+      → EndsRewrite name store old new job
+  commit_ends file result commits unread tells = record {
     ready = ready_ended name store old new job file rewriting (tokens_of commits.runs file result commits.files) unread
-        commits.ends in_store;
+        commits.ends;
     limit = commits.ends.limit;
     slot = commits.slot;
     next = commits.ends.next;
@@ -54,7 +54,7 @@ module _ {J F S R P : Type 0} {means : disk.Ghosts J} {counts : counted.Ghosts J
   pub abandon_ends : IsJobAbandoned old new job None → EndsRewrite name store old new job
   abandon_ends gives_up = record {
     ready = ready_ended name store old new job None rewriting
-        (record { here = gives_up.files.here; others = gives_up.files.others }) tt gives_up.ends tt;
+        (record { here = gives_up.files.here; others = gives_up.files.others }) tt gives_up.ends;
     limit = gives_up.ends.limit;
     slot = same_keeps_to_slot (log_under old) (log_under new) (ap (λ logged. log_of logged) gives_up.logged);
     next = gives_up.ends.next;

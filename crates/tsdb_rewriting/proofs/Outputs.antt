@@ -48,12 +48,6 @@ module _ {F S R P : Type 0} (file : S → NamedFile) where
   output_numbered name rights job None is = tt
   output_numbered name rights job (Some built) is = is.file_is.kept.number_is
 
-  pub output_in : (store : Store) (output : Option (Built F S R P))
-      → IfSome output (λ built. (file built.sealed).store ≡ store)
-      → IfSome (option_map (file_built file) output) (λ one. one.token.name.store ≡ store)
-  output_in store None is = tt
-  output_in store (Some built) is = is
-
   pub output_tells : ((sealed : S) → Tells (file sealed)) → (store : Store) → store.tells ≡ true
       → (output : Option (Built F S R P)) → IfSome output (λ built. (file built.sealed).store ≡ store)
       → TellsNew (option_map (file_built file) output)

@@ -119,7 +119,7 @@ module _ {J F S R P : Type 0} {means : disk.Ghosts J} {counts : counted.Ghosts J
     jobs = begun.jobs (compaction_of job) [] [] (is_compaction job (begun.kept [] [] ready.jobs).formed) ready.jobs;
     rights = λ n. more_of_none (count n (input_numbers job.inputs)) (kept_file n (files_of old)) (kept_file n (files_of new))
         (begun.rights n) (ready.unread n);
-    of_store = begun.lists.store store ready.of_store;
+    of_store = ready.of_store ∙ sym begun.lists.store;
   }
 
   module _ (old new : Core J F S R P means counts) (job : Job F S R P) (file : Option NewFile)
@@ -140,10 +140,10 @@ module _ {J F S R P : Type 0} {means : disk.Ghosts J} {counts : counted.Ghosts J
             differs : job.output.0 ≡ n → ⊥
             differs same = grind (arith, is, same)
 
-    pub ready_ended : HasEndedJob old new job file → IfSome file (λ one. one.token.name.store ≡ store) → IsReady store new
-    ready_ended ends in_store = record {
+    pub ready_ended : HasEndedJob old new job file → IsReady store new
+    ready_ended ends = record {
       jobs = ends.jobs rewriting.compaction [] (rewriting.compaction ∷ []) [] rewriting.is
           (only_one rewriting.compaction) rewriting.jobs;
       unread = unread;
-      of_store = ends.of_store store rewriting.of_store in_store;
+      of_store = rewriting.of_store ∙ sym ends.store;
     }

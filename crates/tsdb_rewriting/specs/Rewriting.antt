@@ -11,11 +11,10 @@ use Rattle.tsdb_compactions.specs.Jobs.{IsCompactionOf}
 use Rattle.tsdb_compactions.specs.Outputs.{TellsInputs}
 use Rattle.tsdb_compactions.specs.declared.job.Job.{Job}
 use Rattle.tsdb_serving.specs.Compactions.{IsJobKept}
-use Rattle.tsdb_serving.specs.Core.{IsSeen, KeepsJobs, files_of, limit_of, next_of}
+use Rattle.tsdb_serving.specs.Core.{IsSeen, KeepsJobs, files_of, limit_of, next_of, store_of}
 use Rattle.tsdb_serving.specs.CoreType.{Core}
 use Rattle.tsdb_state.specs.StoredEngine.{LeadsTo}
 use Rattle.tsdb_fileset.specs.Files.{KeptFiles, kept_file}
-use Rattle.tsdb_fileset.specs.Places.{AreOfStore}
 use Rattle.tsdb_fileset.specs.Replacing.{output_in, replace_run}
 use Rattle.tsdb_base.specs.Lists.{IsWithOne, count, if_some}
 use Rattle.tsdb_frames.specs.Calls.{KeepsToSlot}
@@ -69,7 +68,7 @@ module _ {J F S R P : Type 0} {means : disk.Ghosts J} {counts : counted.Ghosts J
       × IsReplacedBy job.output.0 job.space runs (files_of old) (files_of new)
 
   module _ (name : R → NamedFile) where
-    -- The job is the only one that is out, its rights are the only ones, and all kept files are of the store.
+    -- The job is the only one that is out, its rights are the only ones, and the core is of the store.
     pub record IsRewriting (store : Store) (core : Core J F S R P means counts) (job : Job F S R P) : Type 0 where
       pub kept : IsJobKept name core job
       pub compaction : Compaction
@@ -77,7 +76,7 @@ module _ {J F S R P : Type 0} {means : disk.Ghosts J} {counts : counted.Ghosts J
       pub jobs : KeepsJobs core [] (compaction ∷ [])
       pub rights : (number : ℕ) → IfSome (kept_file number (files_of core))
           (λ file. file.rights ≡ count number (input_numbers job.inputs))
-      pub of_store : AreOfStore store (files_of core).places
+      pub of_store : store ≡ store_of core
 
     -- The core is in the state, and the job is out as a compaction of what it shows.
     pub record IsServingRewrite (core : Core J F S R P means counts) (job : Job F S R P) (files : List StoredFile)

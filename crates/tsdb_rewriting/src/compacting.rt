@@ -8,10 +8,11 @@ ghost use Rattle.tsdb_compactions.specs.Jobs.{IsJobFormed};
 ghost use Rattle.tsdb_compactions.specs.Outputs.{IsOutputOf, TellsTruth};
 ghost use Rattle.tsdb_serving.specs.Beginnings.{IsCrossRuns, IsInnerRuns};
 ghost use Rattle.tsdb_serving.specs.Compactions.{IsJobOut};
-ghost use Rattle.tsdb_serving.specs.Core.{files_of, next_of};
+ghost use Rattle.tsdb_serving.specs.Core.{files_of, next_of, store_of};
 ghost use Rattle.tsdb_serving.specs.Replacements.{IsJobCommit};
 ghost use Rattle.tsdb_inner.specs.Inputs.{IsInputOf};
 ghost use Rattle.tsdb_fileset.specs.Files.{AreKept};
+ghost use Rattle.tsdb_fileset.specs.Places.{AreOfStore};
 ghost use Rattle.tsdb_base.specs.Causes.{Rose};
 ghost use Rattle.tsdb_outside.specs.Causes.{HasStoreCause};
 ghost use Rattle.tsdb_outside.specs.Files.{Store};
@@ -131,6 +132,7 @@ fn rewrite<J: Journal, F: Files>(
     requires rewriting { IsRewriting F.Right.file (F.Port.store port.old) core.old job }
     ensures finished { OnOk result (IsFinished job core.old core.new) }
     ensures kept { AreKept (files_of core.old) }
+    ensures of_store { AreOfStore (store_of core.old) (files_of core.old).places }
     ensures ends { EndsRewrite F.Right.file (F.Port.store port.old) core.old core.new job }
     ensures same_store { F.Port.store port.new ≡ F.Port.store port.old }
     ensures cause { (told : ToldContents) → TellsTruth F.Right.file told job
@@ -201,6 +203,7 @@ fn list<J: Journal, F: Files>(
 ) -> Result<(), Failed>
     requires out { IsJobOut F.Right.file core.old job }
     requires output { IsOutputOf F.Right.file F.Sealed.file F.Sealed.rights job output }
+    requires store { IsOutputOfStore F.Sealed.file (store_of core.old) output }
     ensures { IsJobCommit F.Right.file core.old core.new job (option_map (file_built F.Sealed.file) output) result }
 {
     if job.is_cross() {

@@ -2,12 +2,11 @@
 use Rattle.std.proofs.Common.{◌≡◌, ◌⊎◌, ℕ, ◌+◌, ◌<◌, ◌≤◌, true, List, [], ◌∷◌, ◌++◌, length, drop, Option, Result, Ok, Err, inr}
 use Rattle.std.proofs.Common.{ap, arith, refl, sym, subst, ◌∙◌}
 use Rattle.std.specs.Arc.{arc_value}
-use Rattle.std.specs.List.{AllByRecursion as Each}
 use Rattle.std.specs.Option.{IsSomeAnd, option_map}
 use Rattle.std.specs.Prelude.{None, OnOk, Some, slice_get}
 use Rattle.tsdb_base.specs.declared.ids.Stamp.{Stamp}
 use Rattle.tsdb_base.specs.declared.answers.Answer.{Answer}
-use Rattle.tsdb_core.specs.Files.{AreFilesOfJob, NewFile, NewFiles, TellBytes, all_of}
+use Rattle.tsdb_core.specs.Files.{AreFilesOfJob, NewFiles, TellBytes}
 use Rattle.tsdb_core.specs.Commands.{IsCoreCommand}
 use Rattle.tsdb_core.specs.Core.{logged_of, next_of, working_of}
 use Rattle.tsdb_core.specs.Ending.{drawn_for}
@@ -22,7 +21,7 @@ use Rattle.tsdb_frames.specs.Frames.{disk_of, faults_of, slot_of}
 use Rattle.tsdb_frames.specs.declared.frames.Frames.{Frames}
 use Rattle.tsdb_core.specs.FlushJob.{FlushJob}
 use Rattle.tsdb_core.specs.FilesetFiles.{KeptFiles}
-use Rattle.tsdb_core.specs.Places.{AreOfStore, AreUnread}
+use Rattle.tsdb_core.specs.Places.{AreUnread}
 use Rattle.tsdb_base.proofs.Lists.{each_weaker}
 use Rattle.tsdb_base.specs.Lists.{Among}
 use Rattle.tsdb_log.specs.declared.record.LogRecord.TheVariants.{Freeze}
@@ -45,10 +44,6 @@ use Rattle.tsdb_memory.specs.Fits.{HasNoPairPoint}
 use Rattle.tsdb_serving.specs.Flushing.{EndsJob, GoesOn, IsBusy, IsOfJob, IsReady, Serves, faults_under, frozen_under}
 use Rattle.tsdb_serving.specs.declared.fault.FlushFault.{FlushFault}
 use Rattle.tsdb_serving.specs.Serving.{IsDrawn, IsServed, IsServedBy, LeavesEither, StaysInPlace, disk_under, log_under}
-
--- the file is of the store
-abbrev IsIn : Store → NewFile → Type 0
-IsIn store new = new.token.name.store ≡ store
 
 -- a list of at most two is empty after two steps
 pub none_left : {X : Type 0} (xs : List X) → length xs ≤ 2 → drop 1 (drop 1 xs) ≡ []
@@ -184,8 +179,7 @@ module _ {J F S R P : Type 0} {means : disk.Ghosts J} {counts : counted.Ghosts J
         ready = record {
           jobs = command.kept.jobs [] [] ready.jobs;
           unread = subst (λ (files : KeptFiles). AreUnread files.places) (sym command.kept.files) ready.unread;
-          of_store = subst (λ (files : KeptFiles). AreOfStore (store port) files.places) (sym command.kept.files)
-              ready.of_store;
+          of_store = ready.of_store ∙ sym (ap (λ (files : KeptFiles). files.store) command.kept.files);
         };
         stays = record { slot = command.slot; next = omega (arith, command.kept.next) };
         draws = omega (arith, command.kept.next);
@@ -249,11 +243,11 @@ module _ {J F S R P : Type 0} {means : disk.Ghosts J} {counts : counted.Ghosts J
   -- ---- the end of a job
 
   module _ (old new : Core J F S R P means counts) (job : FlushJob) (built : NewFiles) (given : Store)
-      (of_job : AreFilesOfJob given job built) (all : Each (IsIn store) (all_of built))
+      (of_job : AreFilesOfJob given job built)
       (tells : store.tells ≡ true → TellBytes built) (busy : IsBusy store old job) where
     pub commit_ends : (commit : Commit) → IsCommit old new job built commit → EndsJob store old new job
     commit_ends commit commits = record {
-      ready = ready_again store given old new job built commit of_job commits.ends all busy;
+      ready = ready_again store given old new job built commit of_job commits.ends busy;
       limit = commits.ends.limit;
       slot = commits.slot;
       next = commits.ends.next;
@@ -265,7 +259,7 @@ module _ {J F S R P : Type 0} {means : disk.Ghosts J} {counts : counted.Ghosts J
 
     pub abandon_ends : IsAbandoned old new job built → EndsJob store old new job
     abandon_ends gives_up = record {
-      ready = ready_again store given old new job built Gone of_job gives_up.ends all busy;
+      ready = ready_again store given old new job built Gone of_job gives_up.ends busy;
       limit = gives_up.ends.limit;
       slot = same_keeps_to_slot (log_under old) (log_under new) (ap (λ logged. log_of logged) gives_up.logged);
       next = gives_up.ends.next;

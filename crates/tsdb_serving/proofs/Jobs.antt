@@ -7,8 +7,8 @@ use Rattle.std.specs.Prelude.{IfSome, IsSome, is_some}
 use Rattle.tsdb_base.specs.declared.ids.FileNumber.{FileNumber}
 use Rattle.tsdb_base.specs.declared.ids.Space.TheVariants.{Sequence, Unsequence}
 use Rattle.tsdb_core.proofs.Coming.{of_each}
-use Rattle.tsdb_core.specs.Files.{AreFilesOfJob, IsOfPart, NewFile, NewFiles, TellBytes, all_of, file_built, new_files}
-use Rattle.tsdb_core.specs.Files.{file_number, stored_of}
+use Rattle.tsdb_core.specs.Files.{AreDoneSoFar, AreFilesOfJob, IsOfPart, NewFile, NewFiles, TellBytes, all_of, file_built}
+use Rattle.tsdb_core.specs.Files.{file_number, new_files, stored_of}
 use Rattle.tsdb_core.specs.Commands.{KeepsFiles}
 use Rattle.tsdb_core.specs.Core.{files_of, next_of}
 use Rattle.tsdb_core.specs.Ending.{drawn_for, numbers_if}
@@ -24,14 +24,13 @@ use Rattle.tsdb_core.specs.FlushJob.{FlushJob}
 use Rattle.tsdb_core.specs.Flushed.{Flushed}
 use Rattle.tsdb_core.proofs.Taken.{still_all}
 use Rattle.tsdb_core.specs.FilesetFiles.{KeptFiles}
-use Rattle.tsdb_core.specs.Places.{AllFiles, AreOfStore, AreUnread, KeptFile, OnlyMakesPlaces, Places}
+use Rattle.tsdb_core.specs.Places.{AllFiles, AreUnread, KeptFile, OnlyMakesPlaces, Places}
 use Rattle.tsdb_base.proofs.Lists.{among_left, among_right, each_append}
 use Rattle.tsdb_base.specs.Lists.{Among, IsWithOne, if_some}
 use Rattle.tsdb_outside.specs.Files.{NamedFile, Store, StoredFile, Tells}
 use Rattle.tsdb_outside.specs.declared.disk.Disk as disk
 use Rattle.tsdb_outside.specs.declared.faults.Counted as counted
 use Rattle.tsdb_outside.specs.declared.faults.Failed.{Failed}
-use Rattle.tsdb_serving.specs.Files.{AreDoneInStore, AreDoneSoFarInStore}
 use Rattle.tsdb_serving.specs.Flushing.{IsBusy, IsOfJob, IsReady}
 use Rattle.tsdb_serving.specs.Serving.{IsDrawn}
 use Rattle.tsdb_state.specs.State as state
@@ -45,23 +44,12 @@ each_of Q None (Some b) p q = (q, tt)
 each_of Q (Some a) None p q = (p, tt)
 each_of Q (Some a) (Some b) p q = (p, (q, tt))
 
-abbrev IsIn : Store → NewFile → Type 0
-IsIn store new = new.token.name.store ≡ store
-
 told : (bytes : Option (List ℕ)) → is_some bytes ≡ true → IsSome bytes
 told None is = absurd cc
 told (Some bytes) is = refl
 
 module _ {F S R P : Type 0} (file : S → NamedFile) (rights : S → ℕ) (store : Store) where
   module _ (born : ℕ) (part : List Filled) where
-    in_store : (number : Option FileNumber) (built : Option (Built F S R P))
-        → (built ≡ None) ⊎ IsPartDone file rights store born part number built
-        → IfSome (option_map (file_built file) built) (IsIn store)
-    in_store number None done = tt
-    in_store number (Some built) (inl none) = absurd cc
-    in_store None (Some built) (inr done) = absurd done
-    in_store (Some number) (Some built) (inr done) = done.in_store
-
     tells_part : store.tells ≡ true → ((sealed : S) → Tells (file sealed)) → (number : Option FileNumber)
         (built : Option (Built F S R P)) → (built ≡ None) ⊎ IsPartDone file rights store born part number built
         → IfSome (option_map (file_built file) built) (λ new. IsSome new.token.name.bytes)
@@ -72,32 +60,14 @@ module _ {F S R P : Type 0} (file : S → NamedFile) (rights : S → ℕ) (store
         (sym (law built.sealed) ∙ ap (λ s. s.tells) done.in_store ∙ tells)
 
 module _ {F S R P : Type 0} (file : S → NamedFile) (rights : S → ℕ) (store : Store) where
-  -- what is done whole is done so far
-  pub done_so_far : (job : FlushJob) (files : Flushed F S R P) → AreDoneInStore file rights store job files
-      → AreDoneSoFarInStore file rights store job files
-  done_so_far job files done = (
-    record { store = done.0.store; sequence = inr done.0.sequence; unsequence = inr done.0.unsequence },
-    done.1,
-  )
-
-  module _ (job : FlushJob) (files : Flushed F S R P) (done : AreDoneSoFarInStore file rights store job files) where
-    pub all_in_store : Each (IsIn store) (all_of (new_files file files))
-    all_in_store = subst (λ s. Each (IsIn s) (all_of (new_files file files))) done.1
-        (each_of (IsIn done.0.store) (option_map (file_built file) files.sequence)
-        (option_map (file_built file) files.unsequence)
-        (in_store file rights done.0.store job.born.0 (job_part Sequence job) job.sequence files.sequence done.0.sequence)
-        (in_store file rights done.0.store job.born.0 (job_part Unsequence job) job.unsequence files.unsequence done.0.unsequence))
-
-    pub tell_bytes : store.tells ≡ true → ((sealed : S) → Tells (file sealed)) → TellBytes (new_files file files)
-    tell_bytes tells law = each_of (λ new. IsSome new.token.name.bytes) (option_map (file_built file) files.sequence)
-        (option_map (file_built file) files.unsequence)
-        (tells_part file rights done.0.store job.born.0 (job_part Sequence job) as_told law job.sequence files.sequence
-        done.0.sequence)
-        (tells_part file rights done.0.store job.born.0 (job_part Unsequence job) as_told law job.unsequence files.unsequence
-        done.0.unsequence)
-      where
-        as_told : done.0.store.tells ≡ true
-        as_told = ap (λ s. s.tells) done.1 ∙ tells
+  pub tell_bytes : (job : FlushJob) (files : Flushed F S R P) → AreDoneSoFar file rights store job files
+      → store.tells ≡ true → ((sealed : S) → Tells (file sealed)) → TellBytes (new_files file files)
+  tell_bytes job files done tells law = each_of (λ new. IsSome new.token.name.bytes)
+      (option_map (file_built file) files.sequence) (option_map (file_built file) files.unsequence)
+      (tells_part file rights store job.born.0 (job_part Sequence job) tells law job.sequence files.sequence
+      done.sequence)
+      (tells_part file rights store job.born.0 (job_part Unsequence job) tells law job.unsequence files.unsequence
+      done.unsequence)
 
 -- ---- their numbers
 
@@ -198,8 +168,7 @@ module _ {J F S R P : Type 0} {means : disk.Ghosts J} {counts : counted.Ghosts J
     numbers = record { sequence = refl; unsequence = refl };
     jobs = taken.jobs (flush_of job) [] [] (record { sequence = refl; unsequence = refl }) ready.jobs;
     unread = still_made (λ file. file.rights ≡ 0) (files_of old).places (files_of new).places takes.places ready.unread;
-    of_store = still_made (λ file. file.name.store ≡ store) (files_of old).places (files_of new).places takes.places
-        ready.of_store;
+    of_store = ready.of_store ∙ sym takes.lists.store;
   }
 
   pub still_ready : (store : Store) (old new : Core J F S R P means counts) → TakesMemory old new → IsNotTaken old new
@@ -207,18 +176,17 @@ module _ {J F S R P : Type 0} {means : disk.Ghosts J} {counts : counted.Ghosts J
   still_ready store old new takes not ready = record {
     jobs = not.jobs [] [] ready.jobs;
     unread = still_made (λ file. file.rights ≡ 0) (files_of old).places (files_of new).places takes.places ready.unread;
-    of_store = still_made (λ file. file.name.store ≡ store) (files_of old).places (files_of new).places takes.places
-        ready.of_store;
+    of_store = ready.of_store ∙ sym takes.lists.store;
   }
 
   pub ready_again : (store given : Store) (old new : Core J F S R P means counts) (job : FlushJob) (files : NewFiles)
       (commit : Commit) → AreFilesOfJob given job files → HasEndedFlush old new job files commit
-      → Each (IsIn store) (all_of files) → IsBusy store old job → IsReady store new
-  ready_again store given old new job files commit of_job ends all busy = record {
+      → IsBusy store old job → IsReady store new
+  ready_again store given old new job files commit of_job ends busy = record {
     jobs = ends.jobs busy.flush [] (busy.flush ∷ []) [] busy.numbers (only_one busy.flush) busy.jobs;
     unread = of_each (drawn_for job) files (files_of old) (files_of new) ends.come (λ n kept. kept.rights ≡ 0)
         (λ n never. busy.unread n) (all_unread given job files of_job);
-    of_store = ends.of_store store busy.of_store all;
+    of_store = busy.of_store ∙ sym ends.store;
   }
 
   pub ready_swept : (store : Store) (old new : Core J F S R P means counts) (outcome : Result ℕ Failed)
@@ -227,15 +195,13 @@ module _ {J F S R P : Type 0} {means : disk.Ghosts J} {counts : counted.Ghosts J
     jobs = swept.all.jobs [] [] ready.jobs;
     unread = still_all (λ file. file.rights ≡ 0) _ (files_of old).places (files_of new).places swept.all.left.places
         ready.unread;
-    of_store = still_all (λ file. file.name.store ≡ store) _ (files_of old).places (files_of new).places
-        swept.all.left.places ready.of_store;
+    of_store = ready.of_store ∙ sym swept.all.left.store;
   }
   ready_swept store old new (Err failed) swept ready = record {
     jobs = swept.stopped.1.jobs [] [] ready.jobs;
     unread = still_all (λ file. file.rights ≡ 0) _ (files_of old).places (files_of new).places
         swept.stopped.1.left.places ready.unread;
-    of_store = still_all (λ file. file.name.store ≡ store) _ (files_of old).places (files_of new).places
-        swept.stopped.1.left.places ready.of_store;
+    of_store = ready.of_store ∙ sym swept.stopped.1.left.store;
   }
 
   pub kept_ready : (old new : Core J F S R P means counts) → KeepsFiles old new → (store : Store) → IsReady store old
@@ -243,7 +209,7 @@ module _ {J F S R P : Type 0} {means : disk.Ghosts J} {counts : counted.Ghosts J
   kept_ready old new keeps store ready = record {
     jobs = keeps.jobs [] [] ready.jobs;
     unread = subst (λ (files : KeptFiles). AreUnread files.places) (sym keeps.files) ready.unread;
-    of_store = subst (λ (files : KeptFiles). AreOfStore store files.places) (sym keeps.files) ready.of_store;
+    of_store = ready.of_store ∙ sym (ap (λ (files : KeptFiles). files.store) keeps.files);
   }
 
   -- numbers that were drawn before a call that draws none, or after others

@@ -2,7 +2,7 @@
 use Rattle.std.specs.Prelude.{◌≡◌, ◌⊎◌, ◌+◌, ◌≤◌, ℕ, List, [], ◌∷◌, Option, true}
 use Rattle.tsdb_base.specs.Causes.{Rose}
 use Rattle.tsdb_core.specs.Files.{IsOutAs}
-use Rattle.tsdb_core.specs.Core.{IsSeen, KeepsJobs, files_of, limit_of, logged_of, next_of}
+use Rattle.tsdb_core.specs.Core.{IsSeen, KeepsJobs, files_of, limit_of, logged_of, next_of, store_of}
 use Rattle.tsdb_core.specs.Ending.{drawn_for}
 use Rattle.tsdb_core.specs.Flushes.{HasNumbersOf}
 use Rattle.tsdb_core.specs.declared.engine.Core.{Core}
@@ -10,7 +10,7 @@ use Rattle.tsdb_frames.specs.Calls.{KeepsToSlot}
 use Rattle.tsdb_frames.specs.Frames.{faults_of}
 use Rattle.tsdb_state.specs.StoredEngine.{LeadsTo}
 use Rattle.tsdb_core.specs.FlushJob.{FlushJob}
-use Rattle.tsdb_core.specs.Places.{AreOfStore, AreUnread}
+use Rattle.tsdb_core.specs.Places.{AreUnread}
 use Rattle.tsdb_base.specs.Lists.{Among}
 use Rattle.tsdb_memory.specs.LogState.{Outside, log_of, memory_of}
 use Rattle.tsdb_model.specs.State as plain
@@ -37,19 +37,19 @@ module _ {J F S R P : Type 0} {means : disk.Ghosts J} {counts : counted.Ghosts J
   abbrev pub frozen_under : Core J F S R P means counts → List FrozenPair
   frozen_under core = (memory_of (logged_of core)).frozen
 
-  -- no job and no right to read a file is out, and all kept files are of the store
+  -- no job and no right to read a file is out, and the core is of the store
   pub record IsReady (store : Store) (core : Core J F S R P means counts) : Type 0 where
     pub jobs : KeepsJobs core [] []
     pub unread : AreUnread (files_of core).places
-    pub of_store : AreOfStore store (files_of core).places
+    pub of_store : store ≡ store_of core
 
-  -- the job is the only one that is out, no right to read a file is, and all kept files are of the store
+  -- the job is the only one that is out, no right to read a file is, and the core is of the store
   pub record IsBusy (store : Store) (core : Core J F S R P means counts) (job : FlushJob) : Type 0 where
     pub flush : StateFlush
     pub numbers : HasNumbersOf job flush
     pub jobs : KeepsJobs core (flush ∷ []) []
     pub unread : AreUnread (files_of core).places
-    pub of_store : AreOfStore store (files_of core).places
+    pub of_store : store ≡ store_of core
 
   module _ (store : P → Store) (faults : P → ℕ) (port after : P) (old new : Core J F S R P means counts) where
     -- What is left of a port and a core, whatever is answered: the core is ready, its log keeps to its slot, at most so

@@ -1,5 +1,4 @@
 pub mod Faults
-pub mod Files
 pub mod Flushing
 pub mod Serving
 pub mod Sweeping

@@ -3,6 +3,7 @@ ghost use Rattle.std.specs.Prelude.{◌≡◌, ◌≢◌, ◌⊎◌, ◌<◌, �
 ghost use Rattle.std.specs.Prelude.{length, slice_get};
 ghost use Rattle.std.specs.Option.{option_map};
 ghost use Rattle.tsdb_core.specs.Core.{logged_of, working_of};
+ghost use Rattle.tsdb_core.specs.Files.{AreDone, AreDoneSoFar};
 ghost use Rattle.tsdb_core.specs.Flushes.{IsDue, IsOldestPair};
 ghost use Rattle.tsdb_core.specs.Jobs.{IsJob};
 ghost use Rattle.tsdb_memory.specs.LogState.{memory_of};
@@ -10,7 +11,6 @@ ghost use Rattle.tsdb_outside.specs.Files.{Store};
 ghost use Rattle.tsdb_base.specs.Causes.{Rose};
 ghost use Rattle.tsdb_memory.specs.Fits.{HasNoPairPoint};
 ghost use Rattle.tsdb_serving.specs.declared.fault.FlushFault.{FlushFault as FaultOf};
-ghost use Rattle.tsdb_serving.specs.Files.{AreDoneInStore, AreDoneSoFarInStore};
 ghost use Rattle.tsdb_serving.specs.Flushing.{EndsJob, GoesOn, HasFlushCauseOver, IsBusy, IsReady};
 ghost use Rattle.tsdb_serving.specs.Flushing.{faults_under, frozen_under};
 ghost use Rattle.tsdb_serving.specs.Sweeping.{LeavesNothing};
@@ -232,12 +232,12 @@ fn commit<J: Journal, F: Files>(
     files: Flushed<F>,
 ) -> Result<(), FlushFault>
     requires oldest { IsOldestPair job (memory_of (logged_of core.old)) }
-    requires busy { (store : Store) × AreDoneInStore F.Sealed.file F.Sealed.rights store job files
+    requires busy { (store : Store) × AreDone F.Sealed.file F.Sealed.rights store job files
         × IsBusy store core.old job }
     ensures flushed { OnOk result (frozen_under core.new ≡ drop 1 (frozen_under core.old)) }
     ensures working { working_of core.new ≡ working_of core.old }
     ensures ends { (store : Store) → IsBusy store core.old job
-        → AreDoneInStore F.Sealed.file F.Sealed.rights store job files
+        → AreDone F.Sealed.file F.Sealed.rights store job files
         → EndsJob store core.old core.new job }
     ensures cause { IfErr result (λ fault. (fault ≡ FaultOf.Device)
         × Rose (faults_under core.old) (faults_under core.new)) }
@@ -251,11 +251,11 @@ fn commit<J: Journal, F: Files>(
 
 /// Gives the only job that is out up: those of its files that are there are on their way out.
 fn give_up<J: Journal, F: Files>(core: &mut Core<J, F>, job: FlushJob, files: Flushed<F>)
-    requires busy { (store : Store) × AreDoneSoFarInStore F.Sealed.file F.Sealed.rights store job files
+    requires busy { (store : Store) × AreDoneSoFar F.Sealed.file F.Sealed.rights store job files
         × IsBusy store core.old job }
     ensures memory { memory_of (logged_of core.new) ≡ memory_of (logged_of core.old) }
     ensures ends { (store : Store) → IsBusy store core.old job
-        → AreDoneSoFarInStore F.Sealed.file F.Sealed.rights store job files → EndsJob store core.old core.new job }
+        → AreDoneSoFar F.Sealed.file F.Sealed.rights store job files → EndsJob store core.old core.new job }
 {
     core.abandon_flush(job, files);
 }

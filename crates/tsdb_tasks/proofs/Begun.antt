@@ -44,6 +44,7 @@ places_made numbers a b c more made keeps = record {
   files = λ n. made.files n ∙ more.files n;
   places = λ n is. made.places n (more.places n is);
   lists = record {
+    store = keeps.store ∙ more.lists.store;
     sequence = keeps.sequence ∙ more.lists.sequence;
     unsequence = keeps.unsequence ∙ more.lists.unsequence;
     outgoing = keeps.outgoing ∙ more.lists.outgoing;
@@ -141,6 +142,7 @@ untouched name a c d inputs some given = record {
   places = λ n is. still_open (fewer_rights (count n (input_numbers inputs))) (place_of_number n c.places)
       (place_of_number n d.places) (some.more.places n is) (given.places n);
   lists = record {
+    store = given.lists.store ∙ some.more.lists.store;
     sequence = given.lists.sequence ∙ some.more.lists.sequence;
     unsequence = given.lists.unsequence ∙ some.more.lists.unsequence;
     outgoing = given.lists.outgoing ∙ some.more.lists.outgoing;
@@ -152,6 +154,6 @@ pub nothing_begun : (a : KeptFiles) → AreFilesUntouched a a
 nothing_begun a = record {
   files = λ n. refl;
   places = λ n is. is;
-  lists = record { sequence = refl; unsequence = refl; outgoing = refl };
+  lists = record { store = refl; sequence = refl; unsequence = refl; outgoing = refl };
   room = refl;
 }

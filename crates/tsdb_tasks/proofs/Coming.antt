@@ -19,7 +19,7 @@ use Rattle.tsdb_state.specs.StoredEngine.{kept_bytes}
 use Rattle.tsdb_compactions.specs.FlushJob.{FlushJob}
 use Rattle.tsdb_fileset.proofs.Counts.{counted}
 use Rattle.tsdb_fileset.specs.Files.{KeptFiles, kept_file}
-use Rattle.tsdb_fileset.specs.Places.{AreOfStore, KeptFile, file_at, place_of_number}
+use Rattle.tsdb_fileset.specs.Places.{KeptFile, file_at, place_of_number}
 use Rattle.tsdb_base.proofs.Lists.{among_left, among_map, among_right, any_among, each_among, each_append}
 use Rattle.tsdb_base.proofs.Lists.{each_from_among}
 use Rattle.tsdb_base.proofs.Lists.{each_map}
@@ -72,10 +72,6 @@ module _ (drawn : List ℕ) (files : NewFiles) (old new : KeptFiles) (come : Hav
       by : Among n drawn ⊎ (Among n drawn → ⊥) → IfSome (kept_file n new) (P n)
       by (inl among) = of_drawn (each_among _ drawn n come.gone among)
       by (inr never) = subst (λ place. IfSome (file_at place) (P n)) (sym (come.others n never)) (others n never)
-
-  pub of_store : (store : Store) → AreOfStore store old.places
-      → Each (λ file. file.token.name.store ≡ store) (all_of files) → AreOfStore store new.places
-  of_store store all these = of_each (λ n file. file.name.store ≡ store) (λ n never. all n) these
 
 -- ---- the files of the state
 

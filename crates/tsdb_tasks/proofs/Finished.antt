@@ -61,6 +61,7 @@ module _ {F S R P : Type 0} where
           outgoing_is = lists.outgoing_is
               ∙ (λ i. given.lists.outgoing i ++ (leaving_run runs.sequence (given.lists.sequence i)
               ++ leaving_run runs.unsequence (given.lists.unsequence i)));
+          store_is = lists.store_is ∙ given.lists.store;
         });
     here = here ∙ map_twice new (λ one. one.token) output;
     others = λ n apart. others n apart ∙ given.places n;

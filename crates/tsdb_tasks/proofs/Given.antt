@@ -65,4 +65,5 @@ module _ {F S R P : Type 0} where
         ∙ ap (λ (s : Spare). record s { outgoing = s.outgoing - (length job.inputs - 1) })
         (ends.room ∙ ap (less_room job.space) (given.room ∙ ap (λ f. f.spare) freed.rest))
         ∙ less_places job.space (length job.inputs) old.spare some;
+    store = ap (λ f. f.store) last ∙ ends.store ∙ given.lists.store ∙ ap (λ f. f.store) freed.rest;
   }

@@ -40,6 +40,7 @@ pub record OutputEnds (space : Space) (number : ℕ) (file : Option NewFile) (ol
   pub gone : file ≡ None → place_of_number number new.places ≡ None
   pub others : OthersStay number old.places new.places
   pub room : new.spare ≡ less_room space old.spare
+  pub store : new.store ≡ old.store
 
 module _ {F S R P : Type 0} where
   -- the file has the number of the job's output, and no right to read it is out
@@ -68,3 +69,4 @@ module _ {F S R P : Type 0} where
         ≡ option_map (λ place. option_map (fewer_rights (count number (input_numbers job.inputs))) place)
         (place_of_number number old.places)
     pub room : new.spare ≡ less_compaction job.space (length job.inputs) old.spare
+    pub store : new.store ≡ old.store

@@ -45,16 +45,14 @@ module _ {F S R P : Type 0} (file : S → NamedFile) where
     unsequence = option_map file_built files.unsequence;
   }
 
-module _ {F S R P : Type 0} (file : S → NamedFile) (rights : S → ℕ) where
-  -- the job has its files in one store, one for each number that was drawn
+module _ {F S R P : Type 0} (file : S → NamedFile) (rights : S → ℕ) (store : Store) where
+  -- the job has its files in the store, one for each number that was drawn
   pub record AreDone (job : FlushJob) (files : Flushed F S R P) : Type 0 where
-    pub store : Store
     pub sequence : IsPartDone file rights store job.born.0 (job_part Sequence job) job.sequence files.sequence
     pub unsequence : IsPartDone file rights store job.born.0 (job_part Unsequence job) job.unsequence files.unsequence
 
   -- those of its files that are there are done
   pub record AreDoneSoFar (job : FlushJob) (files : Flushed F S R P) : Type 0 where
-    pub store : Store
     pub sequence : (files.sequence ≡ None)
         ⊎ IsPartDone file rights store job.born.0 (job_part Sequence job) job.sequence files.sequence
     pub unsequence : (files.unsequence ≡ None)

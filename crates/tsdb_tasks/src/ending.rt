@@ -35,6 +35,7 @@ fn end_output<F: Files>(
     requires room { HasRoom space files.old.spare }
     requires numbered { IfSome output (λ built. built.entry.number.0 ≡ number.0) }
     requires unread { IfSome output (λ built. F.Sealed.rights built.sealed ≡ 0) }
+    requires store { IfSome output (λ built. (F.Sealed.file built.sealed).store ≡ files.old.store) }
     ensures { OutputEnds space number.0 (option_map (file_built F.Sealed.file) output) files.old files.new }
 {
     match output {
@@ -48,6 +49,7 @@ fn end_output<F: Files>(
 pub fn give_up<F: Files>(files: &mut KeptFiles<F>, job: Job<F>, output: Option<Built<F>>)
     requires out { IsOutIn F.Right.file files.old job }
     requires output { IfSome output (IsOutputNumbered F.Sealed.rights job) }
+    requires store { IfSome output (λ built. (F.Sealed.file built.sealed).store ≡ files.old.store) }
     ensures { GivesUp files.old files.new job (option_map (file_built F.Sealed.file) output) }
 {
     let Job {

@@ -79,6 +79,7 @@ pub fn finish<F: Files>(
     requires runs { AreRunsOf job runs files.old }
     requires all { length job.sequence + length job.unsequence ≡ length job.inputs }
     requires output { IfSome output (IsOutputNumbered F.Sealed.rights job) }
+    requires store { IfSome output (λ built. (F.Sealed.file built.sealed).store ≡ files.old.store) }
     ensures { Finishes files.old files.new job runs (option_map (file_built F.Sealed.file) output) }
 {
     let Job {

@@ -4,13 +4,12 @@ ghost use Rattle.std.specs.declared.option.Option.{Option};
 ghost use Rattle.std.specs.List.{AllByRecursion};
 ghost use Rattle.tsdb_base.specs.declared.ids.Stamp.{Stamp};
 ghost use Rattle.tsdb_tasks.specs.Coming.{AreSentOut, HaveCome, StandLast};
-ghost use Rattle.tsdb_tasks.specs.Files.{AreAllThere, AreFilesOfJob, IsOutAs, NewFiles, TellBytes, all_of, state_files};
+ghost use Rattle.tsdb_tasks.specs.Files.{AreAllThere, AreFilesOfJob, IsOutAs, NewFiles, TellBytes, state_files};
 ghost use Rattle.tsdb_tasks.specs.Files.{with_files};
 ghost use Rattle.tsdb_fileset.specs.StateOfFiles.{AreFilesOf, TellTheirBytes};
 ghost use Rattle.tsdb_state.specs.StoredEngine.{IsKeptWhole, built_files};
 ghost use Rattle.tsdb_compactions.specs.FlushJob.{FlushJob};
 ghost use Rattle.tsdb_fileset.specs.Files.{KeptFiles};
-ghost use Rattle.tsdb_fileset.specs.Places.{AreOfStore};
 ghost use Rattle.tsdb_base.specs.Lists.{Among, IsWithOne};
 ghost use Rattle.tsdb_memory.specs.Flushes.{CanCommit};
 ghost use Rattle.tsdb_memory.specs.LogState.{IsStoredIn, Outside};
@@ -93,8 +92,7 @@ pub fn a_pair_that_is_frozen_is_the_oldest()
 
 /// Files of a flush that stand last in their lists are those of the state after its commit. Files that were sent out
 /// are
-/// those of a state in which the flush ended without its record. They go on to tell what is kept, and to be of one
-/// store.
+/// those of a state in which the flush ended without its record. They go on to tell what is kept.
 pub fn the_files_of_a_flush_join_those_of_the_state()
     ensures listed { (store : Store) (job : FlushJob) (files : NewFiles) (old new : KeptFiles) (outside : Outside)
         (engine : EngineState) (flush : state.FlushState) (others : List state.FlushState) (oldest : FrozenContent)
@@ -114,9 +112,6 @@ pub fn the_files_of_a_flush_join_those_of_the_state()
         → TellTheirBytes old outside.kept
         → HaveCome (drawn_by flush) files old new
         → TellTheirBytes new (with_files flush files outside).kept }
-    ensures of_store { (store : Store) (drawn : List ℕ) (files : NewFiles) (old new : KeptFiles)
-        → AreOfStore store old.places → AllByRecursion (λ file. file.token.name.store ≡ store) (all_of files)
-        → HaveCome drawn files old new → AreOfStore store new.places }
     ensures all { (store : Store) (job : FlushJob) (files : NewFiles) (flush : state.FlushState) (others : List
         state.FlushState)
         (engine : EngineState) → IsOutAs job flush others engine → AreFilesOfJob store job files → AreAllThere job files

@@ -31,6 +31,7 @@ pub fn read<J: Journal, F: Files>(
     };
     // (what `select` asks of a pin is a law of every pin that a core gives)
     series_have_a_device(&pin);
+    core.sound();
     rights_are_of_the_store(&pin);
     let lines = select(alloc, &pin, port);
     core.unpin(pin);

@@ -4,6 +4,7 @@ use Rattle.core_tests.proofs.Ready.{new_ready, none_above}
 use Rattle.core_tests.proofs.asking.new_core.Goals as goal
 
 pub returns : goal.returns
-returns g c store = new_ready c.new.result store
-    (c.new.ensures.quiet (subst (IsAboveNumbers c.args.next) (sym c.new-kept.ensures) (none_above c.args.next c.requires.next)))
+returns g c = new_ready c.new.result (g.F.Files.store c.args.files.now)
+    (c.new.ensures.quiet (subst (IsAboveNumbers c.args.next) (sym c.new-kept.ensures)
+    (none_above _ c.args.next c.requires.next)))
     (c.new.ensures.files ∙ c.new-kept.ensures)

@@ -12,6 +12,11 @@ run-requires-clause-out g c = λ lifetimes lives. (is_out c.take.new.core c.take
     (c.in-Ok-Some.is ∙ ap Ok c.in-Ok-Some.field-0-is)
     (c.take.ensures.out (g.F.Port.Port.store c.args.port.now) [] c.requires.ready)).1
 
+pub run-requires-clause-port : goal.run-requires-clause-port
+run-requires-clause-port g c = λ lifetimes lives. (with_job c.take.new.core c.take.result c.in-Ok-Some.job
+    (c.in-Ok-Some.is ∙ ap Ok c.in-Ok-Some.field-0-is) (g.F.Port.Port.store c.args.port.now) []
+    (c.take.ensures.ready (g.F.Port.Port.store c.args.port.now) [] c.requires.ready)).of_store
+
 pub returns-in-Ok-Some-clause-ready : goal.returns-in-Ok-Some-clause-ready
 returns-in-Ok-Some-clause-ready g c = of_new_port c.run.new.core (g.F.Port.Port.store c.args.port.now)
     (g.F.Port.Port.store c.run.new.port) [] c.run.ensures.same_store

@@ -11,6 +11,7 @@ read-rows-requires-clause-of_store g c = λ lifetimes lives. columns_in_store g.
     c.pin.new.core c.in-Some.pin
     (pinned_has g.F.Right.ReadRight.file (g.F.Port.Port.store c.args.port.now) c.args.core.now c.pin.new.core c.in-Some.pin
     (some_pin g.F.Right.ReadRight.file c.args.core.now c.pin.new.core c.pin.result c.in-Some.pin c.in-Some.is c.pin.ensures) c.requires)
+    c.sound.ensures.of_store
 
 pub unpin-requires-after_bounds : goal.unpin-requires-after_bounds
 unpin-requires-after_bounds g c κs within = (

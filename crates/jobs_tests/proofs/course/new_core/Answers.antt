@@ -5,8 +5,9 @@ use Rattle.jobs_tests.proofs.course.new_core.Goals as goal
 
 pub returns-clause-loans : goal.returns-clause-loans
 returns-clause-loans g c = new_loans c.new.result
-    (c.new.ensures.quiet (subst (IsAboveNumbers c.args.next) (sym c.new-kept.ensures) (none_above c.args.next c.requires)))
+    (c.new.ensures.quiet (subst (IsAboveNumbers c.args.next) (sym c.new-kept.ensures)
+    (none_above _ c.args.next c.requires)))
     (c.new.ensures.files ∙ c.new-kept.ensures) c.new.ensures.claims
 
 pub returns-clause-of_store : goal.returns-clause-of_store
-returns-clause-of_store g c store = new_store c.new.result store (c.new.ensures.files ∙ c.new-kept.ensures)
+returns-clause-of_store g c = new_store c.new.result _ (c.new.ensures.files ∙ c.new-kept.ensures)

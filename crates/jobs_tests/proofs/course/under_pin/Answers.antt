@@ -15,7 +15,7 @@ read-rows-requires-clause-of_store g c = λ lifetimes lives. columns_in_store g.
     c.take_course-taken.new.core c.args.pin
     (pin_still g.F.Right.ReadRight.file (g.F.Port.Port.store c.args.port.now) (g.F.Port.Port.store c.take_course-taken.new.port) c.args.core.now
     c.take_course-taken.new.core c.args.pin
-    c.take_course-taken.ensures.same_store c.requires c.take_course-taken.ensures.hands)
+    c.take_course-taken.ensures.same_store c.requires c.take_course-taken.ensures.hands) c.sound.ensures.of_store
 
 pub unpin-requires-after_bounds : goal.unpin-requires-after_bounds
 unpin-requires-after_bounds g c κs within = (

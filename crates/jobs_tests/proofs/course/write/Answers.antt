@@ -9,7 +9,7 @@ run_job-requires-clause-formed g c = λ lifetimes lives. c.requires.0.formed
 
 pub run_job-requires-clause-of_store : goal.run_job-requires-clause-of_store
 run_job-requires-clause-of_store g c = λ lifetimes lives. inputs_in_store g.F.Right.ReadRight.file (g.F.Port.Port.store c.args.port.now)
-    c.args.core.now c.args.job c.requires
+    c.args.core.now c.args.job c.requires c.sound.ensures.of_store
 
 pub finish-ended-requires-clause-job : goal.finish-ended-requires-clause-job
 finish-ended-requires-clause-job g c = λ lifetimes lives. job_still g.F.Right.ReadRight.file (g.F.Port.Port.store c.args.port.now)
@@ -41,4 +41,4 @@ pub returns-in-Ok-clause-same_store : goal.returns-in-Ok-clause-same_store
 returns-in-Ok-clause-same_store g c = c.finish-ended.ensures.same_store ∙ c.run_job.ensures.same_store
 
 pub returns-in-Err-clause-ends : goal.returns-in-Err-clause-ends
-returns-in-Err-clause-ends g c = c.give_up.ensures (g.F.Port.Port.store c.args.port.now) tt
+returns-in-Err-clause-ends g c = c.give_up.ensures (g.F.Port.Port.store c.args.port.now)

@@ -12,13 +12,14 @@ returns-in-Done g c = listed_as g.F.Sealed.SealedFile.file g.F.Sealed.SealedFile
     c.args.file
     c.in-Some.built c.in-Some.is c.requires.numbered c.args.commit c.args.files.now c.enlist.new.self c.in-Done.is
     c.enlist.ensures.entry c.enlist.ensures.outgoing c.enlist.ensures.file c.enlist.ensures.others c.enlist.ensures.room
+    c.enlist.ensures.store
 
 pub returns-in-Gone : goal.returns-in-Gone
 returns-in-Gone g c = sent_as g.F.Sealed.SealedFile.file g.F.Sealed.SealedFile.rights c.args.space c.args.number
     c.args.file
     c.in-Some.built c.in-Some.is c.requires.numbered c.args.commit c.args.files.now c.send_out.new.self c.in-Gone.is
     c.send_out.ensures.sequence c.send_out.ensures.unsequence c.send_out.ensures.outgoing c.send_out.ensures.file
-    c.send_out.ensures.others c.send_out.ensures.room
+    c.send_out.ensures.others c.send_out.ensures.room c.send_out.ensures.store
 
 pub returns-in_default : goal.returns-in_default
 returns-in_default g c = subst (λ file. PartEnds c.args.commit c.args.space c.args.number

@@ -24,7 +24,7 @@ returns-in-Ok-clause-state g c =
     let read = subst (AreRead c.args.memory.now.series c.args.device.now c.args.items.now) c.in-Ok-Ok.field-0-is
     c.in-Ok-Ok.ensures in
     λ known engine memory are. stated g.F.Right.ReadRight.file c.args.files.now c.args.memory.now known engine memory are
-    c.sound.ensures c.args.device.now c.args.range.now c.take_all.new.files c.args.items.now c.in-Ok.pin
+    c.sound.ensures.kept c.args.device.now c.args.range.now c.take_all.new.files c.args.items.now c.in-Ok.pin
     (pin_for g.F.Right.ReadRight.file c.args.files.now c.args.memory.now c.args.device.now c.args.range.now
     c.args.items.now c.in-Ok-Ok.all.items c.take_all.new.files c.in-Ok.pin read.1 c.in-Ok.ensures.ok)
     c.in-Ok.ensures.ok.rights

@@ -11,7 +11,7 @@ use Rattle.tsdb_pins.proofs.Held.{columns_of}
 use Rattle.tsdb_pins.proofs.Named.{have_nodes}
 use Rattle.tsdb_querying.proofs.Answered.{allowed_reply, fault_allowed, fault_stays, has_risen, is_failed, not_taken, refused, rows_allowed, taken}
 use Rattle.tsdb_querying.proofs.Full.{never_full}
-use Rattle.tsdb_querying.proofs.Pinned.{next_still, same_log, stays_still, stays_unpinned}
+use Rattle.tsdb_querying.proofs.Pinned.{next_still, same_log, stays_still, stays_unpinned, still_of}
 use Rattle.tsdb_querying.proofs.Untold.{rose_untold}
 use Rattle.tsdb_querying.specs.Answers.{answer_to}
 use Rattle.tsdb_serving.specs.Serving.{IsAnsweredBy, IsDrawn}
@@ -48,7 +48,8 @@ select-lines-requires-clause-nodes g c = λ lifetimes lives. have_nodes g.F.Righ
 pub select-lines-requires-clause-of_store : goal.select-lines-requires-clause-of_store
 select-lines-requires-clause-of_store g c = λ lifetimes lives. columns_of g.F.Right.ReadRight.file (files_of c.pin.new.self)
     (g.F.Port.Port.store c.args.port.now)
-    (c.in-Ok.ensures.taken.rest.store (g.F.Port.Port.store c.args.port.now) c.requires.ready.of_store) c.in-Ok.pin.columns
+    (still_of (g.F.Port.Port.store c.args.port.now) c.args.core.now c.pin.new.self c.in-Ok.ensures.taken.rest
+    c.requires.ready c.sound.ensures.of_store) c.in-Ok.pin.columns
     c.in-Ok.ensures.taken.held
 
 pub returns-in-Ok-lines-clause-answers : goal.returns-in-Ok-lines-clause-answers
@@ -101,7 +102,8 @@ pub returns-in-Err-clause-untold : goal.returns-in-Err-clause-untold
 returns-in-Err-clause-untold g c = λ untold same. rose_untold g.F.Right.ReadRight.file g.F.Right.ReadRight.tells
     (g.F.Port.Port.store c.args.port.now) untold c.in-Ok.pin.columns
     (columns_of g.F.Right.ReadRight.file (files_of c.pin.new.self) (g.F.Port.Port.store c.args.port.now)
-    (c.in-Ok.ensures.taken.rest.store (g.F.Port.Port.store c.args.port.now) c.requires.ready.of_store) c.in-Ok.pin.columns
+    (still_of (g.F.Port.Port.store c.args.port.now) c.args.core.now c.pin.new.self c.in-Ok.ensures.taken.rest
+    c.requires.ready c.sound.ensures.of_store) c.in-Ok.pin.columns
     c.in-Ok.ensures.taken.held)
     (g.F.Port.Counted.faults c.args.port.now) (g.F.Port.Counted.faults c.select-lines.new.port)
     c.select-lines.result c.select-lines.ensures.reason

@@ -17,8 +17,8 @@ end-requires-clause-no_rights g c κs within =
 pub returns-in-Ok-clause-opened : goal.returns-in-Ok-clause-opened
 returns-in-Ok-clause-opened g c =
     has_opened c.new-adopting.result c.args.opening c.new-adopting.ensures.begins c.take_up.new.adopting c.finish.result
-    c.args.log (g.F.Files.store c.args.files.now) (g.F.Files.at_rest c.args.files.now)
-    (g.F.Files.at_rest c.take_up.new.files) c.in-Ok.stored c.in-Ok.ensures.takes c.finish.ensures.kept
+    c.args.log (g.F.Files.at_rest c.args.files.now) (g.F.Files.at_rest c.take_up.new.files) c.in-Ok.stored
+    c.in-Ok.ensures.takes c.finish.ensures.kept
     c.finish.ensures.seen c.finish.ensures.next
 
 pub returns-in-Err-clause-damaged : goal.returns-in-Err-clause-damaged
@@ -29,13 +29,13 @@ returns-in-Err-clause-damaged g c =
 pub returns-in-Err-clause-left : goal.returns-in-Err-clause-left
 returns-in-Err-clause-left g c =
     has_left c.new-adopting.result c.take_up.new.adopting c.args.opening c.new-adopting.ensures.begins
-    (g.F.Files.store c.args.files.now) (g.F.Files.at_rest c.args.files.now) (g.F.Files.at_rest c.take_up.new.files)
-    (g.F.Files.at_rest c.end.new.files) c.in-Err.fault c.new-adopting.ensures.files c.in-Err.ensures.takes
+    (g.F.Files.at_rest c.args.files.now) (g.F.Files.at_rest c.take_up.new.files) (g.F.Files.at_rest c.end.new.files)
+    c.in-Err.fault c.new-adopting.ensures.files c.in-Err.ensures.takes
     c.end.ensures.at_rest c.end.ensures.rising c.end.ensures.kept
 
 pub returns-in-Err-clause-damaged_keeps : goal.returns-in-Err-clause-damaged_keeps
 returns-in-Err-clause-damaged_keeps g c =
     has_kept c.new-adopting.result c.take_up.new.adopting c.args.opening c.new-adopting.ensures.begins
-    (g.F.Files.store c.args.files.now) (g.F.Files.at_rest c.args.files.now) (g.F.Files.at_rest c.take_up.new.files)
-    (g.F.Files.at_rest c.end.new.files) c.in-Err.fault c.new-adopting.ensures.files c.in-Err.ensures.takes
+    (g.F.Files.at_rest c.args.files.now) (g.F.Files.at_rest c.take_up.new.files) (g.F.Files.at_rest c.end.new.files)
+    c.in-Err.fault c.new-adopting.ensures.files c.in-Err.ensures.takes
     c.end.ensures.at_rest c.end.ensures.rising c.end.ensures.kept

@@ -8,6 +8,5 @@ returns-in-Err-clause-takes g c =
     let old = c.args.adopting.now in
     let rest = g.F.Files.at_rest c.args.files.now in
     let now = g.F.Files.at_rest c.port.new.self in
-    is_refused old old (g.F.Files.store c.args.files.now) rest now Memory c.requires.none
-    (goes_nowhere (g.F.Files.store c.args.files.now) old) (λ part at is. absurd cc)
+    is_refused old old rest now Memory c.requires.none (goes_nowhere old) (λ part at is. absurd cc)
     (nothing_left old rest now c.port.ensures.same)

@@ -4,7 +4,7 @@ use Rattle.tsdb_outside.specs.Files.{plain_numbers}
 use Rattle.tsdb_recover.specs.declared.fault.OpenFault.TheVariants.{Failed, Memory}
 use Rattle.tsdb_recover.proofs.Opened.{is_refused, is_taken_up, nothing_left}
 use Rattle.tsdb_recover.proofs.Steps.{goes_nowhere}
-use Rattle.tsdb_recover.specs.Taking.{AreGoneIn, KeepsAdopting, HasTakenMore, IsGreatestNumber}
+use Rattle.tsdb_recover.specs.Taking.{AreGoneIn, HasTakenMore, IsGreatestNumber}
 use Rattle.tsdb_recover.proofs.opening.take_up_through.Goals as goal
 
 pub returns-in-Ok-take_listed-clause-takes : goal.returns-in-Ok-take_listed-clause-takes
@@ -13,10 +13,10 @@ returns-in-Ok-take_listed-clause-takes g c =
     let new = c.take_listed.new.adopting in
     let now = g.F.Files.at_rest c.take_listed.new.files in
     let taken = c.in-Ok-take_listed.ensures.taken in
-    is_taken_up old new (g.F.Files.store c.args.files.now) (g.F.Files.at_rest c.args.files.now) taken.0 now
+    is_taken_up old new (g.F.Files.at_rest c.args.files.now) taken.0 now
     (plain_numbers c.in-Ok.numbers.items) c.greatest_of-last.result c.requires.none
-    (subst (λ store. KeepsAdopting store old new) c.in-Ok.ensures.same_store c.in-Ok-take_listed.ensures.goes_on)
-    c.in-Ok-take_listed.ensures.all (subst (λ rest. HasTakenMore old new rest taken.0) c.in-Ok.ensures.same taken.1)
+    c.in-Ok-take_listed.ensures.goes_on c.in-Ok-take_listed.ensures.all
+    (subst (λ rest. HasTakenMore old new rest taken.0) c.in-Ok.ensures.same taken.1)
     (subst (λ list. AreGoneIn (plain_numbers list) (adopting_files new) taken.0 now) c.deref-in-Ok.ensures.value taken.2)
     c.in-Ok.ensures.exact c.in-Ok.ensures.numbers
     (subst (λ list. IsGreatestNumber c.greatest_of-last.result (plain_numbers list)) c.deref.ensures.value
@@ -27,8 +27,7 @@ returns-in-Err-Failed-clause-takes g c =
     let old = c.args.adopting.now in
     let rest = g.F.Files.at_rest c.args.files.now in
     let now = g.F.Files.at_rest c.list.new.self in
-    is_refused old old (g.F.Files.store c.args.files.now) rest now Failed c.requires.none
-    (goes_nowhere (g.F.Files.store c.args.files.now) old) (λ part at is. absurd cc)
+    is_refused old old rest now Failed c.requires.none (goes_nowhere old) (λ part at is. absurd cc)
     (nothing_left old rest now c.list.ensures.same)
 
 pub returns-clause-takes : goal.returns-clause-takes
@@ -36,6 +35,5 @@ returns-clause-takes g c =
     let old = c.args.adopting.now in
     let rest = g.F.Files.at_rest c.args.files.now in
     let now = g.F.Files.at_rest c.list.new.self in
-    is_refused old old (g.F.Files.store c.args.files.now) rest now Memory c.requires.none
-    (goes_nowhere (g.F.Files.store c.args.files.now) old) (λ part at is. absurd cc)
+    is_refused old old rest now Memory c.requires.none (goes_nowhere old) (λ part at is. absurd cc)
     (nothing_left old rest now c.list.ensures.same)

@@ -9,7 +9,7 @@ use Rattle.tsdb_recover.proofs.taking.adopt_all.Goals as goal
 
 pub next-init : goal.next-init
 next-init g c = record {
-  goes_on = goes_nowhere (g.F.Files.store c.args.files.now) c.args.adopting.now;
+  goes_on = goes_nowhere c.args.adopting.now;
   taking = λ stored recorded is up. up;
   same_store = refl;
   same_port = refl;
@@ -18,16 +18,15 @@ next-init g c = record {
 
 pub next-smaller : goal.next-smaller
 next-smaller g c =
-    fewer_left (g.F.Files.store c.args.files.now) (g.F.Files.store c.next.files) c.args.adopting.now c.next.adopting
-    c.adopt_next.new.adopting c.requires.some.0 c.requires.some.1 c.next.invariant.goes_on c.adopt_next.ensures.goes_on
+    fewer_left c.args.adopting.now c.next.adopting c.adopt_next.new.adopting c.requires.some.0 c.requires.some.1
+    c.next.invariant.goes_on c.adopt_next.ensures.goes_on
     c.in-Ok.ensures.one_more
 
 pub next-preserved : goal.next-preserved
 next-preserved g c = record {
-  goes_on = goes_then (g.F.Files.store c.args.files.now) (g.F.Files.store c.next.files) c.args.adopting.now
-      c.next.adopting c.adopt_next.new.adopting c.next.invariant.same_store c.next.invariant.goes_on
+  goes_on = goes_then c.args.adopting.now c.next.adopting c.adopt_next.new.adopting c.next.invariant.goes_on
       c.adopt_next.ensures.goes_on;
-  taking = takes_then (g.F.Files.store c.args.files.now) c.args.adopting.now c.next.adopting c.adopt_next.new.adopting
+  taking = takes_then c.args.adopting.now c.next.adopting c.adopt_next.new.adopting
       (g.F.Files.at_rest c.args.files.now) (g.F.Files.at_rest c.next.files) (g.F.Files.at_rest c.adopt_next.new.files)
       c.next.invariant.goes_on c.next.invariant.taking c.adopt_next.ensures.taking;
   same_store = c.adopt_next.ensures.same_store ∙ c.next.invariant.same_store;
@@ -46,6 +45,10 @@ pub adopt_next-requires-clause-port : goal.adopt_next-requires-clause-port
 adopt_next-requires-clause-port g c κs within =
     c.next.invariant.same_port ∙ c.requires.port ∙ sym c.next.invariant.same_store
 
+pub adopt_next-requires-clause-store : goal.adopt_next-requires-clause-store
+adopt_next-requires-clause-store g c κs within =
+    c.next.invariant.same_store ∙ c.requires.store ∙ sym c.next.invariant.goes_on.store
+
 pub adopt_next-requires-clause-wanted : goal.adopt_next-requires-clause-wanted
 adopt_next-requires-clause-wanted g c κs within = λ recorded is.
     said_next c.in-Some.number.0 (wanted_file (adopting_files c.next.adopting) recorded.store)
@@ -53,12 +56,12 @@ adopt_next-requires-clause-wanted g c κs within = λ recorded is.
 
 pub returns-in-Err-clause-goes_on : goal.returns-in-Err-clause-goes_on
 returns-in-Err-clause-goes_on g c =
-    goes_then (g.F.Files.store c.args.files.now) (g.F.Files.store c.next.files) c.args.adopting.now c.next.adopting
-    c.adopt_next.new.adopting c.next.invariant.same_store c.next.invariant.goes_on c.adopt_next.ensures.goes_on
+    goes_then c.args.adopting.now c.next.adopting c.adopt_next.new.adopting c.next.invariant.goes_on
+    c.adopt_next.ensures.goes_on
 
 pub returns-in-Err-clause-taking : goal.returns-in-Err-clause-taking
 returns-in-Err-clause-taking g c =
-    takes_then (g.F.Files.store c.args.files.now) c.args.adopting.now c.next.adopting c.adopt_next.new.adopting
+    takes_then c.args.adopting.now c.next.adopting c.adopt_next.new.adopting
     (g.F.Files.at_rest c.args.files.now) (g.F.Files.at_rest c.next.files) (g.F.Files.at_rest c.adopt_next.new.files)
     c.next.invariant.goes_on c.next.invariant.taking c.adopt_next.ensures.taking
 

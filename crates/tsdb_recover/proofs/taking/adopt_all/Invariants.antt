@@ -8,7 +8,7 @@ use Rattle.tsdb_recover.proofs.taking.adopt_all.Given as goal
 
 abbrev pub invariant-next : goal.invariant-next
 invariant-next g l = record {
-  goes_on : KeepsAdopting (g.F.Files.store l.fn.files) l.fn.adopting l.adopting;
+  goes_on : KeepsAdopting l.fn.adopting l.adopting;
   taking : HasTakenMore l.fn.adopting l.adopting (g.F.Files.at_rest l.fn.files) (g.F.Files.at_rest l.files);
   same_store : g.F.Files.store l.files ≡ g.F.Files.store l.fn.files;
   same_port : g.F.Port.Port.store l.port ≡ g.F.Port.Port.store l.fn.port;

@@ -29,7 +29,8 @@ returns-in-Ok-Some-clause-goes_on g c =
     let begun = subst (IsBegunOrNot g.F.Right.ReadRight.file c.args.space (IsInnerRuns c.args.space c.args.core.now) c.args.core.now c.begin_inner.new.self)
     (c.in-Ok-Some.is ∙ ap Ok c.in-Ok-Some.field-0-is) c.begin_inner.ensures.begun in
     rewritten g.F.Right.ReadRight.file (g.F.Port.Port.store c.args.port.now) c.args.space begun.0 c.args.core.now c.begin_inner.new.self
-    c.in-Ok-Some.job begun.2 c.requires.ready c.rewrite.new.core c.rewrite.ensures.ends g.F.Right.ReadRight.tells
+    c.in-Ok-Some.job begun.2 c.requires.ready c.rewrite.ensures.of_store c.rewrite.new.core c.rewrite.ensures.ends
+    g.F.Right.ReadRight.tells
     g.F.Port.Port.store g.F.Port.Counted.faults c.args.port.now c.rewrite.new.port refl c.rewrite.ensures.same_store
     c.rewrite.ensures.later
 
@@ -38,9 +39,11 @@ returns-in-Ok-Some-clause-cause g c = λ sure.
     let begun = subst (IsBegunOrNot g.F.Right.ReadRight.file c.args.space (IsInnerRuns c.args.space c.args.core.now) c.args.core.now c.begin_inner.new.self)
     (c.in-Ok-Some.is ∙ ap Ok c.in-Ok-Some.field-0-is) c.begin_inner.ensures.begun in
     let told = sure_truth g.F.Right.ReadRight.file (g.F.Port.Port.store c.args.port.now) c.args.space begun.0 c.args.core.now
-    c.begin_inner.new.self c.in-Ok-Some.job begun.2 c.requires.ready g.F.Right.ReadRight.tells sure in
+    c.begin_inner.new.self c.in-Ok-Some.job begun.2 c.requires.ready c.rewrite.ensures.of_store
+    g.F.Right.ReadRight.tells sure in
     cause_of g.F.Right.ReadRight.file (g.F.Port.Port.store c.args.port.now) c.args.space begun.0 c.args.core.now c.begin_inner.new.self
-    c.in-Ok-Some.job begun.2 c.requires.ready c.rewrite.result (λ why. why ≡ fault.Device) _ _ _
+    c.in-Ok-Some.job begun.2 c.requires.ready c.rewrite.ensures.of_store c.rewrite.result (λ why. why ≡ fault.Device) _
+    _ _
     (c.rewrite.ensures.cause told.0 told.1)
 
 pub returns-in-Ok-Some-clause-full : goal.returns-in-Ok-Some-clause-full

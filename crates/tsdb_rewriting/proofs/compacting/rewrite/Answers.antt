@@ -8,7 +8,7 @@ run-requires-clause-formed g c = λ lifetimes lives. c.requires.rewriting.kept.f
 
 pub run-requires-clause-of_store : goal.run-requires-clause-of_store
 run-requires-clause-of_store g c = λ lifetimes lives. of_the_store g.F.Right.ReadRight.file (g.F.Port.Port.store c.args.port.now)
-    c.args.core.now c.args.job c.requires.rewriting
+    c.args.core.now c.args.job c.requires.rewriting c.sound.ensures.of_store
 
 pub commit-requires-clause-rewriting : goal.commit-requires-clause-rewriting
 commit-requires-clause-rewriting g c = λ lifetimes lives. (

@@ -1,4 +1,4 @@
-use Rattle.tsdb_tasks.proofs.Coming.{of_store, sent_out, stand_last, tell_on}
+use Rattle.tsdb_tasks.proofs.Coming.{sent_out, stand_last, tell_on}
 use Rattle.tsdb_tasks.proofs.Committing.{all_there}
 use Rattle.tsdb_tasks.proofs.flush_laws.the_files_of_a_flush_join_those_of_the_state.Goals as goal
 
@@ -15,9 +15,6 @@ returns-clause-sent_out c store job files old new outside engine flush others st
 pub returns-clause-told : goal.returns-clause-told
 returns-clause-told c store job files old new outside engine flush others stored out of_job tells told come =
     tell_on store job files old new outside engine flush others stored out of_job come tells told
-
-pub returns-clause-of_store : goal.returns-clause-of_store
-returns-clause-of_store c store drawn files old new all these come = of_store drawn files old new come store all these
 
 pub returns-clause-all : goal.returns-clause-all
 returns-clause-all c store job files flush others engine out of_job all =

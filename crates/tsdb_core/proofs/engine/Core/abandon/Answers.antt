@@ -7,7 +7,7 @@ use Rattle.tsdb_core.proofs.engine.Core.abandon.Goals as goal
 pub returns : goal.returns
 returns g c = abandoned_from g.F.Right.ReadRight.file g.F.Sealed.SealedFile.file g.F.Sealed.SealedFile.rights c.args.job
     c.args.output c.args.self.now c.free_sequence.new.self
-    (record c.free_sequence.new.self { files = c.give_up.new.files }) c.requires.out c.sound.ensures
+    (record c.free_sequence.new.self { files = c.give_up.new.files }) c.requires.out c.sound.ensures.kept
     c.free_sequence.ensures refl c.give_up.ensures
 
 pub give_up-requires-clause-out : goal.give_up-requires-clause-out

@@ -8,7 +8,7 @@ use Rattle.tsdb_core.proofs.engine.Core.commit_job.Goals as goal
 pub returns : goal.returns
 returns g c = committed_from g.F.Right.ReadRight.file g.F.Sealed.SealedFile.file g.F.Sealed.SealedFile.rights c.args.job
     c.args.output c.args.self.now c.log_end-job.new.self c.free_sequence.new.self c.end_files.new.self
-    c.runs_of-runs.result c.log_end-job.result.1 c.requires.out c.sound.ensures c.requires.output
+    c.runs_of-runs.result c.log_end-job.result.1 c.requires.out c.sound.ensures.kept c.requires.output
     c.runs_of-runs.ensures c.log_end-job.ensures.rest c.log_end-job.ensures.logged
     (subst (λ job. c.free_sequence.new.self ≡ record c.log_end-job.new.self {
       sequence_claimed = without_claim job.space c.log_end-job.new.self.sequence_claimed;

@@ -8,13 +8,13 @@ use Rattle.tsdb_core.proofs.engine.Core.take_oldest.Goals as goal
 pub returns-in_err-reserve_flushed-clause-not : goal.returns-in_err-reserve_flushed-clause-not
 returns-in_err-reserve_flushed-clause-not g c = on_err _ (not_taken c.args.self.now c.reserve_flushed.new.self
     c.args.self.now.files c.in_err-reserve_flushed.ensures.kept
-    (record { sequence = refl; unsequence = refl; outgoing = refl })
+    (record { store = refl; sequence = refl; unsequence = refl; outgoing = refl })
     (record { files = λ n. refl; places = λ n is. is }) refl)
 
 pub returns-in_err-job-clause-not : goal.returns-in_err-job-clause-not
 returns-in_err-job-clause-not g c = on_err _ (not_taken c.args.self.now c.reserve_flushed.new.self
     c.args.self.now.files c.in_ok-reserve_flushed.ensures.kept
-    (record { sequence = refl; unsequence = refl; outgoing = refl })
+    (record { store = refl; sequence = refl; unsequence = refl; outgoing = refl })
     (record { files = λ n. refl; places = λ n is. is }) refl)
 
 pub returns-in_err-prepare_flush-clause-not : goal.returns-in_err-prepare_flush-clause-not
@@ -36,13 +36,13 @@ returns-clause-taken g c = flush_taken c.args.self.now c.reserve_flushed.new.sel
 pub returns-in_err-reserve_flushed-clause-world : goal.returns-in_err-reserve_flushed-clause-world
 returns-in_err-reserve_flushed-clause-world g c = not_taken_world c.args.self.now _ (not_taken c.args.self.now
     c.reserve_flushed.new.self c.args.self.now.files c.in_err-reserve_flushed.ensures.kept
-    (record { sequence = refl; unsequence = refl; outgoing = refl })
+    (record { store = refl; sequence = refl; unsequence = refl; outgoing = refl })
     (record { files = λ n. refl; places = λ n is. is }) refl)
 
 pub returns-in_err-job-clause-world : goal.returns-in_err-job-clause-world
 returns-in_err-job-clause-world g c = not_taken_world c.args.self.now _ (not_taken c.args.self.now
     c.reserve_flushed.new.self c.args.self.now.files c.in_ok-reserve_flushed.ensures.kept
-    (record { sequence = refl; unsequence = refl; outgoing = refl })
+    (record { store = refl; sequence = refl; unsequence = refl; outgoing = refl })
     (record { files = λ n. refl; places = λ n is. is }) refl)
 
 pub returns-in_err-prepare_flush-clause-world : goal.returns-in_err-prepare_flush-clause-world

@@ -1,4 +1,4 @@
-use Rattle.std.proofs.Common.{sym, subst}
+use Rattle.std.proofs.Common.{◌≡◌, sym, subst}
 use Rattle.tsdb_fileset.specs.Files.{KeptFiles}
 use Rattle.tsdb_fileset.specs.Places.{AreOfStore, AreUnread}
 use Rattle.tsdb_fileset.proofs.files.KeptFiles.close.Goals as goal
@@ -10,5 +10,6 @@ keep_files-requires-clause-no_rights g c κs within =
 
 pub keep_files-requires-clause-store : goal.keep_files-requires-clause-store
 keep_files-requires-clause-store g c κs within =
-    let Of : KeptFiles → Type 0 = λ files. AreOfStore (g.F.Files.store c.args.files.now) files.places in
-    subst Of (sym c.self.view_is) c.requires.store
+    let Is : KeptFiles → Type 0 = λ files. g.F.Files.store c.args.files.now ≡ files.store in
+    subst (λ store. AreOfStore store c.self.inside.tokens.entries)
+    (sym (subst Is (sym c.self.view_is) c.requires.store)) c.self.invariant.of_store

@@ -1,5 +1,6 @@
-use Rattle.std.proofs.Common.{Some, refl, sym, ap, subst}
+use Rattle.std.proofs.Common.{◌≡◌, Some, refl, sym, ap, subst, ◌∙◌}
 use Rattle.tsdb_fileset.specs.Files.{IsOpen, KeptFiles}
+use Rattle.tsdb_fileset.specs.Places.{KeptFile}
 use Rattle.tsdb_fileset.specs.Room.{HasRoom}
 use Rattle.tsdb_fileset.proofs.Changes.{enlisted}
 use Rattle.tsdb_fileset.proofs.files.KeptFiles.enlist.Goals as goal
@@ -9,6 +10,8 @@ invariant_of-self g c =
     let place = subst (IsOpen c.args.built.entry.number.0) (sym c.self.view_is) c.requires.place in
     let InKept : KeptFiles → Type 0 = λ files. HasRoom c.args.space files.spare in
     let room = subst InKept (sym c.self.view_is) c.requires.room in
-    enlisted c.args.space c.args.built.entry c.new.result c.self.inside _ c.self.invariant place room
+    let Is : KeptFiles → Type 0 = λ files. (g.F.Sealed.SealedFile.file c.args.built.sealed).store ≡ files.store in
+    enlisted g.F.Files.store c.args.space c.args.built.entry c.new.result c.self.inside _ c.self.invariant place room
     c.fill_place.ensures.file c.fill_place.ensures.others c.push_entry.ensures refl c.less_room-self-inside.ensures
-    (ap Some c.lesser.ensures)
+    (ap Some c.lesser.ensures) refl
+    (ap (λ (file : KeptFile). file.name.store) c.new.ensures ∙ subst Is (sym c.self.view_is) c.requires.store)

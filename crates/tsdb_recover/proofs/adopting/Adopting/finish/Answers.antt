@@ -15,7 +15,7 @@ pub returns-clause-quiet : goal.returns-clause-quiet
 returns-clause-quiet g c =
     let all = c.requires.all in
     c.new.ensures.quiet (above_kept (adopting_files c.args.self) all.is.items all.recorded c.args.stored
-    c.next_file-next_file.result.0 c.sound.ensures all.is.replayed all.is.first
+    c.next_file-next_file.result.0 c.sound.ensures.kept all.is.replayed all.is.first
     (c.next_file-next_file.ensures.number all.recorded all.is.opening) c.next_file-next_file.ensures.end)
 
 pub returns-clause-seen : goal.returns-clause-seen
@@ -29,7 +29,7 @@ returns-clause-seen g c = λ items recorded kept told log good replayed is order
     let outside : Outside = record { items = items; kept = kept; told = told; known = known_of files } in
     subst (λ n. IsSeen c.new.result outside (opened n recorded.store)) (sym c.new.ensures.next)
     (c.new.ensures.opened outside recorded.store
-    (above_kept files items recorded c.args.stored next c.sound.ensures replayed is.first number end)
+    (above_kept files items recorded c.args.stored next c.sound.ensures.kept replayed is.first number end)
     (record {
       memory = subst (λ memory. IsMemoryOf memory recorded.store) (sym c.new-logged.ensures.memory)
           (c.into_memory.ensures recorded is.opening);
@@ -38,9 +38,9 @@ returns-clause-seen g c = λ items recorded kept told log good replayed is order
         named = tt;
       };
       stored = stored_opened items kept told files recorded c.args.stored next good replayed order whole number end
-          c.sound.ensures is.first none says;
+          c.sound.ensures.kept is.first none says;
     })
-    (opened_files files recorded.store next c.sound.ensures is.first none) tell)
+    (opened_files files recorded.store next c.sound.ensures.kept is.first none) tell)
 
 pub returns-clause-unclaimed : goal.returns-clause-unclaimed
 returns-clause-unclaimed g c = record {
@@ -53,4 +53,8 @@ returns-clause-none_leaving g c = subst (λ (files : KeptFiles). files.outgoing 
     c.requires.all.is.first.outgoing
 
 pub returns-clause-kept : goal.returns-clause-kept
+<<<<<<< ours
 returns-clause-kept g c = c.sound.ensures
+=======
+returns-clause-kept g c = c.sound.ensures.kept
+>>>>>>> theirs
