@@ -279,7 +279,7 @@ module _ {J F S R P : Type 0} {means : disk.Ghosts J} {counts : counted.Ghosts J
     pub jobs : (made : Compaction) (flushes : List state.FlushState) (compactions : List Compaction)
         → IsCompactionOf job made → KeepsJobs old flushes compactions → KeepsJobs new flushes (made ∷ compactions)
     jobs made flushes compactions made_of keeps = begun_kept old new job flushes compactions made made_of keeps refl
-        is_next rights has_found
+        is_next refl rights has_found
         (still_open name space stamp (next_of old) runs old.files files taken series begun fit.sequence fit.unsequence)
         (output_open name space stamp (next_of old) runs old.files files taken series begun fit.sequence fit.unsequence)
         (new_room name space stamp (next_of old) runs old.files files taken series begun fit.sequence fit.unsequence)
@@ -403,6 +403,7 @@ module _ {J F S R P : Type 0} {means : disk.Ghosts J} {counts : counted.Ghosts J
       };
       kept = is_kept;
       next = is_next;
+      flushed = refl;
       claimed = is_claimed_by;
       lists = record {
         sequence = early_list name space stamp (next_of old) runs old.files files taken series begun fit.sequence

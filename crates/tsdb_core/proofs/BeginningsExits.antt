@@ -71,6 +71,7 @@ module _ {J F S R P : Type 0} {means : disk.Ghosts J} {counts : counted.Ghosts J
     lists = lists;
     places = made;
     limit = refl;
+    flushed = refl;
     claimed = refl;
     same = not_taken old logged files prepared lists made spare;
   }

@@ -11,7 +11,7 @@ use Rattle.tsdb_base.specs.declared.ids.Space.TheVariants.{Sequence, Unsequence}
 use Rattle.tsdb_tasks.specs.Jobs.{IsCompactionOf, input_file}
 use Rattle.tsdb_tasks.specs.Job.{Job}
 use Rattle.tsdb_core.proofs.Jobs.{is_there}
-use Rattle.tsdb_core.specs.Core.{KeepsJobs, kept_room, next_of}
+use Rattle.tsdb_core.specs.Core.{KeepsJobs, flushed_below, kept_room, next_of}
 use Rattle.tsdb_core.specs.declared.engine.Core.{Core}
 use Rattle.tsdb_fileset.specs.Files.{IsOpen, kept_file}
 use Rattle.tsdb_fileset.specs.Places.{KeptFile}
@@ -65,7 +65,7 @@ module _ {J F S R P : Type 0} {means : disk.Ghosts J} {counts : counted_by.Ghost
   module _ (core new : Core J F S R P means counts) (job : Job F S R P) (flushes : List state.FlushState)
       (compactions : List Compaction) (compaction : Compaction) (is : IsCompactionOf job compaction)
       (keeps : KeepsJobs core flushes compactions) (output : job.output.0 ≡ next_of core)
-      (next : next_of new ≡ next_of core + 1) (rights : ℕ → ℕ)
+      (next : next_of new ≡ next_of core + 1) (flushed : flushed_below new ≡ flushed_below core) (rights : ℕ → ℕ)
       (found : (n : ℕ) → kept_file n new.files ≡ option_map (more_rights (rights n)) (kept_file n core.files))
       (still_open : (n : ℕ) → IsOpen n core.files → IsOpen n new.files)
       (opened : kept_file job.output.0 core.files ≡ None → IsOpen job.output.0 new.files)
@@ -126,6 +126,7 @@ module _ {J F S R P : Type 0} {means : disk.Ghosts J} {counts : counted_by.Ghost
       below = λ n. subst (λ o. IfSome o (λ file. n < next_of new)) (sym (found n))
           (still_below n (next_of core) (next_of new) (rights n) (kept_file n core.files) (omega (arith, next))
           (keeps.below n));
+      flushed = omega (arith, flushed, next, keeps.flushed);
       differ = count_new;
       range = with_new (λ n. (1 ≤ n) × (n < next_of new))
           (each_weaker (λ n. (1 ≤ n) × (n < next_of core)) (λ n. (1 ≤ n) × (n < next_of new))

@@ -25,8 +25,7 @@ use Rattle.tsdb_core.specs.Core.{AreClaimed, IsSeen, KeepsJobs}
 use Rattle.tsdb_core.specs.Ending.{IsLeastWith, PartEnds, drawn_for, less_if, number_for}
 use Rattle.tsdb_core.specs.Ending.{numbers_if}
 use Rattle.tsdb_core.specs.Flushes.{AppendsFlush, HasEndedFlush as EndsInCore, HasNumbersOf, IsAbandoned, IsCommit}
-use Rattle.tsdb_core.specs.Flushes.{IsCommitAnswer}
-use Rattle.tsdb_core.specs.Flushes.{IsLoggedAs, IsNotTaken, IsOldestPair, IsOut}
+use Rattle.tsdb_core.specs.Flushes.{IsCommitAnswer, IsLoggedAs, IsNotTaken, IsOldestPair, IsOut, below_after}
 use Rattle.tsdb_core.specs.Worlds.{IsWorldOf, CoreKeepsWorld}
 use Rattle.tsdb_core.specs.declared.commit.Commit.{Commit}
 use Rattle.tsdb_core.specs.declared.commit.Commit.TheVariants.{Device, Done, Gone}
@@ -43,7 +42,7 @@ use Rattle.tsdb_fileset.specs.Places.{KeptFile, OnlyMakesPlaces}
 use Rattle.tsdb_fileset.specs.Room.{HasRoom}
 use Rattle.tsdb_fileset.specs.declared.room.Spare.{Spare}
 use Rattle.tsdb_base.proofs.Lists.{among_left, among_right, with_one_is}
-use Rattle.tsdb_base.specs.Lists.{Among, if_some}
+use Rattle.tsdb_base.specs.Lists.{Among, IsWithOne, if_some}
 use Rattle.tsdb_model.specs.World.{World}
 use Rattle.tsdb_model.specs.declared.command.Schema.{Schema}
 use Rattle.tsdb_log.specs.declared.record.LogRecord.{LogRecord}
@@ -100,6 +99,13 @@ pub on_err : {T E P : Type 0} (result : Result T E) → P → OnErr result P
 on_err (Ok value) holds = tt
 on_err (Err fault) holds = holds
 
+-- the number at the last flush goes on to be at most the next one
+last_is_low : (commit : Commit) (next below last : ℕ) → last ≡ below_after commit next below → below ≤ next
+    → last ≤ next
+last_is_low Done next below last is low = omega (arith, is)
+last_is_low Gone next below last is low = omega (arith, is, low)
+last_is_low Device next below last is low = omega (arith, is, low)
+
 -- what holds of each drawn number
 if_numbers : (P : ℕ → Type 0) (number : Option FileNumber) → ((n : ℕ) → Among n (numbers_if number) → P n)
     → IfSome number (λ n. P n.0)
@@ -143,28 +149,33 @@ module _ {J F S R P : Type 0} {means : disk.Ghosts J} {counts : counted.Ghosts J
       (second : PartEnds commit Unsequence job.unsequence files.unsequence mid new)
       (drawn_first : Each (λ file. Among (file_number file) (numbers_if job.sequence)) (if_some files.sequence))
       (drawn : Each (λ file. Among (file_number file) (drawn_for job)) (all_of files)) (unread : AreUnreadYet files)
-      (fresh : AreFresh files) where
+      (fresh : AreFresh files) (last : ℕ) (is_last : last ≡ below_after commit core.next_file core.flushed_below) where
     come : HaveCome (drawn_for job) files core.files new
     come = both_come commit job.sequence job.unsequence files.sequence files.unsequence core.files mid new first second
         (parts_apart core job out.flush out.others out.flushes out.compactions out.numbers out.out out.keeps)
         drawn_first
 
-    pub ends_flush : EndsInCore core (record core { files = new }) job files commit
+    jobs_left : (flush : state.FlushState) (others flushes : List state.FlushState) (compactions : List Compaction)
+        → HasNumbersOf job flush → IsWithOne flush others flushes → KeepsJobs core flushes compactions
+        → KeepsJobs (record core { files = new; flushed_below = last }) others compactions
+    jobs_left flush others flushes compactions has is_out keeps = others_kept core job flush others flushes compactions
+        has is_out keeps files new come drawn (second.room ∙ ap (less_if Unsequence job.unsequence) first.room) last
+        (last_is_low commit core.next_file core.flushed_below last is_last keeps.flushed)
+
+    pub ends_flush : EndsInCore core (record core { files = new; flushed_below = last }) job files commit
     ends_flush = record {
       lists = both_lists commit job.sequence job.unsequence files.sequence files.unsequence core.files mid new first
           second;
       come = come;
       store = second.store ∙ first.store;
-      jobs = λ flush others flushes compactions has is_out keeps. others_kept core job flush others flushes compactions
-          has
-          is_out keeps files new come drawn (second.room ∙ ap (less_if Unsequence job.unsequence) first.room);
-      loans = λ flush others flushes compactions lent has is_out keeps. flush_loans core new commit (drawn_for job) files
+      jobs = jobs_left;
+      loans = λ flush others flushes compactions lent has is_out keeps. flush_loans core new last commit (drawn_for job)
+          files
           (both_lists commit job.sequence job.unsequence files.sequence files.unsequence core.files mid new first
           second) come drawn unread fresh (is_open core job flush others flushes compactions has is_out keeps.jobs) others flushes
-          compactions lent
-          (others_kept core job flush others flushes compactions has is_out keeps.jobs files new come drawn
-          (second.room ∙ ap (less_if Unsequence job.unsequence) first.room)) keeps;
+          compactions lent (jobs_left flush others flushes compactions has is_out keeps.jobs) keeps;
       next = refl;
+      flushed = is_last;
       limit = refl;
       claimed = refl;
     }
@@ -218,15 +229,15 @@ module _ {J F S R P : Type 0} {means : disk.Ghosts J} {counts : counted.Ghosts J
     keeps = jobs_stay old logged more out.flushes out.compactions out.keeps;
   }
 
-  module _ (old : Core J F S R P means counts) (logged : LoggedMemory J means counts) (kept : KeptFiles) (job : FlushJob)
-      (files : NewFiles) (store : Store) (of_job : AreFilesOfJob store job files) (commit : Commit)
-      (ends : EndsInCore (record old { logged = logged }) (record old { logged = logged; files = kept }) job files
-      commit)
+  module _ (old : Core J F S R P means counts) (logged : LoggedMemory J means counts) (kept : KeptFiles) (last : ℕ)
+      (job : FlushJob) (files : NewFiles) (store : Store) (of_job : AreFilesOfJob store job files) (commit : Commit)
+      (ends : EndsInCore (record old { logged = logged })
+      (record old { logged = logged; files = kept; flushed_below = last }) job files commit)
       (outside : Outside) (engine : EngineState) (flush : state.FlushState) (others : List state.FlushState)
       (seen : IsSeen old outside engine) (out : IsOutAs job flush others engine) (tells : TellBytes files)
       (more : framed_room old.logged ≤ framed_room logged) where
     abbrev new : Core J F S R P means counts
-    new = record old { logged = logged; files = kept }
+    new = record old { logged = logged; files = kept; flushed_below = last }
 
     abbrev later : Outside
     later = with_files flush files outside
@@ -292,11 +303,11 @@ module _ {J F S R P : Type 0} {means : disk.Ghosts J} {counts : counted.Ghosts J
       claims = claims;
     }
 
-    module _ (all : AreAllThere job files) (listed : Option Stamp) (is_oldest : IsOldestPair job (memory_of old.logged))
+    module _ (all : AreAllThere job files) (listed : Option Stamp) (is_oldest : IsOldestPair old job)
         (least : IsLeastWith listed job (listed_borns old.files)) where
       oldest : IsOldestOf job engine.store.frozen
       oldest = oldest_of job (memory_of old.logged).series (memory_of old.logged).frozen engine.store.frozen
-          seen.sound.memory.frozen is_oldest
+          seen.sound.memory.frozen is_oldest.born
 
       can : CanCommit (number_for job.sequence) (number_for job.unsequence) listed later engine flush others
       can = subst (λ (numbers : FileNumber × FileNumber). CanCommit numbers.0 numbers.1 listed later engine flush
@@ -398,11 +409,12 @@ module _ {J F S R P : Type 0} {means : disk.Ghosts J} {counts : counted.Ghosts J
   -- ---- the calls
 
   -- an end of a flush behind its record is one of the core before it
-  ends_both : (old : Core J F S R P means counts) (logged : LoggedMemory J means counts) (kept : KeptFiles) (job : FlushJob)
-      (files : NewFiles) (commit : Commit) → framed_room old.logged ≤ framed_room logged
-      → EndsInCore (record old { logged = logged }) (record old { logged = logged; files = kept }) job files commit
-      → EndsInCore old (record old { logged = logged; files = kept }) job files commit
-  ends_both old logged kept job files commit more ends = record {
+  ends_both : (old : Core J F S R P means counts) (logged : LoggedMemory J means counts) (kept : KeptFiles) (last : ℕ)
+      (job : FlushJob) (files : NewFiles) (commit : Commit) → framed_room old.logged ≤ framed_room logged
+      → EndsInCore (record old { logged = logged })
+      (record old { logged = logged; files = kept; flushed_below = last }) job files commit
+      → EndsInCore old (record old { logged = logged; files = kept; flushed_below = last }) job files commit
+  ends_both old logged kept last job files commit more ends = record {
     lists = ends.lists;
     come = ends.come;
     store = ends.store;
@@ -412,36 +424,39 @@ module _ {J F S R P : Type 0} {means : disk.Ghosts J} {counts : counted.Ghosts J
         out (all_same old (record old { logged = logged }) refl refl refl (λ n. refl) (jobs_stay old logged more) flushes
         compactions lent keeps);
     next = ends.next;
+    flushed = ends.flushed;
     limit = ends.limit;
     claimed = ends.claimed;
   }
 
-  module _ (old : Core J F S R P means counts) (logged : LoggedMemory J means counts) (kept : KeptFiles) (job : FlushJob)
-      (files : NewFiles) (store : Store) (of_job : AreFilesOfJob store job files) (all : AreAllThere job files) where
+  module _ (old : Core J F S R P means counts) (logged : LoggedMemory J means counts) (kept : KeptFiles) (last : ℕ)
+      (job : FlushJob) (files : NewFiles) (store : Store) (of_job : AreFilesOfJob store job files)
+      (all : AreAllThere job files) where
     abbrev both : Core J F S R P means counts
-    both = record old { logged = logged; files = kept }
+    both = record old { logged = logged; files = kept; flushed_below = last }
 
-    pub is_commit : (commit : Commit) → IsCommitAnswer job (memory_of old.logged) commit
+    pub is_commit : (commit : Commit) → IsCommitAnswer old job commit
         → IsLoggedAs old (record old { logged = logged }) job commit
         → EndsInCore (record old { logged = logged }) both job files commit → IsCommit old both job files commit
     is_commit Done answered logs ends = record {
       answer = answered;
-      ends = ends_both old logged kept job files Done logs.flushed.room ends;
-      step = λ outside engine flush others seen out tells. done_seen old logged kept job files store of_job Done ends
-          outside
+      ends = ends_both old logged kept last job files Done logs.flushed.room ends;
+      step = λ outside engine flush others seen out tells. done_seen old logged kept last job files store of_job Done
+          ends outside
           engine flush others seen out tells logs.flushed.room all logs.listed answered logs.least ends.lists
           logs.flushed;
-      moments = λ outside engine flush others seen out tells. commit_moments old logged kept job files store of_job
+      moments = λ outside engine flush others seen out tells. commit_moments old logged kept last job files store of_job
           Done ends
           outside engine flush others seen out tells logs.flushed.room all logs.listed answered logs.least (Ok tt)
           logs.flushed;
-      world = λ outside engine flush others world seen out tells stands. done_world old logged kept job files store
+      world = λ outside engine flush others world seen out tells stands. done_world old logged kept last job files store
           of_job
           Done ends outside engine flush others seen out tells logs.flushed.room all logs.listed answered logs.least
           world
-          stands (done_seen old logged kept job files store of_job Done ends outside engine flush others seen out tells
-          logs.flushed.room all logs.listed answered logs.least ends.lists logs.flushed);
-      keeps = λ outside engine flush others seen out tells oldest. commit_keeps old logged kept job files store of_job Done
+          stands (done_seen old logged kept last job files store of_job Done ends outside engine flush others seen out
+          tells logs.flushed.room all logs.listed answered logs.least ends.lists logs.flushed);
+      keeps = λ outside engine flush others seen out tells oldest. commit_keeps old logged kept last job files store
+          of_job Done
           ends outside engine flush others seen out tells logs.flushed.room all logs.listed oldest logs.least;
       left = λ is. logs.flushed.pair;
       working = logs.flushed.working;
@@ -454,11 +469,11 @@ module _ {J F S R P : Type 0} {means : disk.Ghosts J} {counts : counted.Ghosts J
     }
     is_commit Gone answered logs ends = record {
       answer = answered;
-      ends = ends_both old logged kept job files Gone same_room ends;
+      ends = ends_both old logged kept last job files Gone same_room ends;
       step = λ outside engine flush others seen out tells.
           subst (λ list. IsSeen both (with_files flush files outside) (ended_flush flush others list engine))
           (all_there store job files flush others engine out of_job all)
-          (ended_seen old logged kept job files store of_job Gone ends outside engine flush others seen out tells
+          (ended_seen old logged kept last job files store of_job Gone ends outside engine flush others seen out tells
           same_room
           ends.lists logs);
       moments = λ outside engine flush others seen out tells.
@@ -466,13 +481,13 @@ module _ {J F S R P : Type 0} {means : disk.Ghosts J} {counts : counted.Ghosts J
           logs)
           ((refuses old.logged (flush_record flush) NeedsNothing answer.NoPath tt).moments (with_files flush files outside)
           engine
-          (sound old logged kept job files store of_job Gone ends outside engine flush others seen out tells same_room)
-          tt);
-      world = λ outside engine flush others world seen out tells stands. world_of old logged kept job files store
+          (sound old logged kept last job files store of_job Gone ends outside engine flush others seen out tells
+          same_room) tt);
+      world = λ outside engine flush others world seen out tells stands. world_of old logged kept last job files store
           of_job Gone
           ends outside engine flush others seen out tells same_room world
           (ended_flush flush others (state_files files) engine) refl stands
-          (ended_seen old logged kept job files store of_job Gone ends outside engine flush others seen out tells
+          (ended_seen old logged kept last job files store of_job Gone ends outside engine flush others seen out tells
           same_room
           ends.lists logs);
       keeps = λ outside engine flush others seen out tells oldest. absurd (answered oldest);
@@ -491,25 +506,25 @@ module _ {J F S R P : Type 0} {means : disk.Ghosts J} {counts : counted.Ghosts J
         same_room = subst (λ log. framed_room old.logged ≤ framed_room log) (sym logs) (omega arith)
     is_commit Device answered (fault, logs) ends = record {
       answer = answered;
-      ends = ends_both old logged kept job files Device logs.flushed.room ends;
-      step = λ outside engine flush others seen out tells. failed_seen old logged kept job files store of_job Device
-          ends
+      ends = ends_both old logged kept last job files Device logs.flushed.room ends;
+      step = λ outside engine flush others seen out tells. failed_seen old logged kept last job files store of_job
+          Device ends
           outside engine flush others seen out tells logs.flushed.room all logs.listed answered logs.least fault
           ends.lists
           logs.flushed;
-      moments = λ outside engine flush others seen out tells. commit_moments old logged kept job files store of_job
+      moments = λ outside engine flush others seen out tells. commit_moments old logged kept last job files store of_job
           Device ends
           outside engine flush others seen out tells logs.flushed.room all logs.listed answered logs.least (Err fault)
           logs.flushed;
-      world = λ outside engine flush others world seen out tells stands. failed_world old logged kept job files store
-          of_job
+      world = λ outside engine flush others world seen out tells stands. failed_world old logged kept last job files
+          store of_job
           Device ends outside engine flush others seen out tells logs.flushed.room all logs.listed answered logs.least
           world
-          stands (failed_seen old logged kept job files store of_job Device ends outside engine flush others seen out
-          tells
+          stands (failed_seen old logged kept last job files store of_job Device ends outside engine flush others seen
+          out tells
           logs.flushed.room all logs.listed answered logs.least fault ends.lists logs.flushed);
-      keeps = λ outside engine flush others seen out tells oldest. commit_keeps old logged kept job files store of_job
-          Device
+      keeps = λ outside engine flush others seen out tells oldest. commit_keeps old logged kept last job files store
+          of_job Device
           ends outside engine flush others seen out tells logs.flushed.room all logs.listed oldest logs.least;
       left = λ is. absurd cc;
       working = logs.flushed.working;
@@ -521,19 +536,20 @@ module _ {J F S R P : Type 0} {means : disk.Ghosts J} {counts : counted.Ghosts J
       later = logs.flushed.cause.later;
     }
 
-  pub is_abandoned : (old : Core J F S R P means counts) (kept : KeptFiles) (job : FlushJob) (files : NewFiles)
-      (store : Store) → AreFilesOfJob store job files → EndsInCore old (record old { files = kept }) job files Gone
-      → IsAbandoned old (record old { files = kept }) job files
-  is_abandoned old kept job files store of_job ends = record {
+  pub is_abandoned : (old : Core J F S R P means counts) (kept : KeptFiles) (last : ℕ) (job : FlushJob)
+      (files : NewFiles) (store : Store) → AreFilesOfJob store job files
+      → EndsInCore old (record old { files = kept; flushed_below = last }) job files Gone
+      → IsAbandoned old (record old { files = kept; flushed_below = last }) job files
+  is_abandoned old kept last job files store of_job ends = record {
     logged = refl;
     ends = ends;
-    step = λ outside engine flush others seen out tells. ended_seen old old.logged kept job files store of_job Gone ends
-        outside engine flush others seen out tells (omega arith) ends.lists refl;
-    world = λ outside engine flush others world seen out tells stands. world_of old old.logged kept job files store
+    step = λ outside engine flush others seen out tells. ended_seen old old.logged kept last job files store of_job Gone
+        ends outside engine flush others seen out tells (omega arith) ends.lists refl;
+    world = λ outside engine flush others world seen out tells stands. world_of old old.logged kept last job files store
         of_job
         Gone ends outside engine flush others seen out tells (omega arith) world
         (ended_flush flush others (state_files files) engine) refl stands
-        (ended_seen old old.logged kept job files store of_job Gone ends outside engine flush others seen out tells
+        (ended_seen old old.logged kept last job files store of_job Gone ends outside engine flush others seen out tells
         (omega arith) ends.lists refl);
   }
 
@@ -575,26 +591,30 @@ module _ {J F S R P : Type 0} {means : disk.Ghosts J} {counts : counted.Ghosts J
         (logged_out old mid.logged job (more_logged old mid job commit logs) out)
 
     pub committed_from : (new : Core J F S R P means counts) (files : NewFiles) (store : Store)
-        → AreFilesOfJob store job files → AreAllThere job files → new ≡ record mid { files = new.files }
-        → IsCommitAnswer job (memory_of old.logged) commit → EndsInCore mid new job files commit
+        → AreFilesOfJob store job files → AreAllThere job files
+        → new ≡ record mid { files = new.files; flushed_below = new.flushed_below }
+        → IsCommitAnswer old job commit → EndsInCore mid new job files commit
         → IsCommit old new job files commit
     committed_from new files store of_job all is_new answered ends =
         subst (λ core. IsCommit old core job files commit) (sym whole)
-        (is_commit old mid.logged new.files job files store of_job all commit answered
+        (is_commit old mid.logged new.files new.flushed_below job files store of_job all commit answered
         (subst (λ core. IsLoggedAs old core job commit) is_mid logs)
         (subst (λ core. EndsInCore core both_of job files commit) is_mid
         (subst (λ core. EndsInCore mid core job files commit) whole ends)))
       where
         both_of : Core J F S R P means counts
-        both_of = record old { logged = mid.logged; files = new.files }
+        both_of = record old { logged = mid.logged; files = new.files; flushed_below = new.flushed_below }
 
-        whole : new ≡ record old { logged = mid.logged; files = new.files }
-        whole = is_new ∙ ap (λ (core : Core J F S R P means counts). record core { files = new.files }) is_mid
+        whole : new ≡ record old { logged = mid.logged; files = new.files; flushed_below = new.flushed_below }
+        whole = is_new ∙ ap (λ (core : Core J F S R P means counts). record core {
+          files = new.files;
+          flushed_below = new.flushed_below;
+        }) is_mid
 
   pub abandoned_from : (old new : Core J F S R P means counts) (job : FlushJob) (files : NewFiles) (store : Store)
-      → AreFilesOfJob store job files → new ≡ record old { files = new.files } → EndsInCore old new job files Gone
-      → IsAbandoned old new job files
+      → AreFilesOfJob store job files → new ≡ record old { files = new.files; flushed_below = new.flushed_below }
+      → EndsInCore old new job files Gone → IsAbandoned old new job files
   abandoned_from old new job files store of_job is_new ends = subst (λ core. IsAbandoned old core job files) (sym
       is_new)
-      (is_abandoned old new.files job files store of_job
+      (is_abandoned old new.files new.flushed_below job files store of_job
       (subst (λ core. EndsInCore old core job files Gone) is_new ends))

@@ -78,6 +78,10 @@ some_places : (number : Option FileNumber) → length (if_some (plain number)) �
 some_places None = refl
 some_places (Some number) = refl
 
+pub range_from : (below a k : ℕ) → below ≤ a → Each (λ n. below ≤ n) (range_with_len a k)
+range_from below a zero low = tt
+range_from below a (suc k) low = (low, range_from below (a + 1) k (omega (arith, low)))
+
 module _ {J F S R P : Type 0} {means : disk.Ghosts J} {counts : counted_by.Ghosts J} where
   -- ---- a flush that is out
 
@@ -164,7 +168,8 @@ module _ {J F S R P : Type 0} {means : disk.Ghosts J} {counts : counted_by.Ghost
     -- once its files have come, the core keeps what it kept for the others
     module _ (files : NewFiles) (kept : KeptFiles) (come : HaveCome (drawn_for job) files core.files kept)
         (drawn : Each (λ file. Among (file_number file) (drawn_for job)) (all_of files))
-        (room : kept.spare ≡ less_if Unsequence job.unsequence (less_if Sequence job.sequence core.files.spare)) where
+        (room : kept.spare ≡ less_if Unsequence job.unsequence (less_if Sequence job.sequence core.files.spare))
+        (last : ℕ) (low : last ≤ next_of core) where
       less_both : (s u : Option FileNumber) (spare : Spare)
           → (less_if Unsequence u (less_if Sequence s spare)).sequence ≡ spare.sequence - length (if_some s)
           × ((less_if Unsequence u (less_if Sequence s spare)).unsequence ≡ spare.unsequence - length (if_some u))
@@ -175,13 +180,14 @@ module _ {J F S R P : Type 0} {means : disk.Ghosts J} {counts : counted_by.Ghost
       less_both (Some s) None spare = (omega arith, omega arith, omega arith)
       less_both (Some s) (Some u) spare = (omega arith, omega arith, omega arith)
 
-      pub others_kept : KeepsJobs (record core { files = kept }) others compactions
+      pub others_kept : KeepsJobs (record core { files = kept; flushed_below = last }) others compactions
       others_kept = record {
         from_one = keeps.from_one;
         below = of_each (drawn_for job) files core.files kept come (λ n file. n < next_of core)
             (λ n never. keeps.below n)
             (each_from_among _ (all_of files) (λ file there. (in_range (file_number file)
             (each_among _ (all_of files) file drawn there)).1));
+        flushed = low;
         differ = λ n. omega (arith, parted n, keeps.differ n);
         range = each_from_among _ (drawn_numbers others compactions) (λ n there.
             each_among _ (drawn_numbers flushes compactions) n keeps.range (also n there));
@@ -297,18 +303,11 @@ module _ {J F S R P : Type 0} {means : disk.Ghosts J} {counts : counted_by.Ghost
     none_kept n None from below = refl
     none_kept n (Some file) from below = absurd (omega (arith, from, below))
 
-    range_from : (a k : ℕ) → Each (λ n. a ≤ n) (range_with_len a k)
-    range_from a zero = tt
-    range_from a (suc k) = (
-      omega arith,
-      each_weaker (λ n. a + 1 ≤ n) (λ n. a ≤ n) (λ n from. omega (arith, from)) (range_with_len (a + 1) k)
-          (range_from (a + 1) k),
-    )
-
     new_open : Each (λ n. IsOpen n files) (drawn_for job)
     new_open = each_from_among _ (drawn_for job) (λ n there. opened n there
         (each_among (λ n. next_of core ≤ n) (drawn_for job) n
-        (subst (Each (λ n. next_of core ≤ n)) (sym numbers) (range_from (next_of core) k)) there))
+        (subst (Each (λ n. next_of core ≤ n)) (sym numbers)
+        (range_from (next_of core) (next_of core) k (omega arith))) there))
       where
         places_made : Each (λ n. file_at (place_of_number n core.files.places) ≡ None → IsOpen n files) (drawn_for job)
         places_made = each_append _ (numbers_if job.sequence) (numbers_if job.unsequence)
@@ -328,6 +327,7 @@ module _ {J F S R P : Type 0} {means : disk.Ghosts J} {counts : counted_by.Ghost
       from_one = omega (arith, keeps.from_one, is);
       below = λ n. below_later (kept_file n files) n (next_of core) next (omega (arith, is))
           (subst (λ found. IfSome found (λ (file : KeptFile). n < next_of core)) (sym (made.files n)) (keeps.below n));
+      flushed = omega (arith, keeps.flushed, is);
       differ = λ n. omega (arith, after.differ n);
       range = each_from_among _ all (λ n there. let range = after.range n (omega (arith, is_counted n all there)) in (
         range.0,
@@ -394,6 +394,7 @@ module _ {J F S R P : Type 0} {means : disk.Ghosts J} {counts : counted_by.Ghost
     from_one = keeps.from_one;
     below = λ n. subst (λ found. IfSome found (λ (file : KeptFile). n < next_of core)) (sym (made.files n))
         (keeps.below n);
+    flushed = keeps.flushed;
     differ = keeps.differ;
     range = keeps.range;
     places = each_weaker (λ n. IsOpen n core.files) (λ n. IsOpen n files) (λ n. made.places n)

@@ -172,14 +172,16 @@ module _ {J F S R P : Type 0} {means : disk.Ghosts J} {counts : counted_by.Ghost
   }
 
   -- a flush ends: its files get places that no right is on
-  pub flush_loans : (old : Core J F S R P means counts) (kept : KeptFiles) (commit : Commit) (drawn : List ℕ)
+  pub flush_loans : (old : Core J F S R P means counts) (kept : KeptFiles) (last : ℕ) (commit : Commit) (drawn : List ℕ)
       (files : NewFiles) → AreAfterCommit commit files old.files kept → HaveCome drawn files old.files kept
       → Each (λ file. Among (file_number file) drawn) (all_of files) → AreUnreadYet files → AreFresh files
       → ((n : ℕ) → Among n drawn → IsOpen n old.files) → (others flushes : List FlushState)
       (compactions : List Compaction) (lent : List (List LentRight))
-      → KeepsJobs (record old { files = kept }) others compactions → KeepsLoans old flushes compactions lent
-      → KeepsLoans (record old { files = kept }) others compactions lent
-  flush_loans old kept commit drawn files after come of_drawn unread fresh is_open others flushes compactions lent jobs keeps =
+      → KeepsJobs (record old { files = kept; flushed_below = last }) others compactions
+      → KeepsLoans old flushes compactions lent
+      → KeepsLoans (record old { files = kept; flushed_below = last }) others compactions lent
+  flush_loans old kept last commit drawn files after come of_drawn unread fresh is_open others flushes compactions lent
+      jobs keeps =
       record {
         jobs = jobs;
         inputs = inputs_after commit files old.files kept old.sequence_claimed compactions fresh after keeps.inputs;

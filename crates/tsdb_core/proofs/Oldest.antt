@@ -3,20 +3,27 @@ use Rattle.std.proofs.Common.{◌≡◌, ℕ, ◌+◌, ◌<◌, ◌≤◌, true,
 use Rattle.std.proofs.Common.{Bool, zero, suc, ap, arith, length-append, refl, sym, subst, ◌∙◌, nat_eq, nat_lt}
 use Rattle.std.proofs.lemmas.Bool.{eq-eqb, eqb-true, false≢true}
 use Rattle.std.proofs.lemmas.Bool.Decides.{nat_tests}
-use Rattle.std.specs.List.{AllByRecursion as Each}
+use Rattle.std.specs.Arc.{arc_value}
+use Rattle.std.specs.List.{AllByRecursion as Each, range_with_len}
 use Rattle.std.specs.Option.{IsSomeAnd}
 use Rattle.std.specs.Prelude.{◌↔◌, IsTrue, slice_get}
 use Rattle.tsdb_fileset.specs.FlushJob.{FlushJob}
 use Rattle.tsdb_memory.specs.Model.{AreFrozenInTurn, frozen_in}
+use Rattle.tsdb_memory.specs.LogState.{memory_of}
 use Rattle.tsdb_memory.specs.Store.{FrozenPair, MemoryState}
 use Rattle.tsdb_memory.specs.declared.store.FrozenPair as declared
 use Rattle.tsdb_core.specs.Ending.{IsLeastWith, drawn_for, numbers_if}
-use Rattle.tsdb_core.specs.Flushes.{IsDue, IsOldestPair}
+use Rattle.tsdb_core.proofs.Jobs.{range_from}
+use Rattle.tsdb_core.specs.Core.{flushed_below, logged_of}
+use Rattle.tsdb_core.specs.Flushes.{HasOldestBorn, IsDue, IsOldestPair}
+use Rattle.tsdb_core.specs.declared.engine.Core.{Core}
 use Rattle.tsdb_base.specs.declared.ids.FileNumber.{FileNumber}
 use Rattle.tsdb_base.specs.declared.ids.Stamp.{Stamp}
 use Rattle.tsdb_base.proofs.Lists.{among_left, among_right, each_all, each_append, each_left, each_map, each_right}
 use Rattle.tsdb_base.proofs.Lists.{each_weaker}
 use Rattle.tsdb_base.specs.Lists.{if_some}
+use Rattle.tsdb_outside.specs.declared.disk.Disk as disk
+use Rattle.tsdb_outside.specs.declared.faults.Counted as counted
 use Rattle.tsdb_memory.proofs.Borns.{least_push}
 use Rattle.tsdb_memory.proofs.Counts.{among_either}
 use Rattle.tsdb_memory.specs.Least.{IsLeastOf, lesser_born}
@@ -25,7 +32,7 @@ use Rattle.std.proofs.lemmas.List.{append-nil, length-map}
 pub first_pair : (pairs : List declared.FrozenPair) (pair : declared.FrozenPair) (store : MemoryState) (job : FlushJob) (born
     : ℕ)
     → map frozen_in pairs ≡ store.frozen → Some pair ≡ slice_get pairs 0 → born ≡ (frozen_in pair).born
-    → IsTrue (nat_eq born job.born.0) ↔ IsOldestPair job store
+    → IsTrue (nat_eq born job.born.0) ↔ HasOldestBorn job store
 first_pair [] pair store job born are first is = absurd cc
 first_pair (other ∷ pairs) pair store job born are first is = (
   λ same. subst (λ (list : List FrozenPair). IsSomeAnd (slice_get list 0) (λ p. p.born ≡ job.born.0)) are
@@ -41,7 +48,7 @@ first_pair (other ∷ pairs) pair store job born are first is = (
     born_is = ap (λ (p : declared.FrozenPair). (frozen_in p).born) (sym same_pair) ∙ sym is
 
 pub no_pair : (pairs : List declared.FrozenPair) (store : MemoryState) (job : FlushJob) → map frozen_in pairs ≡ store.frozen
-    → None ≡ slice_get pairs 0 → IsTrue false ↔ IsOldestPair job store
+    → None ≡ slice_get pairs 0 → IsTrue false ↔ HasOldestBorn job store
 no_pair [] store job are none = (
   (λ is. absurd (false≢true is)),
   (λ oldest. absurd (subst (λ (list : List FrozenPair). IsSomeAnd (slice_get list 0) (λ p. p.born ≡ job.born.0)) (sym
@@ -49,6 +56,24 @@ no_pair [] store job are none = (
       oldest)),
 )
 no_pair (other ∷ pairs) store job are none = absurd cc
+
+module _ {J F S R P : Type 0} {means : disk.Ghosts J} {counts : counted.Ghosts J} where
+  -- a job of the oldest pair with numbers from the next one on is of the oldest pair, since none was committed there
+  pub oldest_still : (new : Core J F S R P means counts) (job : FlushJob) (next k : ℕ) (pairs : List FrozenPair)
+      → (memory_of (logged_of new)).frozen ≡ pairs
+      → IsSomeAnd (slice_get pairs 0) (λ pair. (pair.born ≡ job.born.0) × (pair.pair ≡ arc_value job.pair))
+      → drawn_for job ≡ range_with_len next k → flushed_below new ≤ next → IsOldestPair new job
+  oldest_still new job next k pairs same oldest numbers low = record {
+    born = subst (λ (frozen : List FrozenPair). IsSomeAnd (slice_get frozen 0) (λ pair. pair.born ≡ job.born.0))
+        (sym same) (born_of (slice_get pairs 0) oldest);
+    since = subst (Each (λ n. flushed_below new ≤ n)) (sym numbers) (range_from (flushed_below new) next k low);
+  }
+    where
+      born_of : (o : Option FrozenPair)
+          → IsSomeAnd o (λ pair. (pair.born ≡ job.born.0) × (pair.pair ≡ arc_value job.pair))
+          → IsSomeAnd o (λ pair. pair.born ≡ job.born.0)
+      born_of None is = is
+      born_of (Some pair) is = is.0
 
 pub due_pair : (pairs : List declared.FrozenPair) (pair : declared.FrozenPair) (born upto : ℕ) (test : Bool)
     → Some pair ≡ slice_get pairs 0 → born ≡ (frozen_in pair).born → IsTrue test ↔ (born ≤ upto)

@@ -57,6 +57,7 @@ module _ {J F S R P : Type 0} {means : disk.Ghosts J} {counts : counted.Ghosts J
     jobs_stay flushes compactions kept = record {
       from_one = kept.from_one;
       below = names_stay (λ n name. n < next_of old) change leaves old.files files changes kept.below;
+      flushed = kept.flushed;
       differ = kept.differ;
       range = kept.range;
       places = each_weaker (λ n. IsOpen n old.files) (λ n. IsOpen n files)
@@ -75,6 +76,7 @@ module _ {J F S R P : Type 0} {means : disk.Ghosts J} {counts : counted.Ghosts J
       logged = refl;
       next = refl;
       limit = refl;
+      flushed = refl;
       claimed = refl;
       jobs = jobs_stay;
       store = changes.lists.store;

@@ -141,6 +141,7 @@ module _ {J F S R P : Type 0} {means : disk.Ghosts J} {counts : counted.Ghosts J
     ends_job : IsGone job file old.files kept → LeavesInputs job old.files kept old.sequence_claimed
         → IfSome file (λ one. one.token.rights ≡ 0) → HasEndedJob old new job file
     ends_job gone left unread = record {
+      flushed = refl;
       claimed = refl;
       next = refl;
       limit = refl;

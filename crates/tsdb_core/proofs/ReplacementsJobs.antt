@@ -152,6 +152,7 @@ module _ {J F S R P : Type 0} {means : disk.Ghosts J} {counts : counted_by.Ghost
       from_one = keeps.from_one;
       below = name_of_each (λ n one. n < next_of core) job file core.files kept gone (λ n k one is. is)
           (below_output file) keeps.below;
+      flushed = keeps.flushed;
       differ = λ n. omega (arith, parted n, keeps.differ n);
       range = each_from_among _ (drawn_numbers flushes others) (λ n there.
           each_among _ (drawn_numbers flushes compactions) n keeps.range (also n there));

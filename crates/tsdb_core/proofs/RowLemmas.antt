@@ -177,6 +177,7 @@ module _ {J F S R P : Type 0} {means : disk.Ghosts J} {counts : counted.Ghosts J
     files = second.files ∙ first.files;
     next = second.next ∙ first.next;
     limit = second.limit ∙ first.limit;
+    flushed = second.flushed ∙ first.flushed;
     claimed = second.claimed ∙ first.claimed;
     jobs = λ flushes compactions jobs. second.jobs flushes compactions (first.jobs flushes compactions jobs);
     loans = λ flushes compactions lent loans. second.loans flushes compactions lent
@@ -188,6 +189,7 @@ module _ {J F S R P : Type 0} {means : disk.Ghosts J} {counts : counted.Ghosts J
     files = refl;
     next = refl;
     limit = refl;
+    flushed = refl;
     claimed = refl;
     jobs = λ flushes compactions jobs. jobs;
     loans = λ flushes compactions lent loans. loans;

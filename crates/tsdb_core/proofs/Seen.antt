@@ -79,6 +79,7 @@ module _ {J F S R P : Type 0} {means : disk.Ghosts J} {counts : counted.Ghosts J
   jobs_stay old logged more flushes compactions jobs = record {
     from_one = jobs.from_one;
     below = jobs.below;
+    flushed = jobs.flushed;
     differ = jobs.differ;
     range = jobs.range;
     places = jobs.places;
@@ -147,6 +148,7 @@ module _ {J F S R P : Type 0} {means : disk.Ghosts J} {counts : counted.Ghosts J
       files = refl;
       next = refl;
       limit = refl;
+      flushed = refl;
       claimed = refl;
       jobs = jobs_stay old logged command.room;
       loans = all_same old (record old { logged = logged }) refl refl refl (λ n. refl) (jobs_stay old logged command.room);
@@ -203,6 +205,7 @@ module _ {J F S R P : Type 0} {means : disk.Ghosts J} {counts : counted.Ghosts J
         from_one = kept.from_one;
         below = of_those_that_stay (λ number file. number < next_of old) (may_go doubted old.files part) old.files.places
             files.places leaves.places kept.below;
+        flushed = kept.flushed;
         differ = kept.differ;
         range = kept.range;
         places = each_weaker (λ number. IsOpen number old.files) (λ number. IsOpen number files)
@@ -253,6 +256,7 @@ module _ {J F S R P : Type 0} {means : disk.Ghosts J} {counts : counted.Ghosts J
     logged = refl;
     next = refl;
     limit = refl;
+    flushed = refl;
     claimed = refl;
     counted = counted;
     all = swept_of old files doubted old.files.outgoing (λ file among. among) named leaves;
@@ -265,6 +269,7 @@ module _ {J F S R P : Type 0} {means : disk.Ghosts J} {counts : counted.Ghosts J
     logged = refl;
     next = refl;
     limit = refl;
+    flushed = refl;
     claimed = refl;
     counted = tt;
     all = tt;

@@ -12,6 +12,7 @@ use Rattle.tsdb_core.proofs.Claims.{claims_stay, same_lists}
 use Rattle.tsdb_core.proofs.Commits.{places_told, prepared_sound}
 use Rattle.tsdb_core.proofs.Loans.{same_but_jobs}
 use Rattle.tsdb_core.proofs.Jobs.{one_more_kept}
+use Rattle.tsdb_core.proofs.Oldest.{oldest_still}
 use Rattle.tsdb_core.specs.Core.{IsSeen, next_of}
 use Rattle.tsdb_core.specs.Ending.{drawn_for, numbers_if}
 use Rattle.tsdb_core.specs.Flushes.{IsFlushTaken}
@@ -149,16 +150,22 @@ module _ {J F S R P : Type 0} {means : disk.Ghosts J} {counts : counted.Ghosts J
       numbers = taken.numbers;
     }
 
+    oldest : IsSomeAnd (slice_get (memory_of old.logged).frozen 0)
+        (λ pair. (pair.born ≡ job.born.0) × (pair.pair ≡ arc_value job.pair))
+    oldest = subst (λ (frozen : List FrozenPair). IsSomeAnd (slice_get frozen 0)
+        (λ pair. (pair.born ≡ job.born.0) × (pair.pair ≡ arc_value job.pair)))
+        (sym taken.are ∙ prepared.room.frozen) (sym taken.born, sym taken.pair)
+
     pub flush_taken : IsFlushTaken old new job
     flush_taken = record {
       is_job = is_job;
       of_memory = of_memory;
-      oldest = subst (λ (frozen : List FrozenPair). IsSomeAnd (slice_get frozen 0)
-          (λ pair. (pair.born ≡ job.born.0) × (pair.pair ≡ arc_value job.pair)))
-          (sym taken.are ∙ prepared.room.frozen) (sym taken.born, sym taken.pair);
+      oldest = oldest;
       numbers = numbers;
       some = subst (λ (list : List ℕ). 0 < length list) (sym (one_list job)) drawn;
       next = is_next;
+      still = λ flushes compactions keeps. oldest_still new job (next_of old) (length (drawn_for job))
+          (memory_of old.logged).frozen prepared.room.frozen oldest numbers keeps.flushed;
       jobs = λ flush flushes compactions has keeps. one_more_kept old job flush flushes compactions has keeps files
           (length (drawn_for job)) numbers (omega (arith, left, two_at_most job)) made placed room logged next is_next
           prepared.record_room enough;

@@ -14,8 +14,8 @@ use Rattle.tsdb_tasks.specs.Jobs.{IsCompactionOf, input_files}
 use Rattle.tsdb_tasks.specs.CompactionsOutputs.{TellsTruth}
 use Rattle.tsdb_tasks.specs.Job.{Job}
 use Rattle.tsdb_core.specs.Compactions.{IsJobKept, job_rights}
-use Rattle.tsdb_core.specs.Core.{IsSeen, KeepsJobs, files_of, is_sequence_claimed, limit_of, logged_of, next_of}
-use Rattle.tsdb_core.specs.Core.{store_of}
+use Rattle.tsdb_core.specs.Core.{IsSeen, KeepsJobs, files_of, flushed_below, is_sequence_claimed, limit_of, logged_of}
+use Rattle.tsdb_core.specs.Core.{next_of, store_of}
 use Rattle.tsdb_core.specs.Flushes.{IsNotTaken}
 use Rattle.tsdb_core.specs.Loans.{KeepsLoans, LentRight}
 use Rattle.tsdb_core.specs.declared.commit.CoreFault.{CoreFault}
@@ -135,6 +135,7 @@ module _ {J F S R P : Type 0} {means : disk.Ghosts J} {counts : counted.Ghosts J
     pub kept : (flushes : List FlushState) (compactions : List Compaction) → KeepsJobs old flushes compactions
         → IsJobKept name new job
     pub next : next_of new ≡ next_of old + 1
+    pub flushed : flushed_below new ≡ flushed_below old
     pub claimed : is_sequence_claimed new ≡ claimed_by space (is_sequence_claimed old)
     pub lists : ClaimsLate runs.unsequence old new
     -- one right more is out on each input, and no file comes or goes
@@ -158,6 +159,7 @@ module _ {J F S R P : Type 0} {means : disk.Ghosts J} {counts : counted.Ghosts J
     pub lists : KeepsLists (files_of old) (files_of new)
     pub places : OnlyMakesPlaces (files_of old).places (files_of new).places
     pub limit : limit_of new ≡ limit_of old
+    pub flushed : flushed_below new ≡ flushed_below old
     pub claimed : is_sequence_claimed new ≡ is_sequence_claimed old
     pub same : IsNotTaken old new
 

@@ -4,7 +4,8 @@ use Rattle.tsdb_base.specs.declared.answers.Answer.{Answer}
 use Rattle.tsdb_base.specs.declared.answers.Answer.TheVariants.{Done, NoPath, WrongType, Exists, Device, Memory, Full}
 use Rattle.tsdb_base.specs.declared.ids.Stamp.{Stamp}
 use Rattle.tsdb_base.specs.declared.point.Range.{Range}
-use Rattle.tsdb_core.specs.Core.{IsSeen, KeepsJobs, files_of, is_sequence_claimed, limit_of, logged_of, next_of}
+use Rattle.tsdb_core.specs.Core.{IsSeen, KeepsJobs, files_of, flushed_below, is_sequence_claimed, limit_of, logged_of}
+use Rattle.tsdb_core.specs.Core.{next_of}
 use Rattle.tsdb_core.specs.Loans.{KeepsAllLoans}
 use Rattle.tsdb_core.specs.declared.engine.Core.{Core}
 use Rattle.tsdb_frames.specs.Calls.{KeepsToSlot}
@@ -34,12 +35,13 @@ module _ {J F S R P : Type 0} {means : disk.Ghosts J} {counts : counted.Ghosts J
   IsSeenAfter new outside state item Memory = IsSeen new outside state
   IsSeenAfter new outside state item (Full counter) = IsSeen new outside state
 
-  -- What no command touches: the files, the number of the next one, the limit of a pair, and whether the sequence list is
-  -- claimed. What is kept for jobs and pins stays.
+  -- What no command touches: the files, the number of the next one, that at the last flush, the limit of a pair, and
+  -- whether the sequence list is claimed. What is kept for jobs and pins stays.
   pub record KeepsFiles (old new : Core J F S R P means counts) : Type 0 where
     pub files : files_of new ≡ files_of old
     pub next : next_of new ≡ next_of old
     pub limit : limit_of new ≡ limit_of old
+    pub flushed : flushed_below new ≡ flushed_below old
     pub claimed : is_sequence_claimed new ≡ is_sequence_claimed old
     pub jobs : (flushes : List FlushState) (compactions : List Compaction) → KeepsJobs old flushes compactions
         → KeepsJobs new flushes compactions

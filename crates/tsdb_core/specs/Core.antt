@@ -64,6 +64,11 @@ module _ {J F S R P : Type 0} {means : disk.Ghosts J} {counts : counted.Ghosts J
   abbrev pub next_of : Core J F S R P means counts → ℕ
   next_of core = core.next_file
 
+  -- The number that the next file had when a flush was last committed, or 0. A flush with a number below it is of a
+  -- pair that is frozen no longer.
+  abbrev pub flushed_below : Core J F S R P means counts → ℕ
+  flushed_below core = core.flushed_below
+
   -- a job with a sequence output is out
   abbrev pub is_sequence_claimed : Core J F S R P means counts → Bool
   is_sequence_claimed core = core.sequence_claimed
@@ -85,11 +90,12 @@ module _ {J F S R P : Type 0} {means : disk.Ghosts J} {counts : counted.Ghosts J
 
   -- What a core keeps for the jobs that are out, whatever is told: their numbers differ, lie from 1 to below the next one,
   -- and each has a place where its file is not there yet; and there is the room that their ends need. The numbers of kept
-  -- files lie below the next one too.
+  -- files lie below the next one too, and the one at the last flush is at most it.
   pub record KeepsJobs (core : Core J F S R P means counts) (flushes : List FlushState) (compactions : List Compaction)
       : Type 0 where
     pub from_one : 1 ≤ next_of core
     pub below : (number : ℕ) → IfSome (kept_file number (files_of core)) (λ file. number < next_of core)
+    pub flushed : flushed_below core ≤ next_of core
     pub differ : (number : ℕ) → count number (drawn_numbers flushes compactions) ≤ 1
     pub range : Each (λ number. (1 ≤ number) × (number < next_of core)) (drawn_numbers flushes compactions)
     pub places : Each (λ number. IsOpen number (files_of core)) (drawn_numbers flushes compactions)

@@ -2,15 +2,15 @@
 use Rattle.std.specs.Prelude.{◌≡◌, ◌⊎◌, ℕ, ◌+◌, ◌<◌, ◌≤◌, List, ◌∷◌, length, Option, None, Some, Result}
 use Rattle.std.specs.Prelude.{drop, slice_get}
 use Rattle.std.specs.Arc.{arc_value}
-use Rattle.std.specs.List.{range_with_len}
+use Rattle.std.specs.List.{AllByRecursion as Each, range_with_len}
 use Rattle.std.specs.Option.{IsSomeAnd, option_map}
 use Rattle.std.specs.declared.result.Result.TheVariants.{Ok, Err}
 use Rattle.tsdb_base.specs.declared.ids.FileNumber.{FileNumber}
 use Rattle.tsdb_base.specs.declared.ids.Stamp.{Stamp}
 use Rattle.tsdb_tasks.specs.Coming.{HaveCome}
 use Rattle.tsdb_tasks.specs.Files.{IsOutAs, NewFiles, TellBytes, state_files, told_after_flush, with_files}
-use Rattle.tsdb_core.specs.Core.{IsSeen, KeepsJobs, files_of, is_sequence_claimed, limit_of, logged_of, next_of}
-use Rattle.tsdb_core.specs.Core.{store_of, working_of}
+use Rattle.tsdb_core.specs.Core.{IsSeen, KeepsJobs, files_of, flushed_below, is_sequence_claimed, limit_of, logged_of}
+use Rattle.tsdb_core.specs.Core.{next_of, store_of, working_of}
 use Rattle.tsdb_core.specs.Ending.{AreAfterCommit, IsLeastWith, drawn_for, number_for}
 use Rattle.tsdb_core.specs.Loans.{KeepsAllLoans, KeepsLoans, LentRight}
 use Rattle.tsdb_core.specs.Worlds.{IsWorldOf}
@@ -63,17 +63,33 @@ IsTakeAnswer upto next store (Err Memory) = IsDue upto store.frozen × (next + 2
 IsTakeAnswer upto next store (Err (Full counter)) =
     IsDue upto store.frozen × (end_of_numbers < next + 2) × (counter ≡ next)
 
--- the oldest frozen pair is that of the job
-abbrev pub IsOldestPair : FlushJob → MemoryState → Type 0
-IsOldestPair job store = IsSomeAnd (slice_get store.frozen 0) (λ pair. pair.born ≡ job.born.0)
+-- the oldest frozen pair has the born of the job
+abbrev pub HasOldestBorn : FlushJob → MemoryState → Type 0
+HasOldestBorn job store = IsSomeAnd (slice_get store.frozen 0) (λ pair. pair.born ≡ job.born.0)
 
--- a commit answers gone exactly where the oldest frozen pair is not that of the job
-abbrev pub IsCommitAnswer : FlushJob → MemoryState → Commit → Type 0
-IsCommitAnswer job store Done = IsOldestPair job store
-IsCommitAnswer job store Gone = ¬ IsOldestPair job store
-IsCommitAnswer job store Device = IsOldestPair job store
+-- no number of the job is below this one
+abbrev pub IsDrawnFrom : ℕ → FlushJob → Type 0
+IsDrawnFrom below job = Each (λ number. below ≤ number) (drawn_for job)
+
+-- the number below which flushes are of pairs that are gone, after a commit: the next one, where it is done
+abbrev pub below_after : Commit → ℕ → ℕ → ℕ
+below_after Done next below = next
+below_after Gone next below = below
+below_after Device next below = below
 
 module _ {J F S R P : Type 0} {means : disk.Ghosts J} {counts : counted.Ghosts J} where
+  -- The oldest frozen pair is that of the job: it has its born, and no flush was committed since the job drew its
+  -- numbers. A job is of the pair that is the oldest when it draws them, and only a commit takes that pair away.
+  pub record IsOldestPair (core : Core J F S R P means counts) (job : FlushJob) : Type 0 where
+    pub born : HasOldestBorn job (memory_of (logged_of core))
+    pub since : IsDrawnFrom (flushed_below core) job
+
+  -- a commit answers gone exactly where the oldest frozen pair is not that of the job
+  abbrev pub IsCommitAnswer : Core J F S R P means counts → FlushJob → Commit → Type 0
+  IsCommitAnswer core job Done = IsOldestPair core job
+  IsCommitAnswer core job Gone = ¬ IsOldestPair core job
+  IsCommitAnswer core job Device = IsOldestPair core job
+
   -- The job is out: it has drawn the numbers of a flush for which the core keeps places and room.
   pub record IsOut (core : Core J F S R P means counts) (job : FlushJob) : Type 0 where
     pub flush : state.FlushState
@@ -91,6 +107,7 @@ module _ {J F S R P : Type 0} {means : disk.Ghosts J} {counts : counted.Ghosts J
     pub lists : KeepsLists (files_of old) (files_of new)
     pub places : OnlyMakesPlaces (files_of old).places (files_of new).places
     pub limit : limit_of new ≡ limit_of old
+    pub flushed : flushed_below new ≡ flushed_below old
     pub claimed : is_sequence_claimed new ≡ is_sequence_claimed old
 
   -- no flush was taken: the core shows the same states, and keeps what it kept for jobs
@@ -101,9 +118,9 @@ module _ {J F S R P : Type 0} {means : disk.Ghosts J} {counts : counted.Ghosts J
     pub loans : KeepsAllLoans old new
     pub step : (outside : Outside) (engine : EngineState) → IsSeen old outside engine → IsSeen new outside engine
 
-  -- The job of the oldest frozen pair was taken, with the next numbers for its parts that have a point. What its end
-  -- needs is kept from now on. It has each series that has a point in the pair and no other, with its schema as memory
-  -- has it.
+  -- The job of the oldest frozen pair was taken, with the next numbers for its parts that have a point. The pair stays,
+  -- and what the job's end needs is kept from now on. It has each series that has a point in the pair and no other, with
+  -- its schema as memory has it.
   pub record IsFlushTaken (old new : Core J F S R P means counts) (job : FlushJob) : Type 0 where
     pub is_job : IsJob job
     pub of_memory : taking.IsJobTaken (memory_of (logged_of old)) (next_of old) job
@@ -112,6 +129,8 @@ module _ {J F S R P : Type 0} {means : disk.Ghosts J} {counts : counted.Ghosts J
     pub numbers : drawn_for job ≡ range_with_len (next_of old) (length (drawn_for job))
     pub some : 0 < length (drawn_for job)
     pub next : next_of new ≡ next_of old + length (drawn_for job)
+    pub still : (flushes : List state.FlushState) (compactions : List Compaction) → KeepsJobs old flushes compactions
+        → IsOldestPair new job
     pub jobs : (flush : state.FlushState) (flushes : List state.FlushState) (compactions : List Compaction)
         → HasNumbersOf job flush → KeepsJobs old flushes compactions → KeepsJobs new (flush ∷ flushes) compactions
     pub loans : (flush : state.FlushState) (flushes : List state.FlushState) (compactions : List Compaction)
@@ -156,6 +175,7 @@ module _ {J F S R P : Type 0} {means : disk.Ghosts J} {counts : counted.Ghosts J
         (lent : List (List LentRight)) → HasNumbersOf job flush → IsWithOne flush others flushes
         → KeepsLoans old flushes compactions lent → KeepsLoans new others compactions lent
     pub next : next_of new ≡ next_of old
+    pub flushed : flushed_below new ≡ below_after commit (next_of old) (flushed_below old)
     pub limit : limit_of new ≡ limit_of old
     pub claimed : is_sequence_claimed new ≡ is_sequence_claimed old
 
@@ -176,7 +196,7 @@ module _ {J F S R P : Type 0} {means : disk.Ghosts J} {counts : counted.Ghosts J
   -- leaves the world of the state, with the new files kept. The record keeps the world, wherever it can be written.
   pub record IsCommit (old new : Core J F S R P means counts) (job : FlushJob) (files : NewFiles) (commit : Commit)
       : Type 0 where
-    pub answer : IsCommitAnswer job (memory_of (logged_of old)) commit
+    pub answer : IsCommitAnswer old job commit
     pub ends : HasEndedFlush old new job files commit
     pub step : (outside : Outside) (engine : EngineState) (flush : state.FlushState) (others : List state.FlushState)
         → IsSeen old outside engine → IsOutAs job flush others engine → TellBytes files
@@ -188,8 +208,7 @@ module _ {J F S R P : Type 0} {means : disk.Ghosts J} {counts : counted.Ghosts J
         (world : World) → IsSeen old outside engine → IsOutAs job flush others engine → TellBytes files
         → StandsFor outside.told engine.store world → IsWorldOf new world
     pub keeps : (outside : Outside) (engine : EngineState) (flush : state.FlushState) (others : List state.FlushState)
-        → IsSeen old outside engine → IsOutAs job flush others engine → TellBytes files
-        → IsOldestPair job (memory_of (logged_of old))
+        → IsSeen old outside engine → IsOutAs job flush others engine → TellBytes files → IsOldestPair old job
         → KeepsWorld (told_after_flush flush files outside.told) engine.store (committed_flush flush others engine).store
     pub left : commit ≡ Done → (memory_of (logged_of new)).frozen ≡ drop 1 (memory_of (logged_of old)).frozen
     pub working : working_of new ≡ working_of old

@@ -1,8 +1,8 @@
 -- What pinning and unpinning leave of a core.
 use Rattle.std.specs.Prelude.{◌≡◌, List, [], ◌∷◌}
 use Rattle.std.specs.List.{flat_map}
-use Rattle.tsdb_core.specs.Core.{IsSeen, KeepsJobs, files_of, is_sequence_claimed, limit_of, logged_of, next_of}
-use Rattle.tsdb_core.specs.Core.{store_of}
+use Rattle.tsdb_core.specs.Core.{IsSeen, KeepsJobs, files_of, flushed_below, is_sequence_claimed, limit_of, logged_of}
+use Rattle.tsdb_core.specs.Core.{next_of, store_of}
 use Rattle.tsdb_core.specs.Loans.{KeepsAllLoans, KeepsLoans, LentRight, lent_numbers}
 use Rattle.tsdb_core.specs.declared.engine.Core.{Core}
 use Rattle.tsdb_base.specs.Lists.{IsWithOne}
@@ -38,12 +38,13 @@ module _ {F S R P : Type 0} (name : R → NamedFile) where
   pin_rights pin = flat_map (λ column. flat_map source_rights column.sources) pin.columns
 
 module _ {J F S R P : Type 0} {means : disk.Ghosts J} {counts : counted.Ghosts J} where
-  -- Nothing has changed but how many rights are out: log and memory, the number of the next file, the limit of a pair,
-  -- whether the sequence list is claimed, what is kept for jobs, and the store.
+  -- Nothing has changed but how many rights are out: log and memory, the number of the next file, that at the last
+  -- flush, the limit of a pair, whether the sequence list is claimed, what is kept for jobs, and the store.
   pub record ChangesRights (old new : Core J F S R P means counts) : Type 0 where
     pub logged : logged_of new ≡ logged_of old
     pub next : next_of new ≡ next_of old
     pub limit : limit_of new ≡ limit_of old
+    pub flushed : flushed_below new ≡ flushed_below old
     pub claimed : is_sequence_claimed new ≡ is_sequence_claimed old
     pub jobs : (flushes : List FlushState) (compactions : List Compaction) → KeepsJobs old flushes compactions
         → KeepsJobs new flushes compactions

@@ -15,8 +15,8 @@ use Rattle.tsdb_tasks.specs.Jobs.{IsCompactionOf}
 use Rattle.tsdb_tasks.specs.CompactionsOutputs.{TellsInputs}
 use Rattle.tsdb_tasks.specs.Job.{Job}
 use Rattle.tsdb_core.specs.Compactions.{AreOnInputs}
-use Rattle.tsdb_core.specs.Core.{IsSeen, KeepsJobs, files_of, is_sequence_claimed, limit_of, logged_of, next_of}
-use Rattle.tsdb_core.specs.Core.{store_of, working_of}
+use Rattle.tsdb_core.specs.Core.{IsSeen, KeepsJobs, files_of, flushed_below, is_sequence_claimed, limit_of, logged_of}
+use Rattle.tsdb_core.specs.Core.{next_of, store_of, working_of}
 use Rattle.tsdb_core.specs.Loans.{KeepsLoans, LentRight}
 use Rattle.tsdb_core.specs.Worlds.{IsWorldOf}
 use Rattle.tsdb_core.specs.declared.engine.Core.{Core}
@@ -96,6 +96,7 @@ module _ {J F S R P : Type 0} {means : disk.Ghosts J} {counts : counted.Ghosts J
   -- the other jobs stays.
   pub record HasEndedJob (old new : Core J F S R P means counts) (job : Job F S R P)
       (file : Option NewFile) : Type 0 where
+    pub flushed : flushed_below new ≡ flushed_below old
     pub claimed : is_sequence_claimed new ≡ without_claim job.space (is_sequence_claimed old)
     pub next : next_of new ≡ next_of old
     pub limit : limit_of new ≡ limit_of old

@@ -1,7 +1,8 @@
 -- What a sweep leaves.
 use Rattle.std.specs.Prelude.{◌≡◌, ℕ, [], false, List, length, None, Option, Result, OnErr, OnOk, IfOk}
 use Rattle.tsdb_base.specs.declared.ids.FileNumber.{FileNumber}
-use Rattle.tsdb_core.specs.Core.{IsSeen, KeepsJobs, files_of, is_sequence_claimed, limit_of, logged_of, next_of}
+use Rattle.tsdb_core.specs.Core.{IsSeen, KeepsJobs, files_of, flushed_below, is_sequence_claimed, limit_of, logged_of}
+use Rattle.tsdb_core.specs.Core.{next_of}
 use Rattle.tsdb_core.specs.Loans.{KeepsAllLoans}
 use Rattle.tsdb_core.specs.declared.engine.Core.{Core}
 use Rattle.tsdb_frames.specs.Frames.{is_in_doubt}
@@ -39,6 +40,7 @@ module _ {J F S R P : Type 0} {means : disk.Ghosts J} {counts : counted.Ghosts J
     pub logged : logged_of new ≡ logged_of old
     pub next : next_of new ≡ next_of old
     pub limit : limit_of new ≡ limit_of old
+    pub flushed : flushed_below new ≡ flushed_below old
     pub claimed : is_sequence_claimed new ≡ is_sequence_claimed old
     pub counted : IfOk outcome (λ count.
         count ≡ length (may_go doubted (files_of old) (files_of old).outgoing))

@@ -127,6 +127,7 @@ impl<J: Journal, F: Files> Core<J, F> {
             files: kept,
             limit: _,
             next_file: _,
+            flushed_below: _,
             sequence_claimed: _,
         } = self;
         let journal = logged.close();

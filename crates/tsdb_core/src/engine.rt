@@ -25,13 +25,16 @@ pub struct Core<J: Journal, F: Files> {
     pub(crate) files: KeptFiles<F>,
     pub(crate) limit: PairLimit,
     pub(crate) next_file: u64,
+    /// The number of the next file when a flush was last committed, or 0.
+    pub(crate) flushed_below: u64,
     /// A job with a sequence output is out.
     pub(crate) sequence_claimed: bool,
 }
 
 impl<J: Journal, F: Files> Core<J, F> {
     ghost use Rattle.tsdb_core.specs.Core.{IsAboveNumbers, IsSeen, KeepsJobs, files_of, limit_of, logged_of};
-    ghost use Rattle.tsdb_core.specs.Core.{is_sequence_claimed, newest_born, next_of, store_of, working_of};
+    ghost use Rattle.tsdb_core.specs.Core.{flushed_below, is_sequence_claimed, newest_born, next_of, store_of};
+    ghost use Rattle.tsdb_core.specs.Core.{working_of};
     ghost use Rattle.tsdb_memory.specs.LogState.{IsSoundLogged, memory_of};
 
     /// The core of these, where the next file gets this number.
@@ -47,6 +50,7 @@ impl<J: Journal, F: Files> Core<J, F> {
         ensures files { files_of result ≡ files }
         ensures limit { limit_of result ≡ options.pair_points }
         ensures next { next_of result ≡ next_file.0 }
+        ensures flushed { flushed_below result ≡ 0 }
         ensures claims { is_sequence_claimed result ≡ false }
         ensures quiet { IsAboveNumbers next_file.0 files → KeepsJobs result [] [] }
         // It shows the engine that was opened over a replay, where these are of it.
@@ -61,6 +65,7 @@ impl<J: Journal, F: Files> Core<J, F> {
             files,
             limit: PairLimit::of(options),
             next_file: next_file.0,
+            flushed_below: 0,
             sequence_claimed: false,
         }
     }

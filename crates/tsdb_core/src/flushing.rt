@@ -3,8 +3,8 @@ ghost use Rattle.std.specs.Prelude.{◌≡◌, ◌<◌, ◌≤◌, ◌+◌, ◌�
 ghost use Rattle.std.specs.List.{AllByRecursion as Each};
 ghost use Rattle.std.specs.declared.option.Option.TheVariants.{None};
 ghost use Rattle.std.specs.declared.result.Result.TheVariants.{Ok};
-ghost use Rattle.tsdb_core.specs.Ending.{IsLeastWith, number_for};
-ghost use Rattle.tsdb_core.specs.Flushes.{IsDue};
+ghost use Rattle.tsdb_core.specs.Ending.{IsLeastWith, number_for, numbers_if};
+ghost use Rattle.tsdb_core.specs.Flushes.{IsDrawnFrom, IsDue};
 ghost use Rattle.tsdb_base.specs.Lists.{if_some};
 ghost use Rattle.tsdb_memory.specs.Least.{IsLeastOf};
 ghost use Rattle.tsdb_memory.specs.Model.{frozen_in};
@@ -21,11 +21,11 @@ use tsdb_outside::{Failed, Files, Journal};
 
 impl<J: Journal, F: Files> Core<J, F> {
     ghost use Rattle.tsdb_tasks.specs.Files.{AreDone, AreDoneSoFar, new_files};
-    ghost use Rattle.tsdb_core.specs.Core.{files_of, logged_of, next_of, store_of};
+    ghost use Rattle.tsdb_core.specs.Core.{files_of, flushed_below, logged_of, next_of, store_of};
     ghost use Rattle.tsdb_core.specs.Flushes.{HasEndedFlush, IsAbandoned, IsCommit, IsCommitAnswer, IsLoggedAs};
     ghost use Rattle.tsdb_core.specs.Flushes.{IsNotTaken, IsOldestPair, IsOut, IsTakeAnswer, IsFlushTaken};
-    ghost use Rattle.tsdb_core.specs.Flushes.{IsFlushTakenOrNot};
-    ghost use Rattle.tsdb_core.specs.Flushes.{TakesMemory};
+    ghost use Rattle.tsdb_core.specs.Flushes.{HasOldestBorn, IsFlushTakenOrNot};
+    ghost use Rattle.tsdb_core.specs.Flushes.{TakesMemory, below_after};
     ghost use Rattle.tsdb_core.specs.Worlds.{CoreKeepsWorld};
     ghost use Rattle.tsdb_memory.specs.LogState.{memory_of};
 
@@ -96,7 +96,7 @@ impl<J: Journal, F: Files> Core<J, F> {
     /// done.
     fn log_flush(&mut self, job: &FlushJob) -> Commit
         requires { IsOut self.old job.now }
-        ensures answer { IsCommitAnswer job.now (memory_of (logged_of self.old)) result }
+        ensures answer { IsCommitAnswer self.old job.now result }
         ensures logged { IsLoggedAs self.old self.new job.now result }
         ensures rest { self.new ≡ record self.old { logged = logged_of self.new } }
     {
@@ -114,9 +114,16 @@ impl<J: Journal, F: Files> Core<J, F> {
         }
     }
 
-    /// Whether the oldest frozen pair is that of the job.
+    /// Whether the oldest frozen pair is that of the job. Two pairs may have one born, in a store that is not in order.
     fn is_oldest(&self, job: &FlushJob) -> bool
-        ensures { IsTrue result ↔ IsOldestPair job.now (memory_of (logged_of self.now)) }
+        ensures { IsTrue result ↔ IsOldestPair self.now job.now }
+    {
+        self.has_oldest_born(job) && is_drawn_from(job, self.flushed_below)
+    }
+
+    /// Whether the oldest frozen pair has the born of the job.
+    fn has_oldest_born(&self, job: &FlushJob) -> bool
+        ensures { IsTrue result ↔ HasOldestBorn job.now (memory_of (logged_of self.now)) }
     {
         match self.logged.memory().frozen().first() {
             Some(oldest) => oldest.born().0 == job.born.0,
@@ -129,8 +136,10 @@ impl<J: Journal, F: Files> Core<J, F> {
         requires out { IsOut self.old job.now }
         requires done { AreDoneSoFar F.Sealed.file F.Sealed.rights (store_of self.old) job.now files }
         ensures ends { HasEndedFlush self.old self.new job.now (new_files F.Sealed.file files) commit }
-        ensures rest { self.new ≡ record self.old { files = files_of self.new } }
+        ensures rest { self.new
+            ≡ record self.old { files = files_of self.new; flushed_below = flushed_below self.new } }
     {
+        self.flushed_below = self.below_after(commit);
         let Flushed {
             sequence,
             unsequence,
@@ -150,6 +159,16 @@ impl<J: Journal, F: Files> Core<J, F> {
             commit,
         );
     }
+
+    /// The number below which flushes are of pairs that are gone, after a commit.
+    fn below_after(&self, commit: Commit) -> u64
+        ensures { result ≡ below_after commit (next_of self.now) (flushed_below self.now) }
+    {
+        match commit {
+            Commit::Done => self.next_file,
+            Commit::Gone | Commit::Device => self.flushed_below,
+        }
+    }
 }
 
 /// Whether the oldest of the pairs was frozen at the stamp or before it. All others were frozen later.
@@ -167,6 +186,23 @@ fn is_reached(born: Stamp, upto: Stamp) -> bool
     ensures { IsTrue result ↔ (born.0 ≤ upto.0) }
 {
     born.0 <= upto.0
+}
+
+/// Whether no number of the job is below this one.
+fn is_drawn_from(job: &FlushJob, below: u64) -> bool
+    ensures { IsTrue result ↔ IsDrawnFrom below job.now }
+{
+    is_from(job.sequence, below) && is_from(job.unsequence, below)
+}
+
+/// Whether the number, where there is one, is not below the other.
+fn is_from(number: Option<FileNumber>, below: u64) -> bool
+    ensures { IsTrue result ↔ Each (λ n. below ≤ n) (numbers_if number) }
+{
+    match number {
+        Some(number) => below <= number.0,
+        None => true,
+    }
 }
 
 /// How many numbers were drawn for the job.

@@ -1,16 +1,16 @@
 -- The parts of a flush, one behind another.
 use Rattle.std.proofs.Common.{◌≡◌, ◌⊎◌, ℕ, ◌+◌, ◌<◌, ◌≤◌, true, List, [], ◌∷◌, ◌++◌, length, drop, Option, Result, Ok, Err, inr}
 use Rattle.std.proofs.Common.{ap, arith, refl, sym, subst, ◌∙◌}
-use Rattle.std.specs.Arc.{arc_value}
+
 use Rattle.std.specs.Option.{IsSomeAnd, option_map}
 use Rattle.std.specs.Prelude.{None, OnOk, Some, slice_get}
 use Rattle.tsdb_base.specs.declared.ids.Stamp.{Stamp}
 use Rattle.tsdb_base.specs.declared.answers.Answer.{Answer}
 use Rattle.tsdb_core.specs.Files.{AreFilesOfJob, NewFiles, TellBytes}
 use Rattle.tsdb_core.specs.Commands.{IsCoreCommand}
-use Rattle.tsdb_core.specs.Core.{logged_of, next_of, working_of}
+use Rattle.tsdb_core.specs.Core.{next_of, working_of}
 use Rattle.tsdb_core.specs.Ending.{drawn_for}
-use Rattle.tsdb_core.specs.Flushes.{IsAbandoned, IsCommit, IsDue, IsNotTaken, IsOldestPair, IsFlushTaken, TakesMemory}
+use Rattle.tsdb_core.specs.Flushes.{IsAbandoned, IsCommit, IsDue, IsNotTaken, IsFlushTaken, TakesMemory}
 use Rattle.tsdb_core.specs.Rows.{CanFreezeNow, NeedsFlush}
 use Rattle.tsdb_core.specs.declared.commit.Commit.{Commit}
 use Rattle.tsdb_core.specs.declared.commit.Commit.TheVariants.{Gone}
@@ -26,7 +26,7 @@ use Rattle.tsdb_base.proofs.Lists.{each_weaker}
 use Rattle.tsdb_base.specs.Lists.{Among}
 use Rattle.tsdb_log.specs.declared.record.LogRecord.TheVariants.{Freeze}
 use Rattle.tsdb_memory.specs.Commands.{NeedsNothing}
-use Rattle.tsdb_memory.specs.LogState.{log_of, memory_of}
+use Rattle.tsdb_memory.specs.LogState.{log_of}
 use Rattle.tsdb_memory.specs.declared.logged_memory.LoggedMemory.{LoggedMemory}
 use Rattle.tsdb_model.specs.State as plain
 use Rattle.tsdb_outside.specs.Disk.{IsLawful}
@@ -272,16 +272,6 @@ module _ {J F S R P : Type 0} {means : disk.Ghosts J} {counts : counted.Ghosts J
 
 module _ {J F S R P : Type 0} {means : disk.Ghosts J} {counts : counted.Ghosts J} where
   -- taking memory leaves the pairs, and the journal's count
-  pub oldest_still : (old new : Core J F S R P means counts) (job : FlushJob) → TakesMemory old new
-      → IsFlushTaken old new job → IsOldestPair job (memory_of (logged_of new))
-  oldest_still old new job takes taken = subst (IsOldestPair job) (sym takes.memory)
-      (born_of (slice_get (memory_of (logged_of old)).frozen 0) taken.oldest)
-    where
-      born_of : (o : Option FrozenPair) → IsSomeAnd o (λ pair. (pair.born ≡ job.born.0) × (pair.pair ≡ arc_value job.pair))
-          → IsSomeAnd o (λ pair. pair.born ≡ job.born.0)
-      born_of None is = is
-      born_of (Some pair) is = is.0
-
   pub dropped : (old mid new : Core J F S R P means counts) (result : Result (Unit {0}) FlushFault) → TakesMemory old mid
       → OnOk result (frozen_under new ≡ drop 1 (frozen_under mid)) → OnOk result (frozen_under new ≡ drop 1 (frozen_under old))
   dropped old mid new (Ok value) takes is = is ∙ ap (λ (store : MemoryStore). drop 1 store.frozen) takes.memory

@@ -26,7 +26,7 @@ use Rattle.tsdb_base.specs.Lists.{Among}
 use Rattle.tsdb_log.specs.declared.record.LogRecord.{LogRecord}
 use Rattle.tsdb_log.specs.declared.record.LogRecord.TheVariants.{Freeze}
 use Rattle.tsdb_memory.specs.Commands.{NeedsNothing}
-use Rattle.tsdb_memory.specs.LogState.{IsStoredIn, Outside, log_of, memory_of, with_record}
+use Rattle.tsdb_memory.specs.LogState.{IsStoredIn, Outside, log_of, with_record}
 use Rattle.tsdb_model.specs.State as plain
 use Rattle.tsdb_model.specs.World.{World}
 use Rattle.tsdb_outside.specs.Disk.{IsLawful}
@@ -307,7 +307,7 @@ module _ {J F S R P : Type 0} {means : disk.Ghosts J} {counts : counted.Ghosts J
         (gives_up.step is.outside is.state is.flush is.others is.seen is.out tells))
 
     module _ (commit : Commit) (commits : IsCommit old new job built commit) where
-      record_stands : IsOldestPair job (memory_of (logged_of old))
+      record_stands : IsOldestPair old job
           → IsStateOf later.told (after (flush_record is.flush) is.state.store) at
       record_stands oldest =
           let keeps = commits.keeps is.outside is.state is.flush is.others is.seen is.out tells oldest in record {
@@ -319,7 +319,7 @@ module _ {J F S R P : Type 0} {means : disk.Ghosts J} {counts : counted.Ghosts J
                 is.state.store.frozen is.state.store ∙ is.stands.stamp;
           }
 
-      by_record : IsOldestPair job (memory_of (logged_of old)) → (doubt : Option plain.State) → MayDoubt next at at doubt
+      by_record : IsOldestPair old job → (doubt : Option plain.State) → MayDoubt next at at doubt
           → IsServing new (files ++ put) at doubt → IsServedBy Q old new files at next at at
       by_record oldest doubt may shown = record {
         put = put;
@@ -336,7 +336,7 @@ module _ {J F S R P : Type 0} {means : disk.Ghosts J} {counts : counted.Ghosts J
             leads_later (record_stands oldest));
       }
 
-      committed_as : (c : Commit) → c ≡ commit → IsCommitAnswer job (memory_of (logged_of old)) c
+      committed_as : (c : Commit) → c ≡ commit → IsCommitAnswer old job c
           → IsSeenAfterCommit new later is.state is.flush is.others c
           → IsServedBy Q old new files at next at at
       committed_as Done same oldest seen = by_record oldest None (inl refl) (record {

@@ -208,7 +208,7 @@ fn run_job<J: Journal, F: Files>(
 ) -> Result<(), FlushFault>
     requires is_job { IsJob job }
     requires busy { IsBusy (F.Port.store port.old) core.old job }
-    requires oldest { IsOldestPair job (memory_of (logged_of core.old)) }
+    requires oldest { IsOldestPair core.old job }
     ensures flushed { OnOk result (frozen_under core.new ≡ drop 1 (frozen_under core.old)) }
     ensures working { working_of core.new ≡ working_of core.old }
     ensures ends { EndsJob (F.Port.store port.old) core.old core.new job }
@@ -231,7 +231,7 @@ fn commit<J: Journal, F: Files>(
     job: FlushJob,
     files: Flushed<F>,
 ) -> Result<(), FlushFault>
-    requires oldest { IsOldestPair job (memory_of (logged_of core.old)) }
+    requires oldest { IsOldestPair core.old job }
     requires busy { (store : Store) × AreDone F.Sealed.file F.Sealed.rights store job files
         × IsBusy store core.old job }
     ensures flushed { OnOk result (frozen_under core.new ≡ drop 1 (frozen_under core.old)) }

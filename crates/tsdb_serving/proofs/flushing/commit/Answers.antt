@@ -1,9 +1,7 @@
 use Rattle.std.proofs.Common.{refl, subst}
 use Rattle.tsdb_core.proofs.OutputsBuilt.{of_job_done, so_far}
-use Rattle.tsdb_core.specs.Core.{logged_of}
 use Rattle.tsdb_core.specs.Files.{AreDone, new_files}
 use Rattle.tsdb_core.specs.Flushes.{IsCommitAnswer}
-use Rattle.tsdb_memory.specs.LogState.{memory_of}
 use Rattle.tsdb_serving.proofs.Flushes.{commit_ends}
 use Rattle.tsdb_serving.proofs.Jobs.{is_out, tell_bytes}
 use Rattle.tsdb_serving.proofs.flushing.commit.Goals as goal
@@ -21,8 +19,8 @@ pub returns-in-Done-clause-flushed : goal.returns-in-Done-clause-flushed
 returns-in-Done-clause-flushed g c = c.commit_flush.ensures.left c.in-Done.is
 
 pub returns-in-Gone-clause-flushed : goal.returns-in-Gone-clause-flushed
-returns-in-Gone-clause-flushed g c = absurd (subst (IsCommitAnswer c.args.job (memory_of (logged_of c.args.core.now)))
-    c.in-Gone.is c.commit_flush.ensures.answer c.requires.oldest)
+returns-in-Gone-clause-flushed g c = absurd (subst (IsCommitAnswer c.args.core.now c.args.job) c.in-Gone.is
+    c.commit_flush.ensures.answer c.requires.oldest)
 
 pub returns-in-Done-clause-ends : goal.returns-in-Done-clause-ends
 returns-in-Done-clause-ends g c = λ store busy done.

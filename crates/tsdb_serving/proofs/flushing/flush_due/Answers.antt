@@ -1,10 +1,10 @@
-use Rattle.std.proofs.Common.{Ok, ap, arith, subst, sym, ◌∙◌}
+use Rattle.std.proofs.Common.{[], Ok, ap, arith, subst, sym, ◌∙◌}
 use Rattle.tsdb_core.specs.Core.{logged_of, next_of}
 use Rattle.tsdb_core.specs.Flushes.{IsTakeAnswer, IsFlushTakenOrNot}
 use Rattle.tsdb_memory.specs.LogState.{memory_of}
 use Rattle.tsdb_memory.specs.Store.{MemoryState}
 use Rattle.tsdb_serving.proofs.Causes.{cause_before, core_cause, full_is}
-use Rattle.tsdb_serving.proofs.Flushes.{dropped, flushed, no_less, not_taken, oldest_still}
+use Rattle.tsdb_serving.proofs.Flushes.{dropped, flushed, no_less, not_taken}
 use Rattle.tsdb_serving.proofs.Jobs.{is_busy}
 use Rattle.tsdb_serving.specs.Faults.{HasFlushCause}
 use Rattle.tsdb_serving.specs.Flushing.{faults_under}
@@ -21,9 +21,8 @@ run_job-requires-clause-busy g c = λ lifetimes lives. is_busy (g.F.Port.Port.st
     c.take_flush.ensures.taken) c.requires.ready
 
 pub run_job-requires-clause-oldest : goal.run_job-requires-clause-oldest
-run_job-requires-clause-oldest g c = λ lifetimes lives. oldest_still c.args.core.now c.take_flush.new.self c.in-Ok-Some.job
-    c.take_flush.ensures.memory (subst (IsFlushTakenOrNot c.args.core.now c.take_flush.new.self) (c.in-Ok-Some.is ∙ ap Ok c.in-Ok-Some.field-0-is)
-    c.take_flush.ensures.taken)
+run_job-requires-clause-oldest g c = λ lifetimes lives. (subst (IsFlushTakenOrNot c.args.core.now c.take_flush.new.self)
+    (c.in-Ok-Some.is ∙ ap Ok c.in-Ok-Some.field-0-is) c.take_flush.ensures.taken).still [] [] c.requires.ready.jobs
 
 pub returns-in-Ok-Some-clause-flushed : goal.returns-in-Ok-Some-clause-flushed
 returns-in-Ok-Some-clause-flushed g c = dropped c.args.core.now c.take_flush.new.self c.run_job.new.core c.run_job.result

@@ -20,6 +20,7 @@ returns-clause-ends g c = ends_flush c.args.self.now c.args.job.now (new_files g
     (unread_yet g.F.Sealed.SealedFile.file c.args.files)
     (all_fresh g.F.Sealed.SealedFile.file g.F.Sealed.SealedFile.rights (store_of c.args.self.now) c.args.job.now
     c.args.files c.requires.done)
+    c.below_after-self.result c.below_after-self.ensures
 
 pub end_part-requires-clause-place : goal.end_part-requires-clause-place
 end_part-requires-clause-place g c = λ lifetimes lives. first_place c.args.self.now c.args.job.now c.requires.out

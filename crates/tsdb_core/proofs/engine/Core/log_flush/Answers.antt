@@ -1,3 +1,4 @@
+use Rattle.std.proofs.Common.{rules}
 use Rattle.tsdb_core.proofs.Commits.{appended, record_room}
 use Rattle.tsdb_fileset.specs.Files.{listed_borns}
 use Rattle.tsdb_core.proofs.engine.Core.log_flush.Goals as goal
@@ -18,3 +19,9 @@ returns-in-Err-clause-logged g c = (
       c.number.ensures c.in-Err.is
       (c.least_with-listed.ensures (listed_borns c.args.self.now.files) c.least_born.ensures) c.append_flushed.ensures,
 )
+
+pub returns-in-Ok-clause-answer : goal.returns-in-Ok-clause-answer
+returns-in-Ok-clause-answer g c = search rules
+
+pub returns-in-Err-clause-answer : goal.returns-in-Err-clause-answer
+returns-in-Err-clause-answer g c = search rules

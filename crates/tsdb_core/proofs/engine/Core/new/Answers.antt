@@ -9,8 +9,9 @@ returns-clause-quiet g c = λ above. quiet_jobs (record {
   files = c.args.files;
   limit = c.of.result;
   next_file = c.args.next_file.0;
+  flushed_below = 0;
   sequence_claimed = false;
-}) above
+}) refl above
 
 pub returns-clause-opened : goal.returns-clause-opened
 returns-clause-opened g c = λ outside store above sound files told. opened_seen (record {
@@ -19,5 +20,6 @@ returns-clause-opened g c = λ outside store above sound files told. opened_seen
   files = c.args.files;
   limit = c.of.result;
   next_file = c.args.next_file.0;
+  flushed_below = 0;
   sequence_claimed = false;
-}) outside store c.args.next_file.0 refl above sound files told
+}) outside store c.args.next_file.0 refl refl above sound files told

@@ -3,7 +3,7 @@ use Rattle.std.specs.Option.{option_copied}
 use Rattle.tsdb_core.proofs.Oldest.{first_pair, no_pair}
 use Rattle.tsdb_memory.specs.LogState.{memory_of}
 use Rattle.tsdb_memory.specs.Store.{MemoryState}
-use Rattle.tsdb_core.proofs.engine.Core.is_oldest.Goals as goal
+use Rattle.tsdb_core.proofs.engine.Core.has_oldest_born.Goals as goal
 
 pub returns-in-Some : goal.returns-in-Some
 returns-in-Some g c = first_pair c.frozen.result.now c.in-Some.oldest.now (memory_of c.args.self.now.logged)
