@@ -1,23 +1,43 @@
 //! The laws. A function here does nothing; its contract says a law. What a core keeps for jobs and pins that are out,
 //! it keeps until they end, so that their ends can be called. Depends on `engine`, tsdb_compactions, tsdb_flush and
 //! tsdb_pin.
-ghost use Rattle.std.specs.Prelude.{[], List};
+ghost use Rattle.std.specs.List.{AllByRecursion as Each};
+ghost use Rattle.std.specs.Prelude.{[], List, Option};
 ghost use Rattle.tsdb_tasks.specs.Jobs.{IsCompactionOf};
 ghost use Rattle.tsdb_core.specs.Compactions.{AreOnInputs, IsHandedOut, IsJobOut, job_rights};
-ghost use Rattle.tsdb_core.specs.Core.{KeepsJobs, files_of};
+ghost use Rattle.tsdb_core.specs.Core.{IsSeen, KeepsJobs, files_of, logged_of};
 ghost use Rattle.tsdb_core.specs.Flushes.{HasNumbersOf, IsOut};
 ghost use Rattle.tsdb_core.specs.Loans.{IsNothingClaimed, KeepsLoans, LentRight};
 ghost use Rattle.tsdb_core.specs.Pins.{AreOnColumns, pin_rights};
 ghost use Rattle.tsdb_fileset.specs.Places.{AreUnread};
+ghost use Rattle.tsdb_frames.specs.Frames.{disk_of, slot_of};
 ghost use Rattle.tsdb_base.specs.Lists.{Among, IsWithOne};
 ghost use Rattle.tsdb_tasks.specs.Pins.{AreColumnsHeld};
+ghost use Rattle.tsdb_memory.specs.LogState.{Outside, log_of};
+ghost use Rattle.tsdb_model.specs.State as plain;
+ghost use Rattle.tsdb_outside.specs.Disk.{Image};
+ghost use Rattle.tsdb_state.specs.Order.{all_files};
 ghost use Rattle.tsdb_state.specs.State as state;
-ghost use Rattle.tsdb_state.specs.State.{Compaction};
+ghost use Rattle.tsdb_state.specs.State.{Compaction, EngineState};
+ghost use Rattle.tsdb_state.specs.StoredEngine.{IsKeptWhole, LeadsTo, LeavesOneOf};
+ghost use Rattle.tsdb_state.specs.Stores.{IsStateOf};
 
 use crate::engine::Core;
 use tsdb_fileset::FlushJob;
 use tsdb_outside::{Files, Journal};
 use tsdb_tasks::{Job, Pin};
+
+/// Each file that the state of a core lists, and each on its way out, is kept whole. Whatever a stop leaves of the log
+/// then stands for the state, or for that with the one change in doubt, with whatever files hold the kept ones.
+pub fn listed_files_are_kept<J: Journal, F: Files>(_core: &Core<J, F>)
+    ensures whole { (outside : Outside) (engine : EngineState) → IsSeen _core.now outside engine
+        → Each (IsKeptWhole outside.kept outside.told) (all_files engine) }
+    ensures left { (outside : Outside) (engine : EngineState) (at : plain.State) (next : Option plain.State)
+        (image : Image) → IsSeen _core.now outside engine → IsStateOf outside.told engine.store at
+        → LeadsTo outside.told engine.store engine.doubt next
+        → (disk_of (log_of (logged_of _core.now))).may_leave image
+        → LeavesOneOf outside.kept (slot_of (log_of (logged_of _core.now))) at next image }
+{}
 
 /// Where no compaction and no right is out and nothing is claimed, what is kept for flushes is all.
 pub fn nothing_is_lent<J: Journal, F: Files>(_core: &Core<J, F>)
