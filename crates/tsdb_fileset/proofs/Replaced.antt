@@ -416,11 +416,11 @@ module _ {F S R P : Type 0} where
       → IfSome file (λ one. one.name.store ≡ store_of old.store.value) → AreSound store_of new
   replaced_sound store_of space sequence unsequence number entry file old new sound can of here others is spare least
       same_store in_store = record {
-        kept = kept_with number entry file (view_of store_of old) (view_of store_of new) sound.kept can.place of here
-            others (replaced_counts store_of space sequence unsequence entry old new can.in_sequence can.in_unsequence is);
+        kept = kept_with number entry file (view_of store_of old) (view_of store_of new) sound.kept can.place of here others
+            (replaced_counts store_of space sequence unsequence entry old new can.in_sequence can.in_unsequence is);
         of_store = subst (λ store. AreOfStore store new.tokens.entries) (sym same_store)
-            (all_with (λ one. one.name.store ≡ store_of old.store.value) number file old.tokens.entries
-            new.tokens.entries here others in_store sound.of_store);
+            (all_with (λ one. one.name.store ≡ store_of old.store.value) number file old.tokens.entries new.tokens.entries
+            here others in_store sound.of_store);
         room = subst (λ s. HasRoomLeft s new.sequence new.unsequence new.outgoing) (sym spare)
             (replaced_room space sequence unsequence entry old new sound.room can.list can.outgoing is);
         least = subst (λ l. IsLeastOf l (listed_borns (view_of store_of new))) (sym least)

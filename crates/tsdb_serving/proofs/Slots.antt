@@ -1,10 +1,5 @@
-<<<<<<< ours
 -- The log keeps to its slot over a row.
 use Rattle.std.proofs.Common.{◌≡◌, List, ℕ, inl, inr, ap}
-=======
--- The slot of the log, after a row.
-use Rattle.std.proofs.Common.{◌≡◌, List, ℕ, inl, inr, ap, ◌∙◌}
->>>>>>> theirs
 use Rattle.tsdb_base.specs.declared.answers.Answer.{Answer}
 use Rattle.tsdb_base.specs.declared.answers.Answer.TheVariants as answer
 use Rattle.tsdb_core.specs.Rows.{HasRowPlace, IsFrozenFor, IsRowPut, IsRowCommand}

@@ -24,8 +24,7 @@ invariant_of-self g c =
     c.place_output-entry.ensures.file c.requires.numbered in
     let Is : KeptFiles → Type 0 = λ files. IfSome c.args.output
     (λ built. (g.F.Sealed.SealedFile.file built.sealed).store ≡ files.store) in
-    replaced_sound g.F.Files.store c.args.space c.args.sequence c.args.unsequence number c.place_output-entry.result _
-    c.self.inside _
+    replaced_sound g.F.Files.store c.args.space c.args.sequence c.args.unsequence number c.place_output-entry.result _ c.self.inside _
     c.self.invariant can of refl c.place_output-entry.ensures.others
     (record {
       middle = c.replace_in.new.outgoing;

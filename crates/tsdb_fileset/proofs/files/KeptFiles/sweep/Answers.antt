@@ -26,8 +26,7 @@ invariant_of-self g c =
     OnOk c.remove_free-swept.result (TakesAway (free_numbers c.args.doubted old files) old new) in
     let Err : List Outgoing → Type 0 = λ files. OnErr c.remove_free-swept.result
     ((stop : StopsSweepAt c.args.doubted old files) × TakesAway (tried_numbers c.args.doubted old stop) old new) in
-    swept_sound g.F.Files.store c.args.doubted c.self.inside _ c.self.invariant c.keep_placed.ensures.files
-    c.keep_placed.ensures.len
+    swept_sound g.F.Files.store c.args.doubted c.self.inside _ c.self.invariant c.keep_placed.ensures.files c.keep_placed.ensures.len
     c.keep_placed.ensures.capacity refl refl refl refl refl c.remove_free-swept.result
     (subst Ok c.deref.ensures.value c.remove_free-swept.ensures.ok)
     (subst Err c.deref.ensures.value c.remove_free-swept.ensures.failed)
@@ -52,8 +51,7 @@ returns-clause-swept g c =
     (LeavesWithout (free_numbers c.args.doubted files.places files.outgoing) files
     (view_of g.F.Files.store inside)) in
     subst Left c.self.view_is
-    (swept_ok g.F.Files.store c.args.doubted c.self.inside inside c.self.invariant c.keep_placed.ensures.files
-    c.keep_placed.ensures.len
+    (swept_ok g.F.Files.store c.args.doubted c.self.inside inside c.self.invariant c.keep_placed.ensures.files c.keep_placed.ensures.len
     c.keep_placed.ensures.capacity refl refl refl refl refl c.remove_free-swept.result
     (subst Ok c.deref.ensures.value c.remove_free-swept.ensures.ok))
 

@@ -53,8 +53,4 @@ returns-clause-none_leaving g c = subst (λ (files : KeptFiles). files.outgoing 
     c.requires.all.is.first.outgoing
 
 pub returns-clause-kept : goal.returns-clause-kept
-<<<<<<< ours
-returns-clause-kept g c = c.sound.ensures
-=======
 returns-clause-kept g c = c.sound.ensures.kept
->>>>>>> theirs
