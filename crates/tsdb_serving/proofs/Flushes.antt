@@ -1,7 +1,6 @@
 -- The parts of a flush, one behind another.
 use Rattle.std.proofs.Common.{◌≡◌, ◌⊎◌, ℕ, ◌+◌, ◌<◌, ◌≤◌, true, List, [], ◌∷◌, ◌++◌, length, drop, Option, Result, Ok, Err, inr}
 use Rattle.std.proofs.Common.{ap, arith, refl, sym, subst, ◌∙◌}
-
 use Rattle.std.specs.Option.{IsSomeAnd, option_map}
 use Rattle.std.specs.Prelude.{None, OnOk, Some, slice_get}
 use Rattle.tsdb_base.specs.declared.ids.Stamp.{Stamp}

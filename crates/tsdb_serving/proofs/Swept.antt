@@ -32,7 +32,7 @@ use Rattle.tsdb_serving.proofs.Causes.{rose_later}
 use Rattle.tsdb_serving.proofs.Held.{held_without}
 use Rattle.tsdb_serving.proofs.Jobs.{drawn_first}
 use Rattle.tsdb_serving.specs.Flushing.{GoesOn, IsReady, faults_under, frozen_under}
-use Rattle.tsdb_serving.specs.Serving.{ServesCommand, IsDrawn, IsServedBy, LeavesEither, StaysInPlace, disk_under}
+use Rattle.tsdb_serving.specs.Serving.{IsDrawn, IsServedBy, LeavesEither, ServesCommand, StaysInPlace, disk_under, log_under}
 use Rattle.tsdb_serving.specs.Serving.{slot_under}
 use Rattle.tsdb_serving.specs.Sweeping.{KeepsAllButOutgoing, LeavesNothing}
 use Rattle.tsdb_serving.specs.declared.fault.FlushFault.{FlushFault}
