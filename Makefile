@@ -7,7 +7,7 @@
 # make check-disk   kills the program in the middle of its writes on a disk, refuses it memory, lets each call of the system
 #                   fail in turn, cuts the power by a model of a disk, and looks at what the next run finds; compares every
 #                   end of a run with the documents, and many scripts with a plain slow store and a plain reader; runs a
-#                   plant's day with a flush and a compaction; stores many files, and fills a small disk
+#                   plant's day with a flush and a compaction; stores many files
 # make wrong-bodies   tries the wrong bodies in must-fail/ and wrong-bodies/ of all crates, or of those of CRATE="name .."
 # make crates  prints the list of crates of docs/ARCHITECTURE.md; checks/crates --write puts it there
 # make proofs   proves every crate, tries the wrong bodies, and runs every test and program
@@ -33,6 +33,9 @@ bench: build
 	@cd crates/tsdb_bench && rt run -- quick >&2
 	@case " scripts durable compactions queries sizes openings " in *" $(or $(GROUP),none) "*) ;; \
 	    *) crates/tsdb_bench/out/tsdb_bench $(GROUP);; esac
+	@[ -n "$(GROUP)" ] && [ "$(GROUP)" != stored ] || if command -v rustc > /dev/null; then \
+	    rustc --edition 2024 -O -o bin/bare_files bench/bare_files.rs && bin/bare_files; \
+	    else echo 'The bare calls beside the stored files were not measured: there is no rustc' >&2; fi
 	@[ -n "$(GROUP)" ] && [ "$(GROUP)" != scripts ] || bench/scripts.py bin/tsdb
 	@[ -n "$(GROUP)" ] && [ "$(GROUP)" != durable ] || bench/durable.py bin/tsdb
 	@[ -n "$(GROUP)" ] && [ "$(GROUP)" != compactions ] || bench/compactions.py bin/tsdb

@@ -1,11 +1,22 @@
-//! What the groups measure with: the clock, the rows of the table, a sum of all that was computed, and whether all went
-//! well. It depends on std and on `fault`.
+//! What the groups measure with: the clock, the rows of the table, and whether all went well. It depends on std and on
+//! `fault`.
 
 use crate::fault::Fault;
 use std::alloc::{AllocError, Global};
 use std::fmt::Debug;
 use std::io;
 use std::time::Instant;
+
+/// What a row tells of the things that were done.
+#[derive(Clone, Copy)]
+pub enum Unit {
+    /// How many millions of them in a second.
+    Millions,
+    /// How many in a second.
+    Rate,
+    /// How many milliseconds each took.
+    Each,
+}
 
 /// What the groups measure with. The first error is printed on standard error. From then on no row is printed and no
 /// other group is measured, and the end is a fault.
@@ -16,8 +27,6 @@ pub struct Bench {
     is_quick: bool,
     /// When the measured step began.
     start: io::Result<Instant>,
-    /// A sum that depends on all that was computed, so that no compiler leaves the work out.
-    check: u64,
     has_failed: bool,
 }
 
@@ -27,7 +36,6 @@ impl Bench {
             rt: *rt,
             is_quick,
             start: Instant::now(rt),
-            check: 0,
             has_failed: false,
         }
     }
@@ -38,10 +46,6 @@ impl Bench {
 
     pub fn alloc(&self) -> Global {
         self.rt.alloc()
-    }
-
-    pub fn is_quick(&self) -> bool {
-        self.is_quick
     }
 
     pub fn has_failed(&self) -> bool {
@@ -68,8 +72,8 @@ impl Bench {
         }
     }
 
-    /// Notes the error, if there is one.
-    pub fn note<E: Debug + Drop>(&mut self, outcome: Result<(), E>) {
+    /// Lets the value go. An error is noted.
+    pub fn note<T: Drop, E: Debug + Drop>(&mut self, outcome: Result<T, E>) {
         if let Err(error) = outcome {
             self.fail(error);
         }
@@ -111,33 +115,6 @@ impl Bench {
         }
     }
 
-    /// Appends a part of a text, and notes where memory ran out.
-    pub fn write(&mut self, text: &mut String, part: Result<String, AllocError>) {
-        if let Some(part) = self.ok(part) {
-            let written = text.push_str(&part);
-            self.note(written);
-        }
-    }
-
-    /// Adds a number that depends on what was computed.
-    pub fn add(&mut self, number: u64) {
-        self.check = self.check.wrapping_add(number);
-    }
-
-    /// Adds a number, or notes the error in its place.
-    pub fn add_result<E: Debug + Drop>(&mut self, number: Result<u64, E>) {
-        if let Some(number) = self.ok(number) {
-            self.add(number);
-        }
-    }
-
-    /// Adds how many items there are, or notes the error in their place.
-    pub fn add_length<T: Drop, E: Debug + Drop>(&mut self, list: Result<Vec<T>, E>) {
-        if let Some(list) = self.ok(list) {
-            self.add(list.len() as u64);
-        }
-    }
-
     /// Begins a step that is measured.
     pub fn start(&mut self) {
         self.start = Instant::now(&self.rt);
@@ -155,55 +132,27 @@ impl Bench {
         }
     }
 
-    /// Prints the head of the table.
-    pub fn head(&mut self) {
-        if !self.is_quick {
-            let printed = println!(self.rt; "{:<50} {:<10} {:>10}", "what", "step", "million/s");
-            self.note(printed);
-        }
+    /// Ends the measured step, and prints its row.
+    pub fn row(&mut self, what: &str, step: &str, done: u64, unit: Unit) {
+        let Some(nanos) = self.nanos() else {
+            return;
+        };
+        let done = u128::from(done);
+        let (thousandths, name) = match unit {
+            Unit::Millions => (done * 1_000_000 / nanos.max(1), "million/s"),
+            Unit::Rate => (done * 1_000_000_000_000 / nanos.max(1), "a second"),
+            Unit::Each => (nanos / 1000 / done.max(1), "ms"),
+        };
+        let printed = println!(self.rt;
+            "{what:<50} {step:<10} {:>8}.{:03} {name}",
+            thousandths / 1000,
+            thousandths % 1000
+        );
+        self.note(printed);
     }
 
-    /// Ends the measured step, and prints how many millions of values were done in a second.
-    pub fn row(&mut self, what: &str, step: &str, done: u64) {
-        if let Some(nanos) = self.nanos() {
-            let tenths = u128::from(done) * 10_000 / nanos.max(1);
-            let printed = println!(self.rt;
-                "{what:<50} {step:<10} {:>8}.{}",
-                tenths / 10,
-                tenths % 10
-            );
-            self.note(printed);
-        }
-    }
-
-    /// Ends the measured step, and prints how many things were done in a second.
-    pub fn rate(&mut self, what: &str, step: &str, done: u64) {
-        if let Some(nanos) = self.nanos() {
-            let a_second = u128::from(done) * 1_000_000_000 / nanos.max(1);
-            let printed = println!(self.rt; "{what:<50} {step:<10} {a_second:>10} a second");
-            self.note(printed);
-        }
-    }
-
-    /// Ends the measured step, and prints how many milliseconds each thing took.
-    pub fn each(&mut self, what: &str, step: &str, done: u64) {
-        if let Some(nanos) = self.nanos() {
-            let micros = nanos / 1000 / u128::from(done).max(1);
-            let printed = println!(self.rt;
-                "{what:<50} {step:<10} {:>6}.{:03} ms",
-                micros / 1000,
-                micros % 1000
-            );
-            self.note(printed);
-        }
-    }
-
-    /// Prints the sum of all that was computed, where all went well.
-    pub fn end(mut self) -> Result<(), Fault> {
-        if !self.is_quick && !self.has_failed {
-            let printed = println!(self.rt; "check {}", self.check);
-            self.note(printed);
-        }
+    /// Whether all went well.
+    pub fn end(self) -> Result<(), Fault> {
         if self.has_failed {
             Err(Fault::Failed)
         } else {

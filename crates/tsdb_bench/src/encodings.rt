@@ -2,10 +2,10 @@
 
 ghost use Rattle.std.specs.Prelude.{◌≤◌, length, vec_len};
 
-use crate::bench::Bench;
+use crate::bench::{Bench, Unit};
 use crate::numbers::next;
 use std::alloc::Global;
-use tsdb_base::{DecodeFault, Memory, Text};
+use tsdb_base::{Memory, Text};
 
 /// The values of a page.
 const PAGE: u64 = 1000;
@@ -85,22 +85,15 @@ fn append(alloc: Global, form: Form, page: Values, into: &mut Vec<u8>) -> Result
     }
 }
 
-/// Adds the last of the numbers that were decoded.
-fn add_last(bench: &mut Bench, decoded: Result<Vec<i64>, DecodeFault>) {
-    if let Some(values) = bench.ok(decoded) {
-        bench.add(values.last().copied().unwrap_or(0).cast_unsigned());
-    }
-}
-
-/// Decodes a page, and adds a number that depends on it.
+/// Decodes a page.
 fn decode(bench: &mut Bench, form: Form, bytes: &[u8]) {
     let alloc = bench.alloc();
     match form {
-        Form::PlainNumbers => add_last(bench, enc_plain::decode_i64(alloc, bytes)),
-        Form::PlainTexts => bench.add_length(enc_plain::decode_text(alloc, bytes)),
-        Form::Runs => add_last(bench, enc_rle::decode_i64(alloc, bytes)),
-        Form::Differences => add_last(bench, enc_ts2diff::decode_i64(alloc, bytes)),
-        Form::Dictionary => bench.add_length(enc_dict::decode_text(alloc, bytes)),
+        Form::PlainNumbers => bench.note(enc_plain::decode_i64(alloc, bytes)),
+        Form::PlainTexts => bench.note(enc_plain::decode_text(alloc, bytes)),
+        Form::Runs => bench.note(enc_rle::decode_i64(alloc, bytes)),
+        Form::Differences => bench.note(enc_ts2diff::decode_i64(alloc, bytes)),
+        Form::Dictionary => bench.note(enc_dict::decode_text(alloc, bytes)),
     }
 }
 
@@ -115,16 +108,16 @@ fn both_rows(bench: &mut Bench, what: &str, form: Form, page: Values)
     for _ in 0..many {
         let mut bytes = Vec::new(alloc);
         bench.note(append(alloc, form, page, &mut bytes));
-        bench.add(bytes.len() as u64);
+        bench.require(!bytes.is_empty());
     }
-    bench.row(what, "encode", many.saturating_mul(PAGE));
+    bench.row(what, "encode", many.saturating_mul(PAGE), Unit::Millions);
     let mut bytes = Vec::new(alloc);
     bench.note(append(alloc, form, page, &mut bytes));
     bench.start();
     for _ in 0..many {
         decode(bench, form, &bytes);
     }
-    bench.row(what, "decode", many.saturating_mul(PAGE));
+    bench.row(what, "decode", many.saturating_mul(PAGE), Unit::Millions);
 }
 
 /// A page that is measured, and how the table calls it.

@@ -1,58 +1,55 @@
-//! The speed of whole files: built, checked, their index read, and one entry of it found, in memory and on the disk. It
-//! depends on `tsfile_writer` and `tsfile_reader`, and on `mem_outside` and `fs_outside` for the ports.
-ghost use Rattle.std.specs.Prelude.{◌≡◌, ◌<◌, ◌↔◌, All, IsTrue, OnOk, length};
+//! The speed of whole files: built, checked, their index read, and one entry of it found. It depends on `tsfile_writer`
+//! and `tsfile_reader`.
+ghost use Rattle.std.specs.Prelude.{◌≡◌, ◌<◌, ◌≤◌, ◌↔◌, [], All, IsTrue, OnOk, length};
 ghost use Rattle.tsdb_base.specs.Values.{type_of};
 ghost use Rattle.tsdb_base.specs.Points.{IsRising};
-ghost use Rattle.tsfile_writer.specs.Driving.{HasLast, IsBare};
+ghost use Rattle.tsdb_path.specs.Nodes.{node_count};
+ghost use Rattle.tsfile_writer.specs.Building.{WasGiven};
+ghost use Rattle.tsfile_writer.specs.Driving.{HasLast};
 
-use crate::bench::Bench;
+use crate::bench::{Bench, Unit};
 use crate::fault::Fault;
-use crate::memory::new_place;
 use crate::names;
 use crate::points::{Values, points};
-use fs_outside::FsPlace;
 use std::alloc::Global;
-use std::fs;
 use tsdb_base::{DataType, Encoding, FileNumber, List, Point, is_rising};
-use tsdb_index::FileMeta;
-use tsdb_outside::{Files, Place, Port};
+use tsdb_outside::Port;
 use tsdb_pages::{Chunk, Group, Page, Tree, is_tree};
 use tsdb_path::{Name, Path};
-use tsfile_reader::{ReadFault, check_file, find_entry, read_meta};
+use tsfile_reader::{check_file, find_entry, read_meta};
 use tsfile_writer::{Builder, write_tree};
 
 /// The points of the file of one series.
-const POINTS: u64 = 1_000_000;
+pub const POINTS: u64 = 1_000_000;
 
 /// The chunks of the file with a large index.
-const CHUNKS: u64 = 1_000;
+pub const CHUNKS: u64 = 1_000;
 
 /// The chunks of the file in which one entry is found.
-const SERIES: u64 = 10_000;
+pub const SERIES: u64 = 10_000;
 
-/// The folder of the store on the disk.
-const FOLDER: &str = "tsdb_bench_store";
-
-/// Whether these are points of INT64, in order of time.
-fn are_numbers(points: &[Point]) -> bool
-    ensures { IsTrue result ↔ (0 < length points.now) × All (λ point. type_of point.value ≡ DataType.Int64) points.now
-        × IsRising points.now }
+/// Whether the path is one of a series, and these are points of INT64, in order of time.
+fn are_numbers_of(path: &Path, points: &[Point]) -> bool
+    ensures { IsTrue result ↔ (2 ≤ node_count path.now) × (0 < length points.now)
+        × All (λ point. type_of point.value ≡ DataType.Int64) points.now × IsRising points.now }
 {
-    !points.is_empty()
+    path.nodes() >= 2
+        && !points.is_empty()
         && points
             .iter()
             .all(|point| point.value.data_type() == DataType::Int64)
         && is_rising(points)
 }
 
-/// Gives the points to the last series, which has none yet.
+/// Begins a series, the first one, and gives it the points.
 fn fill(builder: &mut Builder, path: &Path, points: Vec<Point>) -> Result<(), Fault>
-    requires { IsBare path.now DataType.Int64 Encoding.Ts2diff builder.old }
+    requires { WasGiven builder.old [] }
     ensures { OnOk result (HasLast path.now builder.new) }
 {
-    if !are_numbers(&points) {
+    if !are_numbers_of(path, &points) {
         return Err(Fault::Unread);
     }
+    builder.series(path, DataType::Int64, Encoding::Ts2diff)?;
     for point in points {
         builder.point(point)?;
     }
@@ -61,17 +58,13 @@ fn fill(builder: &mut Builder, path: &Path, points: Vec<Point>) -> Result<(), Fa
 
 /// The file of one series with these points.
 fn build(alloc: Global, path: &Path, points: Vec<Point>) -> Result<Vec<u8>, Fault> {
-    if path.nodes() < 2 {
-        return Err(Fault::Unread);
-    }
     let mut builder = Builder::new(alloc);
-    builder.series(path, DataType::Int64, Encoding::Ts2diff)?;
     fill(&mut builder, path, points)?;
     Ok(builder.finish()?)
 }
 
 /// The file of one series, and the row of building it.
-fn build_large(bench: &mut Bench, count: u64) -> Vec<u8> {
+pub fn build_large(bench: &mut Bench, count: u64) -> Vec<u8> {
     let alloc = bench.alloc();
     let Some(path) = bench.ok(Path::read(alloc, b"root.bench.d.s")) else {
         return Vec::new(alloc);
@@ -79,7 +72,12 @@ fn build_large(bench: &mut Bench, count: u64) -> Vec<u8> {
     let given = points(bench, Values::GrowingUnevenly, count);
     bench.start();
     let large = bench.list(build(alloc, &path, given));
-    bench.row("a file of 1,000,000 INT64 TS_2DIFF", "build", count);
+    bench.row(
+        "a file of 1,000,000 INT64 TS_2DIFF",
+        "build",
+        count,
+        Unit::Millions,
+    );
     large
 }
 
@@ -120,7 +118,7 @@ fn tree(bench: &mut Bench, device: Path, count: u64) -> Tree {
 }
 
 /// A file of so many chunks.
-fn many_chunks(bench: &mut Bench, count: u64) -> Vec<u8> {
+pub fn many_chunks(bench: &mut Bench, count: u64) -> Vec<u8> {
     let alloc = bench.alloc();
     let Some(device) = bench.ok(Path::read(alloc, b"root.bench.d")) else {
         return Vec::new(alloc);
@@ -136,7 +134,7 @@ fn many_chunks(bench: &mut Bench, count: u64) -> Vec<u8> {
 
 /// Where a store lies.
 #[derive(Clone, Copy)]
-enum Medium {
+pub enum Medium {
     Memory,
     Disk,
 }
@@ -152,46 +150,54 @@ enum Reading {
     Entry,
 }
 
-impl Reading {
-    /// How often a file is read so.
-    fn rounds(self) -> u64 {
-        match self {
-            Reading::Whole => 5,
-            Reading::Index => 100,
-            Reading::Entry => 1_000,
-        }
-    }
-
-    /// How the table calls a file that is read so.
-    fn what(self, medium: Medium) -> &'static str {
-        match (self, medium) {
-            (Reading::Whole, Medium::Memory) => "the file, in memory",
-            (Reading::Whole, Medium::Disk) => "the file, on the disk",
-            (Reading::Index, Medium::Memory) => "1,000 chunks, in memory",
-            (Reading::Index, Medium::Disk) => "1,000 chunks, on the disk",
-            (Reading::Entry, Medium::Memory) => "one of 10,000 series, in memory",
-            (Reading::Entry, Medium::Disk) => "one of 10,000 series, on the disk",
-        }
-    }
+/// How a file is read, and how the table calls that.
+#[derive(Clone, Copy)]
+pub struct Kind {
+    reading: Reading,
+    rounds: u64,
+    in_memory: &'static str,
+    on_disk: &'static str,
+    step: &'static str,
+    unit: Unit,
 }
+
+pub const WHOLE: Kind = Kind {
+    reading: Reading::Whole,
+    rounds: 5,
+    in_memory: "the file, in memory",
+    on_disk: "the file, on the disk",
+    step: "check",
+    unit: Unit::Millions,
+};
+
+pub const INDEX: Kind = Kind {
+    reading: Reading::Index,
+    rounds: 100,
+    in_memory: "1,000 chunks, in memory",
+    on_disk: "1,000 chunks, on the disk",
+    step: "read_meta",
+    unit: Unit::Millions,
+};
+
+pub const ENTRY: Kind = Kind {
+    reading: Reading::Entry,
+    rounds: 1_000,
+    in_memory: "one of 10,000 series, in memory",
+    on_disk: "one of 10,000 series, on the disk",
+    step: "find_entry",
+    unit: Unit::Each,
+};
 
 /// A file that is read.
 #[derive(Clone, Copy)]
-struct Readable<'a> {
-    bytes: &'a [u8],
+pub struct Readable<'a> {
+    pub bytes: &'a [u8],
     /// How many points or entries are read in a round.
-    count: u64,
-    reading: Reading,
+    pub count: u64,
+    pub kind: Kind,
 }
 
-/// Adds the size of a file that was read.
-fn add_size(bench: &mut Bench, meta: Result<FileMeta, ReadFault>) {
-    if let Some(meta) = bench.ok(meta) {
-        bench.add(meta.size);
-    }
-}
-
-/// Finds the entry of one series, and adds its place.
+/// Finds the entry of one series.
 fn find_one<P: Port>(bench: &mut Bench, port: &mut P, right: &P::Right)
     requires { (P.Right.file right.now).store ≡ P.store port.old }
     ensures { P.store port.new ≡ P.store port.old }
@@ -200,13 +206,8 @@ fn find_one<P: Port>(bench: &mut Bench, port: &mut P, right: &P::Right)
     let Some(device) = bench.ok(Path::read(alloc, b"root.bench.d")) else {
         return;
     };
-    let Some(measurement) = bench.ok(Name::read(alloc, b"s5000")) else {
-        return;
-    };
-    match find_entry(alloc, port, right, &device, &measurement) {
-        Ok(Some(entry)) => bench.add(entry.place),
-        Ok(None) => (),
-        Err(fault) => bench.fail(fault),
+    if let Some(measurement) = bench.ok(Name::read(alloc, b"s5000")) {
+        bench.note(find_entry(alloc, port, right, &device, &measurement));
     }
 }
 
@@ -217,8 +218,8 @@ fn read_file<P: Port>(bench: &mut Bench, port: &mut P, right: &P::Right, reading
 {
     let alloc = bench.alloc();
     match reading {
-        Reading::Whole => add_size(bench, check_file(alloc, port, right)),
-        Reading::Index => add_size(bench, read_meta(alloc, port, right)),
+        Reading::Whole => bench.note(check_file(alloc, port, right)),
+        Reading::Index => bench.note(read_meta(alloc, port, right)),
         Reading::Entry => find_one(bench, port, right),
     }
 }
@@ -235,18 +236,17 @@ fn repeat<P: Port>(
     requires { (P.Right.file right.now).store ≡ P.store port.old }
     ensures { P.store port.new ≡ P.store port.old }
 {
-    let many = bench.rounds(file.reading.rounds());
+    let kind = file.kind;
+    let many = bench.rounds(kind.rounds);
     bench.start();
     for _ in 0..many {
-        read_file(bench, port, right, file.reading);
+        read_file(bench, port, right, kind.reading);
     }
-    let done = many.saturating_mul(file.count);
-    let what = file.reading.what(medium);
-    match file.reading {
-        Reading::Whole => bench.row(what, "check", done),
-        Reading::Index => bench.row(what, "read_meta", done),
-        Reading::Entry => bench.each(what, "find_entry", many),
-    }
+    let what = match medium {
+        Medium::Memory => kind.in_memory,
+        Medium::Disk => kind.on_disk,
+    };
+    bench.row(what, kind.step, many.saturating_mul(file.count), kind.unit);
 }
 
 /// Reads a stored file, and removes it.
@@ -273,7 +273,7 @@ fn read_and_remove<P: Port>(
 }
 
 /// The rows of the files through one port.
-fn read_all<P: Port>(bench: &mut Bench, port: &mut P, medium: Medium, files: &[Readable])
+pub fn read_all<P: Port>(bench: &mut Bench, port: &mut P, medium: Medium, files: &[Readable])
     ensures { P.store port.new ≡ P.store port.old }
 {
     for file in files {
@@ -282,63 +282,4 @@ fn read_all<P: Port>(bench: &mut Bench, port: &mut P, medium: Medium, files: &[R
             Err(fault) => bench.fail(fault),
         }
     }
-}
-
-/// The rows of files in a store at this place.
-fn at_place<P: Place>(bench: &mut Bench, place: &mut P, medium: Medium, files: &[Readable]) {
-    match place.take_up(FOLDER.as_bytes()) {
-        Ok((journal, mut stored)) => {
-            match stored.port() {
-                Ok(mut port) => {
-                    read_all(bench, &mut port, medium, files);
-                    stored.end_port(port);
-                }
-                Err(fault) => bench.fail(fault),
-            }
-            place.put_down(journal, stored);
-        }
-        Err(fault) => bench.fail(fault),
-    }
-}
-
-/// The rows of files in memory, and on the disk.
-fn read_everywhere(bench: &mut Bench, files: &[Readable]) {
-    let place = new_place(bench.alloc());
-    if let Some(mut memory) = bench.ok(place) {
-        at_place(bench, &mut memory, Medium::Memory, files);
-    }
-    let rt = bench.rt();
-    let mut disk = FsPlace::new(rt);
-    at_place(bench, &mut disk, Medium::Disk, files);
-    if !bench.has_failed() {
-        bench.note(fs::remove_dir_all(&rt, FOLDER));
-    }
-}
-
-/// The rows of files that are built, checked, and opened.
-pub fn files(bench: &mut Bench) {
-    let count = bench.rounds(POINTS);
-    let chunks = bench.rounds(CHUNKS);
-    let series = bench.rounds(SERIES);
-    let large = build_large(bench, count);
-    let wide = many_chunks(bench, chunks);
-    let widest = many_chunks(bench, series);
-    let files = [
-        Readable {
-            bytes: &large,
-            count,
-            reading: Reading::Whole,
-        },
-        Readable {
-            bytes: &wide,
-            count: chunks,
-            reading: Reading::Index,
-        },
-        Readable {
-            bytes: &widest,
-            count: series,
-            reading: Reading::Entry,
-        },
-    ];
-    read_everywhere(bench, &files);
 }

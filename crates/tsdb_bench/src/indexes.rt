@@ -1,6 +1,6 @@
 //! The speed of the index of a file. It depends on `tsdb_index`.
 
-use crate::bench::Bench;
+use crate::bench::{Bench, Unit};
 use crate::fault::Fault;
 use crate::names;
 use tsdb_base::{DataType, Encoding, List, Stats, Value};
@@ -71,7 +71,7 @@ fn write(bench: &mut Bench, index: &Index, chunks: u64) -> Option<(Vec<u8>, u64)
     let alloc = bench.alloc();
     bench.start();
     let written = bench.ok(write_leaves_and_root(alloc, index, PLACE));
-    bench.row(NAME, "write", chunks);
+    bench.row(NAME, "write", chunks, Unit::Millions);
     written
 }
 
@@ -84,8 +84,8 @@ fn read(bench: &mut Bench, bytes: &[u8], root: u64, chunks: u64) {
     let alloc = bench.alloc();
     bench.start();
     if let Some(index) = bench.ok(read_index(alloc, bytes, PLACE, root)) {
-        bench.row(NAME, "read", chunks);
-        bench.add(index.entries.items().len() as u64);
+        bench.row(NAME, "read", chunks, Unit::Millions);
+        bench.require(index.entries.items().len() as u64 == chunks);
     }
 }
 
@@ -98,7 +98,6 @@ pub fn indexes(bench: &mut Bench) {
     let written = write(bench, &index, chunks);
     drop(index);
     if let Some((bytes, root)) = written {
-        bench.add(root);
         read(bench, &bytes, root, chunks);
     }
 }

@@ -1,7 +1,6 @@
 //! The program `tsdb_bench` measures the speed of the engine's parts and prints one table. The word
 //! `quick` runs every group for one round and prints nothing; the name of a group measures that one;
-//! no word measures all. The word `full` measures nothing: it fills a small disk for `checks/files`. It
-//! depends on the crates that it measures.
+//! no word measures all. It depends on the crates that it measures.
 #![tactic(auto)]
 
 mod bench;
@@ -10,13 +9,13 @@ mod fault;
 mod files;
 mod indexes;
 mod marks;
-mod memory;
 mod memtable;
 mod names;
 mod numbers;
 mod pages;
 mod points;
 mod stored;
+mod stores;
 mod turns;
 
 use bench::Bench;
@@ -91,29 +90,12 @@ fn measure_group<R: Threads + Wait + Clock + Sync>(bench: &mut Bench, handle: &R
         Group::Turns => turns::turns(bench, handle),
         Group::Pages => pages::pages(bench),
         Group::Indexes => indexes::indexes(bench),
-        Group::Files => files::files(bench),
-        Group::Stored => stored::stored(bench),
+        Group::Files => stores::files(bench),
+        Group::Stored => stores::stored(bench),
     }
 }
 
-/// Measures those of the groups that have this name, or all where it is empty. Whether there is one.
-fn measure_groups<R: Threads + Wait + Clock + Sync>(
-    bench: &mut Bench,
-    handle: &R,
-    wanted: &str,
-) -> bool {
-    let mut is_found = false;
-    for named in GROUPS {
-        let is_wanted = wanted.is_empty() || wanted == named.name;
-        if is_wanted && !bench.has_failed() {
-            measure_group(bench, handle, named.group);
-        }
-        is_found = is_found || is_wanted;
-    }
-    is_found
-}
-
-/// Does what the word asks for, or measures all where it is empty.
+/// Measures the groups that the word asks for, or all where it is empty.
 fn run<R: Threads + Wait + Clock + Sync>(
     rt: &HostRuntime,
     handle: &R,
@@ -121,20 +103,23 @@ fn run<R: Threads + Wait + Clock + Sync>(
 ) -> Result<(), Fault> {
     let is_quick = word == "quick";
     let mut bench = Bench::new(rt, is_quick);
-    bench.head();
-    let wanted = if is_quick { "" } else { word };
-    if word == "full" {
-        stored::full(&mut bench);
-    } else if !measure_groups(&mut bench, handle, wanted) {
+    let mut is_found = false;
+    for named in GROUPS {
+        let is_wanted = is_quick || word.is_empty() || word == named.name;
+        if is_wanted && !bench.has_failed() {
+            measure_group(&mut bench, handle, named.group);
+            is_found = true;
+        }
+    }
+    if !is_found {
         bench.fail(Fault::NoGroup);
     }
     bench.end()
 }
 
 fn main(rt: HostRuntime) -> Result<(), Fault> {
-    let words = env::args(&rt)?;
-    match words.skip(1).next() {
-        None => run(&rt, &rt, ""),
-        Some(word) => run(&rt, &rt, word.as_str()),
-    }
+    let mut words = env::args(&rt)?;
+    let _program = words.next();
+    let word = words.next().unwrap_or(String::new(rt.alloc()));
+    run(&rt, &rt, word.as_str())
 }

@@ -1,7 +1,7 @@
 //! The speed of deletion marks. It depends on `tsdb_marks`.
 ghost use Rattle.std.specs.Prelude.{◌<◌, length};
 
-use crate::bench::Bench;
+use crate::bench::{Bench, Unit};
 use crate::names;
 use crate::numbers::next;
 use std::alloc::Global;
@@ -16,7 +16,7 @@ const MARKS: u64 = 1_000_000;
 const SERIES: u32 = 10_000;
 
 /// How the ranges of marks lie.
-#[derive(Clone, Copy, PartialEq, Eq)]
+#[derive(Clone, Copy)]
 enum Ranges {
     /// Anywhere.
     Random,
@@ -107,13 +107,13 @@ fn measure(bench: &mut Bench, what: &str, paths: &[Path], ranges: Ranges) {
     let count = bench.rounds(MARKS);
     bench.start();
     if let Some(marks) = bench.ok(add(alloc, paths, ranges, count)) {
-        bench.row(what, "add", count);
+        bench.row(what, "add", count, Unit::Millions);
         bench.start();
-        bench.add(count_survivors(&marks, paths, count));
-        bench.row(what, "survives", count);
+        bench.require(count_survivors(&marks, paths, count) <= count);
+        bench.row(what, "survives", count, Unit::Millions);
         bench.start();
         if let Some(only) = bench.ok(marks.only(&paths[..1])) {
-            bench.row(what, "only", only.marks().len() as u64);
+            bench.row(what, "only", only.marks().len() as u64, Unit::Millions);
         }
     }
 }

@@ -1,6 +1,6 @@
 //! The speed of puts into pairs, each with the room for its point made before it. It depends on `tsdb_memtable`.
 
-use crate::bench::Bench;
+use crate::bench::{Bench, Unit};
 use crate::numbers::next;
 use std::alloc::Global;
 use tsdb_base::{Memory, Point, SeriesId, Time, Value};
@@ -56,9 +56,9 @@ fn put_row(bench: &mut Bench, device: &Path, what: &str, are_some_late: bool) {
     let pairs = bench.rounds(100);
     bench.start();
     for _ in 0..pairs {
-        bench.add_result(fill(alloc, &watermarks, device, &times));
+        bench.note(fill(alloc, &watermarks, device, &times));
     }
-    bench.row(what, "put", pairs.saturating_mul(PAIR));
+    bench.row(what, "put", pairs.saturating_mul(PAIR), Unit::Millions);
 }
 
 /// The rows of the pairs.

@@ -1,6 +1,6 @@
 //! The speed of pages of 1,000 points, and of the statistics of one. It depends on `tsdb_pages` and on `tsdb_stats`.
 
-use crate::bench::Bench;
+use crate::bench::{Bench, Unit};
 use crate::fault::Fault;
 use crate::points::{Values, points};
 use tsdb_base::{DataType, Encoding, Point, suits};
@@ -57,15 +57,15 @@ fn both_rows(bench: &mut Bench, one: Measured, points: &[Point]) {
     let many = bench.rounds(2000);
     bench.start();
     for _ in 0..many {
-        bench.add_length(write_page(alloc, points, data_type, encoding));
+        bench.note(write_page(alloc, points, data_type, encoding));
     }
-    bench.row(one.what, "write", many.saturating_mul(PAGE));
+    bench.row(one.what, "write", many.saturating_mul(PAGE), Unit::Millions);
     let body = bench.list(write_page(alloc, points, data_type, encoding));
     bench.start();
     for _ in 0..many {
-        bench.add_length(read_page(alloc, &body, data_type, encoding));
+        bench.note(read_page(alloc, &body, data_type, encoding));
     }
-    bench.row(one.what, "read", many.saturating_mul(PAGE));
+    bench.row(one.what, "read", many.saturating_mul(PAGE), Unit::Millions);
 }
 
 /// The row of the statistics of a page.
@@ -76,11 +76,9 @@ fn statistics(bench: &mut Bench, what: &str, points: &[Point]) {
     let many = bench.rounds(20_000);
     bench.start();
     for _ in 0..many {
-        if let Some(stats) = bench.ok(stats_of(points)) {
-            bench.add(stats.count);
-        }
+        bench.note(stats_of(points));
     }
-    bench.row(what, "stats_of", many.saturating_mul(PAGE));
+    bench.row(what, "stats_of", many.saturating_mul(PAGE), Unit::Millions);
 }
 
 /// The rows of pages and of statistics.

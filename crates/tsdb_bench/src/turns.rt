@@ -4,7 +4,7 @@
 ghost use Rattle.std.specs.Prelude.{◌<◌, [], All};
 ghost use Rattle.tsdb_turn.specs.Passes.{IsOutside};
 
-use crate::bench::Bench;
+use crate::bench::{Bench, Unit};
 use std::alloc::Global;
 use std::sync::{Mutex, Wait};
 use std::thread;
@@ -77,7 +77,15 @@ fn take_turns<R: Wait + Clock>(
     }
 }
 
-/// A thread for each pass.
+/// Locks so many times, and counts each.
+fn lock_often<R: Wait>(rt: &R, lock: &Mutex<u64>, times: u64) {
+    for _ in 0..times {
+        let mut count = lock.lock(rt);
+        *count = count.wrapping_add(1);
+    }
+}
+
+/// A thread for each pass. Where there is a lock it is that which they take.
 fn take_turns_in_threads<R: Threads + Wait + Clock + Sync>(
     rt: &R,
     turn: &Turn<Count>,
@@ -85,6 +93,7 @@ fn take_turns_in_threads<R: Threads + Wait + Clock + Sync>(
     threads: usize,
     times: u64,
     held: Duration,
+    lock: Option<&Mutex<u64>>,
 )
     requires some { 0 < threads }
     requires outside { All (IsOutside turn.now.id) passes.old }
@@ -94,25 +103,22 @@ fn take_turns_in_threads<R: Threads + Wait + Clock + Sync>(
         rt,
         passes,
         threads,
-        &|_, pass| take_turns(rt, turn, pass, times, held),
+        &|_, pass| match lock {
+            Some(lock) => lock_often(rt, lock, times),
+            None => take_turns(rt, turn, pass, times, held),
+        },
     );
 }
 
-/// Locks so many times, and counts each.
-fn lock_often<R: Wait>(rt: &R, lock: &Mutex<u64>, times: u64) {
-    for _ in 0..times {
-        let mut count = lock.lock(rt);
-        *count = count.wrapping_add(1);
-    }
-}
-
-/// So many passes, each in a thread, take so many turns each. Says how many turns there were.
+/// So many passes, each in a thread, take so many turns each, or the lock where there is one. Says how many turns there
+/// were.
 fn run_turns<R: Threads + Wait + Clock + Sync>(
     alloc: Global,
     handle: &R,
     passes: u32,
     times: u64,
     held: Duration,
+    lock: Option<&Mutex<u64>>,
 ) -> Result<u64, Memory>
     requires { 0 < passes }
 {
@@ -126,6 +132,7 @@ fn run_turns<R: Threads + Wait + Clock + Sync>(
         passes as usize,
         times,
         held,
+        lock,
     );
     let count = turn.close(all);
     Ok(count.value)
@@ -139,27 +146,19 @@ fn contend<R: Threads + Wait + Clock + Sync>(
     many: u64,
     what: &str,
 )
-    requires some { 0 < passes }
-    requires few { passes < 9 }
+    requires { 0 < passes }
 {
     let times = bench.rounds(many);
     let done = times.saturating_mul(u64::from(passes));
-    let threads = passes as usize;
     let alloc = bench.alloc();
     bench.start();
-    bench.add_result(run_turns(alloc, handle, passes, times, Duration::ZERO));
-    bench.row(what, "turn", done);
+    bench.note(run_turns(alloc, handle, passes, times, Duration::ZERO, None));
+    bench.row(what, "turn", done, Unit::Millions);
     let lock = Mutex::new(0u64);
-    let mut each = [0u8; 8];
     bench.start();
-    thread::for_each_mut(
-        handle,
-        &mut each[..threads],
-        threads,
-        &|_, _| lock_often(handle, &lock, times),
-    );
-    bench.row(what, "Mutex", done);
-    bench.add(lock.into_inner());
+    bench.note(run_turns(alloc, handle, passes, times, Duration::ZERO, Some(&lock)));
+    bench.row(what, "Mutex", done, Unit::Millions);
+    bench.require(lock.into_inner() == done);
 }
 
 /// Four passes that hold the turn for 100 microseconds each. The row has the nanoseconds that it was held: a thousand
@@ -168,9 +167,14 @@ fn hold<R: Threads + Wait + Clock + Sync>(bench: &mut Bench, handle: &R) {
     let times = bench.rounds(2_500);
     let alloc = bench.alloc();
     bench.start();
-    bench.add_result(run_turns(alloc, handle, 4, times, Duration::from_micros(100)));
+    bench.note(run_turns(alloc, handle, 4, times, Duration::from_micros(100), None));
     let what = "turns of 100 microseconds, 4 passes in threads";
-    bench.row(what, "ns held", times.saturating_mul(400_000));
+    bench.row(
+        what,
+        "ns held",
+        times.saturating_mul(400_000),
+        Unit::Millions,
+    );
 }
 
 /// The rows of the turn.
