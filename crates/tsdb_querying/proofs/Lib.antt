@@ -2,8 +2,9 @@ pub mod Telling
 pub mod Pinned
 pub mod Untold
 pub mod Answered
-pub mod Full
+pub mod Selected
 pub use Rattle.tsdb_serving.proofs.CoreJobs
+pub use Rattle.tsdb_serving.proofs.Out
 pub use Rattle.tsdb_serving.proofs.Held
 pub use Rattle.tsdb_serving.proofs.Differing
 pub use Rattle.tsdb_serving.proofs.Parts

@@ -30,15 +30,16 @@ use Rattle.tsdb_outside.specs.Files.{StoredFile}
 use Rattle.tsdb_outside.specs.declared.disk.Disk as disk
 use Rattle.tsdb_outside.specs.declared.faults.Counted as counted
 use Rattle.tsdb_state.specs.Stores.{IsStateOf}
-use Rattle.tsdb_serving.proofs.Differing.{NoNumber, drawn_apart}
+use Rattle.tsdb_serving.proofs.Differing.{drawn_apart}
 use Rattle.tsdb_serving.proofs.Held.{either_wider, held_more, same_state}
 use Rattle.tsdb_serving.proofs.Parts.{froze, unchanged}
 use Rattle.tsdb_serving.proofs.Steps.{moved, moved_left, quiet, quiet_left, then, then_left, then_settled}
 use Rattle.tsdb_serving.specs.Faults.{flush_answer}
 use Rattle.tsdb_serving.specs.Serving.{IsAnsweredBy, IsDrawn, IsServed, IsServedBy, IsServing, MayBeWritten, LeavesDoubt, LeavesEither, MayDoubt, disk_under}
-use Rattle.tsdb_serving.specs.Serving.{slot_under}
+use Rattle.tsdb_serving.specs.Serving.{NoNumber, slot_under}
 use Rattle.tsdb_serving.specs.declared.fault.FlushFault.{FlushFault}
 use Rattle.tsdb_serving.specs.declared.fault.FlushFault.TheVariants as fault
+use Rattle.tsdb_serving.specs.declared.loan.Loan.{Loan}
 use Rattle.tsdb_state.proofs.Inserting.{inserted_stands}
 use Rattle.tsdb_state.specs.Commands.{AreCells}
 use Rattle.tsdb_base.specs.Limits.{end_of_numbers}
@@ -237,17 +238,18 @@ module _ {J F S R P : Type 0} {means : disk.Ghosts J} {counts : counted.Ghosts J
 
   module _ (Q : ℕ → Type 0) (old new : Core J F S R P means counts) (record_is : LogRecord) (asked : Command)
       (rises : (store : StoreState) → (after record_is store).stamp ≡ store.stamp + raise asked)
-      (files : List StoredFile) (at : plain.State) (next : Option plain.State)
-      (serving : IsServing old files at next) where
+      (loans : List (Loan F S R P)) (files : List StoredFile) (at : plain.State) (next : Option plain.State)
+      (serving : IsServing loans old files at next) where
     abbrev then_state : plain.State
     then_state = done_after at asked
 
     -- the core shows the same state
-    shown : IsSeen new serving.outside serving.state → IsServing new (files ++ []) at next
+    shown : IsSeen new serving.outside serving.state → IsServing loans new (files ++ []) at next
     shown seen = record {
       outside = serving.outside;
       state = serving.state;
       seen = seen;
+      lent = serving.lent;
       stands = serving.stands;
       doubt = serving.doubt;
       held = held_more serving.outside.kept files [] serving.held;
@@ -255,10 +257,10 @@ module _ {J F S R P : Type 0} {means : disk.Ghosts J} {counts : counted.Ghosts J
 
     -- nothing was written
     kept : log_of (logged_of new) ≡ log_of (logged_of old) → IsSeen new serving.outside serving.state
-        → IsServedBy Q old new files at next then_state at
-    kept same seen = quiet laws Q old new files [] at next then_state same tt tt serving (shown seen)
+        → IsServedBy Q loans old new files at next then_state at
+    kept same seen = quiet laws Q loans loans old new files [] at next then_state same tt tt serving (shown seen)
 
-    still : new ≡ old → IsServedBy Q old new files at next then_state at
+    still : new ≡ old → IsServedBy Q loans old new files at next then_state at
     still same = kept (ap (λ (core : Core J F S R P means counts). log_of (logged_of core)) same)
         (subst (λ (core : Core J F S R P means counts). IsSeen core serving.outside serving.state) (sym same)
         serving.seen)
@@ -266,7 +268,7 @@ module _ {J F S R P : Type 0} {means : disk.Ghosts J} {counts : counted.Ghosts J
     kept_left : (same : log_of (logged_of new) ≡ log_of (logged_of old))
         (seen : IsSeen new serving.outside serving.state) → (kept same seen).doubt ≡ next
     unfolding kept
-    kept_left same seen = quiet_left laws Q old new files [] at next then_state same tt tt serving (shown seen)
+    kept_left same seen = quiet_left laws Q loans loans old new files [] at next then_state same tt tt serving (shown seen)
 
     still_left : (same : new ≡ old) → (still same).doubt ≡ next
     unfolding still
@@ -284,7 +286,7 @@ module _ {J F S R P : Type 0} {means : disk.Ghosts J} {counts : counted.Ghosts J
       }
 
       written : (doubt : Option plain.State) (now : plain.State) → MayDoubt next at then_state doubt
-          → IsServing new (files ++ []) now doubt → IsServedBy Q old new files at next then_state now
+          → IsServing loans new (files ++ []) now doubt → IsServedBy Q loans old new files at next then_state now
       written doubt now may is = record {
         put = [];
         numbers = tt;
@@ -301,22 +303,24 @@ module _ {J F S R P : Type 0} {means : disk.Ghosts J} {counts : counted.Ghosts J
       }
 
       done : IsSeen new (with_record record_is serving.outside) (wrote record_is serving.state)
-          → IsServedBy Q old new files at next then_state (state_after at asked (Plain answer.Done))
+          → IsServedBy Q loans old new files at next then_state (state_after at asked (Plain answer.Done))
       done seen = written None (state_after at asked (Plain answer.Done)) (inl refl) (record {
         outside = with_record record_is serving.outside;
         state = wrote record_is serving.state;
         seen = seen;
+        lent = serving.lent;
         stands = leads;
         doubt = tt;
         held = held_more serving.outside.kept files [] serving.held;
       })
 
       faulted : IsSeenAfter new serving.outside serving.state record_is answer.Device
-          → IsServedBy Q old new files at next then_state at
+          → IsServedBy Q loans old new files at next then_state at
       faulted (inl seen) = written None at (inl refl) (record {
         outside = serving.outside;
         state = settled serving.state;
         seen = seen;
+        lent = serving.lent;
         stands = serving.stands;
         doubt = tt;
         held = held_more serving.outside.kept files [] serving.held;
@@ -326,13 +330,14 @@ module _ {J F S R P : Type 0} {means : disk.Ghosts J} {counts : counted.Ghosts J
         outside = serving.outside;
         state = failed record_is serving.state;
         seen = seen;
+        lent = serving.lent;
         stands = serving.stands;
         doubt = leads;
         held = held_more serving.outside.kept files [] serving.held;
       })
 
     pub served : (result : Answer) → IsCoreCommand old new record_is NeedsNothing result → Leads old record_is asked result
-        → IsServedBy Q old new files at next then_state (state_after at asked (Plain result))
+        → IsServedBy Q loans old new files at next then_state (state_after at asked (Plain result))
     served answer.Done step led = done answer.Done step
         (led serving.outside serving.state serving.seen tt at.world serving.stands.world)
         (step.step serving.outside serving.state serving.seen tt)
@@ -384,16 +389,16 @@ module _ {J F S R P : Type 0} {means : disk.Ghosts J} {counts : counted.Ghosts J
 
     -- where the record cannot have been written, the log is as it was
     same_log : log_of (logged_of new) ≡ log_of (logged_of old) → IsSeen new serving.outside serving.state
-        → IsServedBy Q old new files at next at at
-    same_log same seen = quiet laws Q old new files [] at next at same tt tt serving (shown seen)
+        → IsServedBy Q loans old new files at next at at
+    same_log same seen = quiet laws Q loans loans old new files [] at next at same tt tt serving (shown seen)
 
-    same_core : new ≡ old → IsServedBy Q old new files at next at at
+    same_core : new ≡ old → IsServedBy Q loans old new files at next at at
     same_core same = same_log (ap (λ (core : Core J F S R P means counts). log_of (logged_of core)) same)
         (subst (λ (core : Core J F S R P means counts). IsSeen core serving.outside serving.state) (sym same)
         serving.seen)
 
     pub unmoved : (result : Answer) → IsCoreCommand old new record_is NeedsNothing result → IsMapAnswer at.world asked result
-        → ¬ MayBeWritten at asked (Plain result) → IsServedBy Q old new files at next at at
+        → ¬ MayBeWritten at asked (Plain result) → IsServedBy Q loans old new files at next at at
     unmoved answer.Done step map not = absurd (not (inl refl))
     unmoved answer.NoPath step map not = same_core (step.refused tt)
     unmoved answer.WrongType step map not = same_core (step.refused tt)
@@ -406,7 +411,7 @@ module _ {J F S R P : Type 0} {means : disk.Ghosts J} {counts : counted.Ghosts J
     -- a command that is one record
     pub answered : (result : Answer) (step : IsCoreCommand old new record_is NeedsNothing result)
         (leads : Leads old record_is asked result) → IsChange asked → IsMapAnswer at.world asked result
-        → IsAllowed at asked (Plain result) → IsAnsweredBy Q old new files at next asked (Plain result)
+        → IsAllowed at asked (Plain result) → IsAnsweredBy Q loans old new files at next asked (Plain result)
     answered result step leads change map may = record {
       allowed = may;
       served = served result step leads;
@@ -419,30 +424,30 @@ module _ {J F S R P : Type 0} {means : disk.Ghosts J} {counts : counted.Ghosts J
   -- ---- a row
 
   module _ (Q : ℕ → Type 0) (old new : Core J F S R P means counts) (device : List ℕ) (row : Row)
-      (files : List StoredFile) (at : plain.State) (next : Option plain.State)
-      (serving : IsServing old files at next) where
+      (loans : List (Loan F S R P)) (files : List StoredFile) (at : plain.State) (next : Option plain.State)
+      (serving : IsServing loans old files at next) where
     abbrev asked : Command
     asked = command.Insert device row
 
     abbrev Ends : Answer → Type 0
-    Ends result = (served : IsServedBy Q old new files at next (done_after at asked)
+    Ends result = (served : IsServedBy Q loans old new files at next (done_after at asked)
         (state_after at asked (Plain result))) × (Plain result ≡ Plain answer.Done → served.doubt ≡ None)
         × RowDoubts next at (done_after at asked) result served.doubt
-        × (¬ MayBeWritten at asked (Plain result) → IsServedBy Q old new files at next at at)
+        × (¬ MayBeWritten at asked (Plain result) → IsServedBy Q loans old new files at next at at)
 
     -- the core before the record, which no file was put for
     placed : (between : Core J F S R P means counts) → HasRowPlace row old between
-        → (first : IsServedBy NoNumber old between files at next at at) × (slot_under between ≡ slot_under old)
+        → (first : IsServedBy NoNumber loans old between files at next at at) × (slot_under between ≡ slot_under old)
     placed between (inl (fits, same)) = (
-      unchanged laws NoNumber old between files at next at
+      unchanged laws NoNumber loans old between files at next at
           (ap (λ (core : Core J F S R P means counts). log_of (logged_of core)) same)
           (λ outside engine seen. subst (λ (core : Core J F S R P means counts). IsSeen core outside engine) (sym same)
           seen) serving,
       ap (λ (core : Core J F S R P means counts). slot_under core) same,
     )
     placed between (inr frozen) = (
-      froze laws NoNumber old between answer.Done frozen.freeze frozen.can files at next serving,
-      frozen.freeze.slot.same,
+      froze laws NoNumber old between answer.Done frozen.freeze frozen.can loans files at next serving,
+      frozen.freeze.slot,
     )
 
     put_leads : (result : Answer) (put : IsRowPut device row old new result)
@@ -456,39 +461,39 @@ module _ {J F S R P : Type 0} {means : disk.Ghosts J} {counts : counted.Ghosts J
     put_ends result put map =
         let first = placed put.between put.place in
         let step = put.put in (
-          then laws NoNumber Q Q (λ n none. absurd none) (λ n is. is) (λ a b none. absurd none) old put.between new
+          then laws NoNumber Q Q (λ n none. absurd none) (λ n is. is) (λ a b none. absurd none) loans loans old put.between new
               files at next (done_after at asked)
               (state_after at asked (Plain result)) first.1 first.0
               (served Q put.between new (item.Insert row.time put.cells) asked (λ store. refl)
-              (files ++ first.0.put) at first.0.doubt first.0.serving result step (put_leads result put)),
-          λ is. then_settled laws NoNumber Q Q (λ n none. absurd none) (λ n is. is) (λ a b none. absurd none) old put.between new files at next
+              loans (files ++ first.0.put) at first.0.doubt first.0.serving result step (put_leads result put)),
+          λ is. then_settled laws NoNumber Q Q (λ n none. absurd none) (λ n is. is) (λ a b none. absurd none) loans loans old put.between new files at next
               (done_after at asked) (state_after at asked (Plain result)) first.1 first.0
               (served Q put.between new (item.Insert row.time put.cells) asked (λ store. refl)
-              (files ++ first.0.put) at first.0.doubt first.0.serving result step (put_leads result put))
-              (settles Q put.between new (item.Insert row.time put.cells) asked (λ store. refl) (files ++ first.0.put)
+              loans (files ++ first.0.put) at first.0.doubt first.0.serving result step (put_leads result put))
+              (settles Q put.between new (item.Insert row.time put.cells) asked (λ store. refl) loans (files ++ first.0.put)
               at first.0.doubt first.0.serving result step (put_leads result put) is),
           subst (RowDoubts next at (done_after at asked) result)
-              (sym (then_left laws NoNumber Q Q (λ n none. absurd none) (λ n is. is) (λ a b none. absurd none) old put.between new files at next
+              (sym (then_left laws NoNumber Q Q (λ n none. absurd none) (λ n is. is) (λ a b none. absurd none) loans loans old put.between new files at next
               (done_after at asked) (state_after at asked (Plain result)) first.1 first.0
               (served Q put.between new (item.Insert row.time put.cells) asked (λ store. refl)
-              (files ++ first.0.put) at first.0.doubt first.0.serving result step (put_leads result put))))
+              loans (files ++ first.0.put) at first.0.doubt first.0.serving result step (put_leads result put))))
               (then_doubts next at (done_after at asked) result first.0.doubt
               (served Q put.between new (item.Insert row.time put.cells) asked (λ store. refl)
-              (files ++ first.0.put) at first.0.doubt first.0.serving result step (put_leads result put)).doubt
+              loans (files ++ first.0.put) at first.0.doubt first.0.serving result step (put_leads result put)).doubt
               first.0.may (as_row first.0.doubt at (done_after at asked) result
               (served Q put.between new (item.Insert row.time put.cells) asked (λ store. refl)
-              (files ++ first.0.put) at first.0.doubt first.0.serving result step (put_leads result put)).doubt
-              (doubts Q put.between new (item.Insert row.time put.cells) asked (λ store. refl) (files ++ first.0.put)
+              loans (files ++ first.0.put) at first.0.doubt first.0.serving result step (put_leads result put)).doubt
+              (doubts Q put.between new (item.Insert row.time put.cells) asked (λ store. refl) loans (files ++ first.0.put)
               at first.0.doubt first.0.serving result step (put_leads result put)))),
-          λ not. then laws NoNumber Q Q (λ n none. absurd none) (λ n is. is) (λ a b none. absurd none) old put.between
+          λ not. then laws NoNumber Q Q (λ n none. absurd none) (λ n is. is) (λ a b none. absurd none) loans loans old put.between
               new files at next at at first.1 first.0
-              (unmoved Q put.between new (item.Insert row.time put.cells) asked (λ store. refl) (files ++ first.0.put)
+              (unmoved Q put.between new (item.Insert row.time put.cells) asked (λ store. refl) loans (files ++ first.0.put)
               at first.0.doubt first.0.serving result step map not),
         )
 
     -- a step that keeps the world, as one of the command
-    pub for_command : IsServedBy Q old new files at next at at
-        → IsServedBy Q old new files at next (done_after at asked) at
+    pub for_command : IsServedBy Q loans old new files at next at at
+        → IsServedBy Q loans old new files at next (done_after at asked) at
     for_command kept = record {
       put = kept.put;
       numbers = kept.numbers;
@@ -514,32 +519,32 @@ module _ {J F S R P : Type 0} {means : disk.Ghosts J} {counts : counted.Ghosts J
         left image (inr leaves) =
             inl (same_state (files ++ kept.put) (slot_under old) at next image leaves)
 
-    pub command_doubt : (kept : IsServedBy Q old new files at next at at) → (for_command kept).doubt ≡ kept.doubt
+    pub command_doubt : (kept : IsServedBy Q loans old new files at next at at) → (for_command kept).doubt ≡ kept.doubt
     unfolding for_command
     command_doubt kept = refl
 
     -- a step that keeps the world answers a command that is not done
     only_kept : (result : Answer) → state_after at asked (Plain result) ≡ at → Plain result ≢ Plain answer.Done
-        → IsServedBy Q old new files at next at at → Ends result
+        → IsServedBy Q loans old new files at next at at → Ends result
     only_kept result stays not kept = (
-      moved laws Q old new files at next (done_after at asked) at (state_after at asked (Plain result)) (sym stays)
+      moved laws Q loans old new files at next (done_after at asked) at (state_after at asked (Plain result)) (sym stays)
           (for_command kept),
       λ is. absurd (not is),
       subst (RowDoubts next at (done_after at asked) result)
-          (sym (moved_left laws Q old new files at next (done_after at asked) at (state_after at asked (Plain result))
+          (sym (moved_left laws Q loans old new files at next (done_after at asked) at (state_after at asked (Plain result))
           (sym stays) (for_command kept) ∙ command_doubt kept))
           (kept_doubts next at (done_after at asked) result kept.doubt kept.may),
       λ unwritten. kept,
     )
 
-    untouched : new ≡ old → IsServedBy Q old new files at next at at
-    untouched same = unchanged laws Q old new files at next at
+    untouched : new ≡ old → IsServedBy Q loans old new files at next at at
+    untouched same = unchanged laws Q loans old new files at next at
         (ap (λ (core : Core J F S R P means counts). log_of (logged_of core)) same)
         (λ outside engine seen. subst (λ (core : Core J F S R P means counts). IsSeen core outside engine) (sym same)
         seen) serving
 
-    only_froze : (result : Answer) → IsFrozenFor row old new result → IsServedBy Q old new files at next at at
-    only_froze result frozen = froze laws Q old new result frozen.freeze frozen.can files at next serving
+    only_froze : (result : Answer) → IsFrozenFor row old new result → IsServedBy Q loans old new files at next at at
+    only_froze result frozen = froze laws Q old new result frozen.freeze frozen.can loans files at next serving
 
     row_ends : (result : Answer) → IsRowCommand device row old new result → IsMapAnswer at.world asked result
         → Ends result
@@ -557,7 +562,7 @@ module _ {J F S R P : Type 0} {means : disk.Ghosts J} {counts : counted.Ghosts J
     row_ends (answer.Full counter) same map = only_kept (answer.Full counter) refl (λ is. absurd cc) (untouched same)
 
     pub row_answered : (result : Answer) → IsRowCommand device row old new result → IsMapAnswer at.world asked result
-        → IsAllowed at asked (Plain result) → IsAnsweredBy Q old new files at next asked (Plain result)
+        → IsAllowed at asked (Plain result) → IsAnsweredBy Q loans old new files at next asked (Plain result)
     row_answered result is map may = let ends = row_ends result is map in record {
       allowed = may;
       served = ends.0;
@@ -568,63 +573,63 @@ module _ {J F S R P : Type 0} {means : disk.Ghosts J} {counts : counted.Ghosts J
 
   -- ---- a row behind a flush
 
-  module _ (old mid new : Core J F S R P means counts) (device : List ℕ) (row : Row) (files : List StoredFile)
-      (at : plain.State) (next : Option plain.State) (slot : slot_under mid ≡ slot_under old)
-      (first : IsServed old mid files at next at at)
+  module _ (old mid new : Core J F S R P means counts) (device : List ℕ) (row : Row) (loans : List (Loan F S R P))
+      (files : List StoredFile) (at : plain.State) (next : Option plain.State) (slot : slot_under mid ≡ slot_under old)
+      (first : IsServed loans old mid files at next at at)
       (low : (n : ℕ) → IsDrawn old mid n → IsDrawn old new n) (high : (n : ℕ) → IsDrawn mid new n → IsDrawn old new n)
     where
-      pub behind : (result : Answer) → IsAnsweredBy (IsDrawn mid new) mid new (files ++ first.put) at first.doubt
+      pub behind : (result : Answer) → IsAnsweredBy (IsDrawn mid new) loans mid new (files ++ first.put) at first.doubt
           (command.Insert device row) (Plain result)
-          → IsAnsweredBy (IsDrawn old new) old new files at next (command.Insert device row) (Plain result)
+          → IsAnsweredBy (IsDrawn old new) loans old new files at next (command.Insert device row) (Plain result)
       behind result second = record {
         allowed = second.allowed;
-        served = then laws (IsDrawn old mid) (IsDrawn mid new) (IsDrawn old new) low high (drawn_apart old mid new) old mid new files at next
+        served = then laws (IsDrawn old mid) (IsDrawn mid new) (IsDrawn old new) low high (drawn_apart old mid new) loans loans old mid new files at next
             (done_after at (command.Insert device row)) (state_after at (command.Insert device row) (Plain result)) slot
             first second.served;
-        settled = λ change is. then_settled laws (IsDrawn old mid) (IsDrawn mid new) (IsDrawn old new) low high (drawn_apart old mid new) old mid new
+        settled = λ change is. then_settled laws (IsDrawn old mid) (IsDrawn mid new) (IsDrawn old new) low high (drawn_apart old mid new) loans loans old mid new
             files at next (done_after at (command.Insert device row))
             (state_after at (command.Insert device row) (Plain result)) slot first second.served (second.settled change is);
         doubtful = subst (LeavesDoubt next at (command.Insert device row) (Plain result))
-            (sym (then_left laws (IsDrawn old mid) (IsDrawn mid new) (IsDrawn old new) low high (drawn_apart old mid new) old mid new files at next
+            (sym (then_left laws (IsDrawn old mid) (IsDrawn mid new) (IsDrawn old new) low high (drawn_apart old mid new) loans loans old mid new files at next
             (done_after at (command.Insert device row)) (state_after at (command.Insert device row) (Plain result)) slot
             first second.served))
             (behind_doubts next at device row (Plain result) first.doubt second.served.doubt first.may second.doubtful);
         unwritten = λ change not. then laws (IsDrawn old mid) (IsDrawn mid new) (IsDrawn old new) low high
-            (drawn_apart old mid new) old mid new files at next at at slot first (second.unwritten change not);
+            (drawn_apart old mid new) loans loans old mid new files at next at at slot first (second.unwritten change not);
       }
 
   -- the flush before a row failed
-  pub flush_failed : (old new : Core J F S R P means counts) (device : List ℕ) (row : Row) (files : List StoredFile)
-      (at : plain.State) (next : Option plain.State) (why : FlushFault)
+  pub flush_failed : (old new : Core J F S R P means counts) (device : List ℕ) (row : Row) (loans : List (Loan F S R P))
+      (files : List StoredFile) (at : plain.State) (next : Option plain.State) (why : FlushFault)
       → ((counter : ℕ) → why ≡ fault.Full counter → end_of_numbers < counter + 2)
-      → IsServing old files at next → IsServed old new files at next at at
-      → IsAnsweredBy (IsDrawn old new) old new files at next (command.Insert device row) (Plain (flush_answer why))
-  flush_failed old new device row files at next why full serving kept = record {
+      → IsServing loans old files at next → IsServed loans old new files at next at at
+      → IsAnsweredBy (IsDrawn old new) loans old new files at next (command.Insert device row) (Plain (flush_answer why))
+  flush_failed old new device row loans files at next why full serving kept = record {
     allowed = fault_allowed at device row why full;
-    served = moved laws (IsDrawn old new) old new files at next (done_after at (command.Insert device row)) at
+    served = moved laws (IsDrawn old new) loans old new files at next (done_after at (command.Insert device row)) at
         (state_after at (command.Insert device row) (Plain (flush_answer why))) (sym (fault_state at device row why))
-        (for_command (IsDrawn old new) old new device row files at next serving kept);
+        (for_command (IsDrawn old new) old new device row loans files at next serving kept);
     settled = λ change is. absurd (fault_not_done why is);
     doubtful = subst (LeavesDoubt next at (command.Insert device row) (Plain (flush_answer why)))
-        (sym (moved_left laws (IsDrawn old new) old new files at next (done_after at (command.Insert device row)) at
+        (sym (moved_left laws (IsDrawn old new) loans old new files at next (done_after at (command.Insert device row)) at
         (state_after at (command.Insert device row) (Plain (flush_answer why))) (sym (fault_state at device row why))
-        (for_command (IsDrawn old new) old new device row files at next serving kept)
-        ∙ command_doubt (IsDrawn old new) old new device row files at next serving kept))
+        (for_command (IsDrawn old new) old new device row loans files at next serving kept)
+        ∙ command_doubt (IsDrawn old new) old new device row loans files at next serving kept))
         (behind_doubts next at device row (Plain (flush_answer why)) kept.doubt kept.doubt kept.may (inr (inl refl)));
     unwritten = λ change not. kept;
   }
 
 module _ {J F S R P : Type 0} {means : disk.Ghosts J} {counts : counted.Ghosts J} where
   -- a core that stands for a state does so for its world, and memory has its stamp
-  pub world_is : (core : Core J F S R P means counts) (files : List StoredFile) (at : plain.State)
-      (next : Option plain.State) → IsServing core files at next → IsWorldOf core at.world
-  world_is core files at next serving = record {
+  pub world_is : (loans : List (Loan F S R P)) (core : Core J F S R P means counts) (files : List StoredFile)
+      (at : plain.State) (next : Option plain.State) → IsServing loans core files at next → IsWorldOf core at.world
+  world_is loans core files at next serving = record {
     outside = serving.outside;
     state = serving.state;
     seen = serving.seen;
     stands = serving.stands.world;
   }
 
-  pub stamp_is : (core : Core J F S R P means counts) (files : List StoredFile) (at : plain.State)
-      (next : Option plain.State) → IsServing core files at next → (memory_of (logged_of core)).stamp ≡ at.stamp
-  stamp_is core files at next serving = sym serving.seen.sound.memory.stamp ∙ serving.stands.stamp
+  pub stamp_is : (loans : List (Loan F S R P)) (core : Core J F S R P means counts) (files : List StoredFile)
+      (at : plain.State) (next : Option plain.State) → IsServing loans core files at next → (memory_of (logged_of core)).stamp ≡ at.stamp
+  stamp_is loans core files at next serving = sym serving.seen.sound.memory.stamp ∙ serving.stands.stamp

@@ -2,6 +2,8 @@
 use Rattle.std.proofs.Common.{◌≡◌, ◌≢◌, ◌⊎◌, ℕ, ◌+◌, ◌<◌, ◌≤◌, Result, Ok, Err, inl, inr, arith, refl, subst, sym}
 use Rattle.std.specs.Prelude.{IfErr}
 use Rattle.tsdb_core.specs.Flushes.{IsTakeAnswer}
+use Rattle.tsdb_core.specs.declared.commit.Commit.{Commit}
+use Rattle.tsdb_core.specs.declared.commit.Commit.TheVariants as commits
 use Rattle.tsdb_core.specs.declared.commit.CoreFault.{CoreFault}
 use Rattle.tsdb_core.specs.declared.commit.CoreFault.TheVariants as job
 use Rattle.tsdb_memory.specs.Store.{MemoryState}
@@ -125,3 +127,20 @@ full_cause journal journal_after port port_after next (Full number) cause counte
     let end = cause.0 in
     let same : number ≡ counter = cc in
     omega (arith, end, same)
+
+-- a freeze failed
+pub freeze_causes : {T : Type 0} (result : Result T FlushFault) (journal journal_after port port_after next : ℕ)
+    → IfErr result (λ fault. fault ≡ Device → Rose journal journal_after)
+    → IfErr result (λ fault. (counter : ℕ) → fault ≢ Full counter)
+    → IfErr result (HasFlushCause journal journal_after port port_after next)
+freeze_causes (Ok value) journal journal_after port port_after next rose full = tt
+freeze_causes (Err fault) journal journal_after port port_after next rose full =
+    freeze_cause journal journal_after port port_after next fault rose full
+
+-- a commit failed
+pub result_cause : {T : Type 0} (result : Result T FlushFault) (commit : Commit) (journal journal_after : ℕ)
+    → IfErr result (λ fault. (fault ≡ Device) × (commit ≡ commits.Device))
+    → (commit ≡ commits.Device → Rose journal journal_after)
+    → IfErr result (λ fault. (fault ≡ Device) × Rose journal journal_after)
+result_cause (Ok value) commit journal journal_after is rose = tt
+result_cause (Err fault) commit journal journal_after is rose = (is.0, rose is.1)

@@ -15,10 +15,6 @@ use Rattle.tsdb_serving.specs.Serving.{IsDrawn}
 abbrev pub Differ : List StoredFile → Type 0
 Differ files = EachPair (λ (a b : StoredFile). a.number ≢ b.number) files
 
--- the numbers of a step that puts no file
-abbrev pub NoNumber : ℕ → Type 0
-NoNumber number = ⊥
-
 -- files of different numbers are stored under these
 pub stored_differ : (files : List NewFile) → EachPair (λ a b. file_number a ≢ file_number b) files
     → Differ (flat_map stored_of files)

@@ -1,40 +1,45 @@
--- A core that is ready takes a job, and is ready again once the job has ended.
+-- The files of a job, their numbers, and what is out of a core that takes it and ends it.
 use Rattle.std.proofs.Common.{◌≡◌, ◌⊎◌, ℕ, ◌+◌, ◌<◌, ◌≤◌, true, List, [], ◌∷◌, ◌++◌, map, Option, None, Some}
-use Rattle.std.proofs.Common.{Result, Ok, Err, inl, inr, zero, suc, ap, arith, refl, sym, subst, ◌∙◌}
+use Rattle.std.proofs.Common.{inl, inr, zero, suc, ap, arith, refl, sym, subst, ◌∙◌}
 use Rattle.std.specs.List.{AllByRecursion as Each, flat_map, range_with_len}
 use Rattle.std.specs.Option.{option_map}
 use Rattle.std.specs.Prelude.{IfSome, IsSome, is_some}
+use Rattle.tsdb_base.proofs.Lists.{among_left, among_right, each_append}
+use Rattle.tsdb_base.specs.Lists.{Among, if_some}
 use Rattle.tsdb_base.specs.declared.ids.FileNumber.{FileNumber}
 use Rattle.tsdb_base.specs.declared.ids.Space.TheVariants.{Sequence, Unsequence}
-use Rattle.tsdb_core.proofs.Coming.{of_each}
-use Rattle.tsdb_core.specs.Files.{AreDoneSoFar, AreFilesOfJob, IsOfPart, NewFile, NewFiles, TellBytes, all_of, file_built}
-use Rattle.tsdb_core.specs.Files.{file_number, new_files, stored_of}
-use Rattle.tsdb_core.specs.Commands.{KeepsFiles}
-use Rattle.tsdb_core.specs.Core.{files_of, next_of}
-use Rattle.tsdb_core.specs.Ending.{drawn_for, numbers_if}
-use Rattle.tsdb_core.specs.Flushes.{HasEndedFlush, IsNotTaken, IsOut, IsFlushTaken, TakesMemory}
-use Rattle.tsdb_core.specs.Sweeps.{IsSwept}
-use Rattle.tsdb_core.specs.declared.commit.Commit.{Commit}
-use Rattle.tsdb_core.specs.declared.engine.Core.{Core}
+use Rattle.tsdb_core.proofs.Loans.{on_columns}
+use Rattle.tsdb_core.proofs.Out.{first_job, first_one, flush_can_end, has_numbers, job_leaves}
 use Rattle.tsdb_core.specs.Built.{IsPartDone}
-use Rattle.tsdb_core.specs.Jobs.{job_part}
-use Rattle.tsdb_core.specs.Parts.{Filled}
 use Rattle.tsdb_core.specs.BuiltType.{Built}
+use Rattle.tsdb_core.specs.Compactions.{IsHandedOut}
+use Rattle.tsdb_core.specs.Core.{files_of, next_of}
+use Rattle.tsdb_core.specs.Ending.{numbers_if}
+use Rattle.tsdb_core.specs.Files.{AreFilesOfJob, IsOfPart, NewFile, NewFiles, TellBytes, all_of, file_built, new_files}
+use Rattle.tsdb_core.specs.Files.{file_number, stored_of}
 use Rattle.tsdb_core.specs.FlushJob.{FlushJob}
 use Rattle.tsdb_core.specs.Flushed.{Flushed}
-use Rattle.tsdb_core.proofs.Taken.{still_all}
-use Rattle.tsdb_core.specs.FilesetFiles.{KeptFiles}
-use Rattle.tsdb_core.specs.Places.{AllFiles, AreUnread, KeptFile, OnlyMakesPlaces, Places}
-use Rattle.tsdb_base.proofs.Lists.{among_left, among_right, each_append}
-use Rattle.tsdb_base.specs.Lists.{Among, IsWithOne, if_some}
+use Rattle.tsdb_core.specs.Flushes.{HasEndedFlush, IsOut}
+use Rattle.tsdb_core.specs.Jobs.{job_part}
+use Rattle.tsdb_core.specs.Loans.{KeepsLoans}
+use Rattle.tsdb_core.specs.Out.{KeepsOut, Loans, flush_of, with_flush}
+use Rattle.tsdb_core.specs.Parts.{Filled}
+use Rattle.tsdb_core.specs.Pins.{IsUnpinned, pin_rights}
+use Rattle.tsdb_core.specs.Places.{AreOfStore}
+use Rattle.tsdb_core.specs.Replacements.{HasEndedJob}
+use Rattle.tsdb_core.specs.declared.commit.Commit.{Commit}
+use Rattle.tsdb_core.specs.declared.engine.Core.{Core}
 use Rattle.tsdb_outside.specs.Files.{NamedFile, Store, StoredFile, Tells}
 use Rattle.tsdb_outside.specs.declared.disk.Disk as disk
 use Rattle.tsdb_outside.specs.declared.faults.Counted as counted
-use Rattle.tsdb_outside.specs.declared.faults.Failed.{Failed}
-use Rattle.tsdb_serving.specs.Flushing.{IsBusy, IsOfJob, IsReady}
+use Rattle.tsdb_serving.specs.Files.{AreDoneInStore, AreDoneSoFarInStore}
+use Rattle.tsdb_serving.specs.Flushing.{IsOfJob}
+use Rattle.tsdb_serving.specs.Loans.{CanServe, IsWithLoan, KeepsAll, Lends, TakesBack, with_loan}
 use Rattle.tsdb_serving.specs.Serving.{IsDrawn}
-use Rattle.tsdb_state.specs.State as state
-use Rattle.std.specs.FinMap.{empty}
+use Rattle.tsdb_serving.specs.declared.loan.Loan.{Loan}
+use Rattle.tsdb_serving.specs.declared.loan.Loan.TheVariants as loan
+use Rattle.tsdb_tasks.specs.Job.{Job}
+use Rattle.tsdb_tasks.specs.Pin.{Pin}
 
 -- ---- the files of a job
 
@@ -76,19 +81,6 @@ number_there : (store : Store) (born : ℕ) (part : List Filled) (number : Optio
 number_there store born part number None of_part = tt
 number_there store born part None (Some new) of_part = absurd of_part
 number_there store born part (Some number) (Some new) of_part = inl (sym of_part.kept.number_is)
-
--- no right to read a new file is out
-unread_there : (store : Store) (born : ℕ) (part : List Filled) (number : Option FileNumber) (new : Option NewFile)
-    → IsOfPart store born part number new → IfSome new (λ file. file.token.rights ≡ 0)
-unread_there store born part number None of_part = tt
-unread_there store born part None (Some new) of_part = absurd of_part
-unread_there store born part (Some number) (Some new) of_part = of_part.unread
-
-all_unread : (store : Store) (job : FlushJob) (files : NewFiles) → AreFilesOfJob store job files
-    → Each (λ file. file.token.rights ≡ 0) (all_of files)
-all_unread store job files of_job = each_of (λ file. file.token.rights ≡ 0) files.sequence files.unsequence
-    (unread_there store job.born.0 (job_part Sequence job) job.sequence files.sequence of_job.sequence)
-    (unread_there store job.born.0 (job_part Unsequence job) job.unsequence files.unsequence of_job.unsequence)
 
 if_weaker : (P Q : NewFile → Type 0) (new : Option NewFile) → ((file : NewFile) → P file → Q file) → IfSome new P
     → IfSome new Q
@@ -132,85 +124,67 @@ within from (suc count) n (inr among) =
     let high = rest.high in
     record { low = omega (arith, low); high = omega (arith, high) }
 
--- ---- jobs
+-- a loan stands first of what is out with it
+first_loan : {F S R P : Type 0} (name : R → NamedFile) (one : Loan F S R P) (out : Loans)
+    → IsWithLoan name one out (with_loan name one out)
+first_loan name (loan.Flush job) out =
+    record { flushes = first_one (flush_of job) out.flushes; compactions = refl; lent = refl }
+first_loan name (loan.Compaction job) out = first_job name job out
+first_loan name (loan.Pin pin) out =
+    record { flushes = refl; compactions = refl; lent = first_one (pin_rights name pin) out.lent }
 
-abbrev flush_of : FlushJob → state.FlushState
-flush_of job = record {
-  born = job.born.0;
-  pair = record { sequence = empty; unsequence = empty };
-  sequence = option_map (λ (number : FileNumber). number.0) job.sequence;
-  unsequence = option_map (λ (number : FileNumber). number.0) job.unsequence;
-}
-
-only_one : (flush : state.FlushState) → IsWithOne flush [] (flush ∷ [])
-only_one flush = record { before = []; behind = []; with_it = refl; without = refl }
-
-pub still_made : (Q : KeptFile → Type 0) (old new : Places) → OnlyMakesPlaces old new → AllFiles Q old → AllFiles Q new
-still_made Q old new made all n = subst (λ found. IfSome found Q) (sym (made.files n)) (all n)
+-- ---- what is out
 
 module _ {J F S R P : Type 0} {means : disk.Ghosts J} {counts : counted.Ghosts J} where
-  pub is_out : (store : Store) (core : Core J F S R P means counts) (job : FlushJob) → IsBusy store core job
-      → IsOut core job
-  is_out store core job busy = record {
-    flush = busy.flush;
-    others = [];
-    flushes = busy.flush ∷ [];
-    compactions = [];
-    numbers = busy.numbers;
-    out = only_one busy.flush;
-    keeps = busy.jobs;
+  -- all files are of the store of those for which the core can serve
+  pub of_the_store : (store : Store) (core : Core J F S R P means counts) → CanServe store core
+      → AreOfStore store (files_of core).places
+  of_the_store store core can = can.1.of_store
+
+  pub can_still : (store : Store) (old new : Core J F S R P means counts) → KeepsAll store old new → CanServe store old
+      → CanServe store new
+  can_still store old new keeps can = (can.0, keeps can.0 can.1)
+
+  -- a flush that was taken can be ended
+  pub out_of_taken : (store : Store) (old new : Core J F S R P means counts) (job : FlushJob)
+      → ((out : Loans) → KeepsOut store out old → KeepsOut store (with_flush job out) new) → CanServe store old
+      → IsOut new job
+  out_of_taken store old new job lends can = flush_can_end new job store can.0 (lends can.0 can.1)
+
+  -- a flush that is out among others is out no longer behind its end
+  pub flush_back : (name : R → NamedFile) (store : Store) (old new : Core J F S R P means counts) (job : FlushJob)
+      (files : NewFiles) (commit : Commit) → HasEndedFlush old new job files commit → Each (IsIn store) (all_of files)
+      → TakesBack name store (loan.Flush job) old new
+  flush_back name store old new job files commit ended in_store others all is kept = record {
+    loans = subst (λ l. KeepsLoans new others.flushes others.compactions l) is.lent
+        (subst (λ l. KeepsLoans new others.flushes l all.lent) is.compactions
+        (ended.loans (flush_of job) others.flushes all.flushes all.compactions all.lent (has_numbers job) is.flushes
+        kept.loans));
+    of_store = ended.of_store store kept.of_store in_store;
   }
 
-  pub is_busy : (store : Store) (old new : Core J F S R P means counts) (job : FlushJob) → TakesMemory old new
-      → IsFlushTaken old new job → IsReady store old → IsBusy store new job
-  is_busy store old new job takes taken ready = record {
-    flush = flush_of job;
-    numbers = record { sequence = refl; unsequence = refl };
-    jobs = taken.jobs (flush_of job) [] [] (record { sequence = refl; unsequence = refl }) ready.jobs;
-    unread = still_made (λ file. file.rights ≡ 0) (files_of old).places (files_of new).places takes.places ready.unread;
-    of_store = ready.of_store ∙ sym takes.lists.store;
+  -- so too a compaction, and a pin
+  pub job_back : (name : R → NamedFile) (store : Store) (old new : Core J F S R P means counts) (job : Job F S R P)
+      (file : Option NewFile) → HasEndedJob old new job file → IsHandedOut job
+      → IfSome file (λ one. one.token.name.store ≡ store) → TakesBack name store (loan.Compaction job) old new
+  job_back name store old new job file ended handed in_store others all is kept =
+      job_leaves name old new job file ended store others all handed in_store is kept
+
+  pub pin_back : (name : R → NamedFile) (store : Store) (old new : Core J F S R P means counts) (pin : Pin F S R P)
+      → IsUnpinned old new pin → TakesBack name store (loan.Pin pin) old new
+  pin_back name store old new pin unpinned others all is kept = record {
+    loans = subst (λ l. KeepsLoans new others.flushes l others.lent) is.compactions
+        (subst (λ l. KeepsLoans new l all.compactions others.lent) is.flushes
+        (unpinned.loans all.flushes all.compactions (pin_rights name pin) others.lent all.lent (on_columns name pin) is.lent
+        kept.loans));
+    of_store = unpinned.rest.store store kept.of_store;
   }
 
-  pub still_ready : (store : Store) (old new : Core J F S R P means counts) → TakesMemory old new → IsNotTaken old new
-      → IsReady store old → IsReady store new
-  still_ready store old new takes not ready = record {
-    jobs = not.jobs [] [] ready.jobs;
-    unread = still_made (λ file. file.rights ≡ 0) (files_of old).places (files_of new).places takes.places ready.unread;
-    of_store = ready.of_store ∙ sym takes.lists.store;
-  }
-
-  pub ready_again : (store given : Store) (old new : Core J F S R P means counts) (job : FlushJob) (files : NewFiles)
-      (commit : Commit) → AreFilesOfJob given job files → HasEndedFlush old new job files commit
-      → IsBusy store old job → IsReady store new
-  ready_again store given old new job files commit of_job ends busy = record {
-    jobs = ends.jobs busy.flush [] (busy.flush ∷ []) [] busy.numbers (only_one busy.flush) busy.jobs;
-    unread = of_each (drawn_for job) files (files_of old) (files_of new) ends.come (λ n kept. kept.rights ≡ 0)
-        (λ n never. busy.unread n) (all_unread given job files of_job);
-    of_store = busy.of_store ∙ sym ends.store;
-  }
-
-  pub ready_swept : (store : Store) (old new : Core J F S R P means counts) (outcome : Result ℕ Failed)
-      → IsSwept old new outcome → IsReady store old → IsReady store new
-  ready_swept store old new (Ok count) swept ready = record {
-    jobs = swept.all.jobs [] [] ready.jobs;
-    unread = still_all (λ file. file.rights ≡ 0) _ (files_of old).places (files_of new).places swept.all.left.places
-        ready.unread;
-    of_store = ready.of_store ∙ sym swept.all.left.store;
-  }
-  ready_swept store old new (Err failed) swept ready = record {
-    jobs = swept.stopped.1.jobs [] [] ready.jobs;
-    unread = still_all (λ file. file.rights ≡ 0) _ (files_of old).places (files_of new).places
-        swept.stopped.1.left.places ready.unread;
-    of_store = ready.of_store ∙ sym swept.stopped.1.left.store;
-  }
-
-  pub kept_ready : (old new : Core J F S R P means counts) → KeepsFiles old new → (store : Store) → IsReady store old
-      → IsReady store new
-  kept_ready old new keeps store ready = record {
-    jobs = keeps.jobs [] [] ready.jobs;
-    unread = subst (λ (files : KeptFiles). AreUnread files.places) (sym keeps.files) ready.unread;
-    of_store = ready.of_store ∙ sym (ap (λ (files : KeptFiles). files.store) keeps.files);
-  }
+  -- a loan that comes and then goes leaves what was out
+  pub loan_over : (name : R → NamedFile) (store : Store) (old mid new : Core J F S R P means counts)
+      (one : Loan F S R P) → Lends name store one old mid → TakesBack name store one mid new → KeepsAll store old new
+  loan_over name store old mid new one lends back out kept =
+      back out (with_loan name one out) (first_loan name one out) (lends out kept)
 
   -- numbers that were drawn before a call that draws none, or after others
   pub drawn_first : (old mid new : Core J F S R P means counts) → next_of new ≡ next_of mid → (n : ℕ)

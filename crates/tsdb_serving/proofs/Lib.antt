@@ -1,18 +1,23 @@
 pub mod Answered
 pub mod Causes
+pub mod Counts
 pub mod Differing
 pub mod First
 pub mod Flushes
 pub mod Held
 pub mod Jobs
+pub mod Lent
 pub mod Parts
 pub mod Possible
+pub mod Read
 pub mod Shown
 pub mod Slots
 pub mod Steps
 pub mod Swept
 pub mod Full
 pub use Rattle.tsdb_core.proofs.Jobs as CoreJobs
+pub use Rattle.tsdb_core.proofs.LoansOut
+pub use Rattle.tsdb_core.proofs.Out
 pub use Rattle.tsdb_core.proofs.Beginnings
 pub use Rattle.tsdb_core.proofs.Finished
 pub use Rattle.tsdb_core.proofs.Given

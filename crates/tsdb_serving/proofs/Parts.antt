@@ -22,7 +22,7 @@ use Rattle.tsdb_state.proofs.ImageLemmas.After.{listed_after}
 use Rattle.tsdb_state.specs.StoredEngine.{LeadsTo, built_files}
 use Rattle.tsdb_core.specs.FlushJob.{FlushJob}
 use Rattle.tsdb_base.proofs.Lists.{each_among, each_from_among, each_left, each_right}
-use Rattle.tsdb_base.specs.Lists.{Among}
+use Rattle.tsdb_base.specs.Lists.{Among, IsWithOne}
 use Rattle.tsdb_log.specs.declared.record.LogRecord.{LogRecord}
 use Rattle.tsdb_log.specs.declared.record.LogRecord.TheVariants.{Freeze}
 use Rattle.tsdb_memory.specs.Commands.{NeedsNothing}
@@ -36,9 +36,13 @@ use Rattle.tsdb_outside.specs.declared.faults.Counted as counted
 use Rattle.tsdb_state.specs.Stores.{IsStateOf}
 use Rattle.tsdb_serving.proofs.Differing.{Differ, stored_differ}
 use Rattle.tsdb_serving.proofs.Held.{either_wider, held_more, held_with}
+use Rattle.tsdb_serving.proofs.Lent.{HasPartner, flush_partner, without_flush}
 use Rattle.tsdb_serving.proofs.Steps.{quiet_left, quiet}
-use Rattle.tsdb_serving.specs.Flushing.{IsServingJob}
-use Rattle.tsdb_serving.specs.Serving.{IsServedBy, IsServing, LeavesEither, MayDoubt, disk_under, slot_under}
+use Rattle.tsdb_serving.specs.Loans.{AreLent, IsFlushLent, flushes_in}
+use Rattle.tsdb_serving.specs.Serving.{IsServedBy, IsServing, LeavesEither, MayDoubt, ServesWith, disk_under}
+use Rattle.tsdb_serving.specs.Serving.{slot_under}
+use Rattle.tsdb_serving.specs.declared.loan.Loan.{Loan}
+use Rattle.tsdb_serving.specs.declared.loan.Loan.TheVariants as loan
 use Rattle.tsdb_state.proofs.Told.{value_same}
 use Rattle.tsdb_state.specs.Order.{DoubtInOrder, all_files as state_files_of}
 use Rattle.tsdb_state.specs.Records.{after, flush_oldest, names, numbers_of}
@@ -109,8 +113,9 @@ module _ {J F S R P : Type 0} {means : disk.Ghosts J} {counts : counted.Ghosts J
   -- ---- a freeze
 
   module _ (Q : ℕ → Type 0) (old new : Core J F S R P means counts) (result : Answer)
-      (step : IsCoreCommand old new Freeze NeedsNothing result) (can : CanFreezeNow old) (files : List StoredFile)
-      (at : plain.State) (next : Option plain.State) (serving : IsServing old files at next) where
+      (step : IsCoreCommand old new Freeze NeedsNothing result) (can : CanFreezeNow old) (loans : List (Loan F S R P))
+      (files : List StoredFile) (at : plain.State) (next : Option plain.State)
+      (serving : IsServing loans old files at next) where
     frozen_stands : IsStateOf serving.outside.told (after Freeze serving.state.store) at
     frozen_stands = record {
       world = froze_stands serving.outside.told serving.state.store at.world serving.seen.sound.stored.order.store
@@ -118,8 +123,8 @@ module _ {J F S R P : Type 0} {means : disk.Ghosts J} {counts : counted.Ghosts J
       stamp = serving.stands.stamp;
     }
 
-    froze_by : (doubt : Option plain.State) → MayDoubt next at at doubt → IsServing new (files ++ []) at doubt
-        → IsServedBy Q old new files at next at at
+    froze_by : (doubt : Option plain.State) → MayDoubt next at at doubt → IsServing loans new (files ++ []) at doubt
+        → IsServedBy Q loans old new files at next at at
     froze_by doubt may is = record {
       put = [];
       numbers = tt;
@@ -135,22 +140,24 @@ module _ {J F S R P : Type 0} {means : disk.Ghosts J} {counts : counted.Ghosts J
           frozen_stands);
     }
 
-    as_it_was : IsSeen new serving.outside serving.state → IsServing new (files ++ []) at next
+    as_it_was : IsSeen new serving.outside serving.state → IsServing loans new (files ++ []) at next
     as_it_was seen = record {
       outside = serving.outside;
       state = serving.state;
       seen = seen;
+      lent = serving.lent;
       stands = serving.stands;
       doubt = serving.doubt;
       held = held_more serving.outside.kept files [] serving.held;
     }
 
     froze_in : (r : Answer) → IsSeenAfter new serving.outside serving.state Freeze r
-        → IsServedBy Q old new files at next at at
+        → IsServedBy Q loans old new files at next at at
     froze_in answer.Done seen = froze_by None (inl refl) (record {
       outside = with_record Freeze serving.outside;
       state = wrote Freeze serving.state;
       seen = seen;
+      lent = serving.lent;
       stands = frozen_stands;
       doubt = tt;
       held = held_more serving.outside.kept files [] serving.held;
@@ -162,6 +169,7 @@ module _ {J F S R P : Type 0} {means : disk.Ghosts J} {counts : counted.Ghosts J
       outside = serving.outside;
       state = settled serving.state;
       seen = seen;
+      lent = serving.lent;
       stands = serving.stands;
       doubt = tt;
       held = held_more serving.outside.kept files [] serving.held;
@@ -171,6 +179,7 @@ module _ {J F S R P : Type 0} {means : disk.Ghosts J} {counts : counted.Ghosts J
       outside = serving.outside;
       state = failed Freeze serving.state;
       seen = seen;
+      lent = serving.lent;
       stands = serving.stands;
       doubt = frozen_stands;
       held = held_more serving.outside.kept files [] serving.held;
@@ -178,70 +187,72 @@ module _ {J F S R P : Type 0} {means : disk.Ghosts J} {counts : counted.Ghosts J
     froze_in answer.Memory seen = froze_by next (inr (inl refl)) (as_it_was seen)
     froze_in (answer.Full counter) seen = froze_by next (inr (inl refl)) (as_it_was seen)
 
-    pub froze : IsServedBy Q old new files at next at at
+    pub froze : IsServedBy Q loans old new files at next at at
     froze = froze_in result (step.step serving.outside serving.state serving.seen tt)
 
   -- ---- nothing
 
-  pub same_seen : (old new : Core J F S R P means counts) (files : List StoredFile) (at : plain.State)
-      (next : Option plain.State) → ((outside : Outside) (engine : EngineState) → IsSeen old outside engine
-      → IsSeen new outside engine) → IsServing old files at next → IsServing new files at next
-  same_seen old new files at next step serving = record {
+  pub same_seen : (loans : List (Loan F S R P)) (old new : Core J F S R P means counts) (files : List StoredFile)
+      (at : plain.State) (next : Option plain.State) → ((outside : Outside) (engine : EngineState)
+      → IsSeen old outside engine → IsSeen new outside engine) → IsServing loans old files at next
+      → IsServing loans new files at next
+  same_seen loans old new files at next step serving = record {
     outside = serving.outside;
     state = serving.state;
     seen = step serving.outside serving.state serving.seen;
+    lent = serving.lent;
     stands = serving.stands;
     doubt = serving.doubt;
     held = serving.held;
   }
 
-  pub more_files : (core : Core J F S R P means counts) (files put : List StoredFile) (at : plain.State)
-      (next : Option plain.State) → IsServing core files at next → IsServing core (files ++ put) at next
-  more_files core files put at next serving = record {
+  pub more_files : (loans : List (Loan F S R P)) (core : Core J F S R P means counts) (files put : List StoredFile)
+      (at : plain.State) (next : Option plain.State) → IsServing loans core files at next
+      → IsServing loans core (files ++ put) at next
+  more_files loans core files put at next serving = record {
     outside = serving.outside;
     state = serving.state;
     seen = serving.seen;
+    lent = serving.lent;
     stands = serving.stands;
     doubt = serving.doubt;
     held = held_more serving.outside.kept files put serving.held;
   }
 
   -- a step that changes neither log nor state
-  pub unchanged : (Q : ℕ → Type 0) (old new : Core J F S R P means counts) (files : List StoredFile) (at : plain.State)
-      (next : Option plain.State) (after : plain.State) → log_of (logged_of new) ≡ log_of (logged_of old)
+  pub unchanged : (Q : ℕ → Type 0) (loans : List (Loan F S R P)) (old new : Core J F S R P means counts)
+      (files : List StoredFile) (at : plain.State) (next : Option plain.State) (after : plain.State)
+      → log_of (logged_of new) ≡ log_of (logged_of old)
       → ((outside : Outside) (engine : EngineState) → IsSeen old outside engine → IsSeen new outside engine)
-      → IsServing old files at next → IsServedBy Q old new files at next after at
-  unchanged Q old new files at next after same step serving = quiet laws Q old new files [] at next after same tt tt
-      serving
-      (more_files new files [] at next (same_seen old new files at next step serving))
+      → IsServing loans old files at next → IsServedBy Q loans old new files at next after at
+  unchanged Q loans old new files at next after same step serving = quiet laws Q loans loans old new files [] at next after
+      same tt tt serving (more_files loans new files [] at next (same_seen loans old new files at next step serving))
 
-  pub unchanged_left : (Q : ℕ → Type 0) (old new : Core J F S R P means counts) (files : List StoredFile)
-      (at : plain.State) (next : Option plain.State) (after : plain.State)
+  pub unchanged_left : (Q : ℕ → Type 0) (loans : List (Loan F S R P)) (old new : Core J F S R P means counts)
+      (files : List StoredFile) (at : plain.State) (next : Option plain.State) (after : plain.State)
       (same : log_of (logged_of new) ≡ log_of (logged_of old))
       (step : (outside : Outside) (engine : EngineState) → IsSeen old outside engine → IsSeen new outside engine)
-      (serving : IsServing old files at next)
-      → (unchanged Q old new files at next after same step serving).doubt ≡ next
+      (serving : IsServing loans old files at next)
+      → (unchanged Q loans old new files at next after same step serving).doubt ≡ next
   unfolding unchanged
-  unchanged_left Q old new files at next after same step serving = quiet_left laws Q old new files [] at next after same
-      tt tt serving (more_files new files [] at next (same_seen old new files at next step serving))
+  unchanged_left Q loans old new files at next after same step serving = quiet_left laws Q loans loans old new files [] at
+      next after same tt tt serving
+      (more_files loans new files [] at next (same_seen loans old new files at next step serving))
 
   -- ---- taking a job
 
-  pub taken : (old new : Core J F S R P means counts) (job : FlushJob) (files : List StoredFile) (at : plain.State)
-      (next : Option plain.State) → IsFlushTaken old new job → IsServing old files at next
-      → IsServingJob new job files at next
-  taken old new job files at next takes serving =
+  pub taken : (old new : Core J F S R P means counts) (job : FlushJob) → IsFlushTaken old new job
+      → ServesWith (loan.Flush job) old new
+  taken old new job takes loans files at next serving =
       let step = takes.step serving.outside serving.state serving.seen in
       record {
         outside = serving.outside;
         state = took_flush step.0 serving.state;
-        flush = step.0;
-        others = serving.state.flushes;
         seen = step.3;
-        out = record {
-          is_job = takes.is_job;
-          of = step.1;
-          out = record { before = []; behind = serving.state.flushes; with_it = refl; without = refl };
+        lent = record {
+          flushes = (record { is_job = takes.is_job; of = step.1 }, serving.lent.flushes);
+          compactions = serving.lent.compactions;
+          pins = serving.lent.pins;
         };
         stands = serving.stands;
         doubt = serving.doubt;
@@ -253,74 +264,78 @@ module _ {J F S R P : Type 0} {means : disk.Ghosts J} {counts : counted.Ghosts J
   module _ (Q : ℕ → Type 0) (old new : Core J F S R P means counts) (job : FlushJob) (built : NewFiles)
       (store : Store) (of_job : AreFilesOfJob store job built) (tells : TellBytes built)
       (numbers : Each (λ (file : StoredFile). Q file.number) (flat_map stored_of (all_of built)))
-      (files : List StoredFile) (at : plain.State) (next : Option plain.State)
-      (is : IsServingJob old job files at next) where
+      (others loans : List (Loan F S R P)) (files : List StoredFile) (at : plain.State) (next : Option plain.State)
+      (one : IsWithOne (loan.Flush job) others loans) (is : IsServing loans old files at next) where
+    -- the job is a flush of the state
+    abbrev found : HasPartner IsFlushLent job (flushes_in others) is.state.flushes
+    found = flush_partner others loans is.state.flushes is.state.compactions is.state.pins is.lent job one
+
+    abbrev flush : state.FlushState
+    flush = found.partner
+
+    out : IsOutAs job flush found.rest is.state
+    out = record { is_job = found.fits.is_job; of = found.fits.of; out = found.one }
+
+    left : AreLent others found.rest is.state.compactions is.state.pins
+    left = without_flush others loans is.state.flushes is.state.compactions is.state.pins is.lent job one
+
     abbrev put : List StoredFile
     put = flat_map stored_of (all_of built)
 
     -- its numbers are among those of all jobs that are out, which differ
     differ : Differ put
-    differ = stored_differ (all_of built) (numbers_differ store job built is.flush of_job is.out.of.sequence
-        is.out.of.unsequence (one_at_most job is.outside is.state is.flush is.others is.seen.sound.stored is.out))
+    differ = stored_differ (all_of built) (numbers_differ store job built flush of_job out.of.sequence
+        out.of.unsequence (one_at_most job is.outside is.state flush found.rest is.seen.sound.stored out))
 
     abbrev later : Outside
-    later = with_files is.flush built is.outside
+    later = with_files flush built is.outside
 
     stands_later : IsStateOf later.told is.state.store at
     stands_later = record {
-      world = (worlds_with job is.outside is.state is.flush is.others is.seen.sound.stored is.out store built of_job
+      world = (worlds_with job is.outside is.state flush found.rest is.seen.sound.stored out store built of_job
           at.world).0 is.stands.world;
       stamp = is.stands.stamp;
     }
 
     leads_later : LeadsTo later.told is.state.store is.state.doubt next
-    leads_later = leads_with job is.outside is.state is.flush is.others is.seen.sound.stored is.out store built of_job
+    leads_later = leads_with job is.outside is.state flush found.rest is.seen.sound.stored out store built of_job
         next is.doubt
 
-    before : IsServing old files at next
-    before = record {
-      outside = is.outside;
-      state = is.state;
-      seen = is.seen;
-      stands = is.stands;
-      doubt = is.doubt;
-      held = is.held;
-    }
-
-    -- a state of the same store
+    -- a state of the same store, without the flush
     shows : (other : EngineState) (doubt : Option plain.State) → other.store ≡ is.state.store
         → LeadsTo later.told is.state.store other.doubt doubt → IsSeen new later other
-        → IsServing new (files ++ put) at doubt
-    shows other doubt same leads seen = record {
+        → AreLent others other.flushes other.compactions other.pins → IsServing others new (files ++ put) at doubt
+    shows other doubt same leads seen lent = record {
       outside = later;
       state = other;
       seen = seen;
+      lent = lent;
       stands = subst (λ s. IsStateOf later.told s at) (sym same) stands_later;
       doubt = subst (λ s. LeadsTo later.told s other.doubt doubt) (sym same) leads;
       held = held_with built is.outside.kept files is.held;
     }
 
-    pub abandoned : IsAbandoned old new job built → IsServedBy Q old new files at next at at
-    abandoned gives_up = quiet laws Q old new files put at next at (ap (λ log. log_of log) gives_up.logged) numbers
-        differ before
-        (shows (ended_flush is.flush is.others (state_files built) is.state) next refl leads_later
-        (gives_up.step is.outside is.state is.flush is.others is.seen is.out tells))
+    pub abandoned : IsAbandoned old new job built → IsServedBy Q others old new files at next at at
+    abandoned gives_up = quiet laws Q loans others old new files put at next at (ap (λ log. log_of log) gives_up.logged)
+        numbers differ is
+        (shows (ended_flush flush found.rest (state_files built) is.state) next refl leads_later
+        (gives_up.step is.outside is.state flush found.rest is.seen out tells) left)
 
     module _ (commit : Commit) (commits : IsCommit old new job built commit) where
-      record_stands : IsOldestPair old job
-          → IsStateOf later.told (after (flush_record is.flush) is.state.store) at
+      record_stands : IsOldestPair job (memory_of (logged_of old))
+          → IsStateOf later.told (after (flush_record flush) is.state.store) at
       record_stands oldest =
-          let keeps = commits.keeps is.outside is.state is.flush is.others is.seen is.out tells oldest in record {
+          let keeps = commits.keeps is.outside is.state flush found.rest is.seen out tells oldest in record {
             world = record {
               types = λ path. stands_later.world.types path ∙ sym (keeps.types path);
               values = λ place. stands_later.world.values place ∙ sym (keeps.values place);
             };
-            stamp = flushed_stamp (number_or_none is.flush.sequence).0 (number_or_none is.flush.unsequence).0
+            stamp = flushed_stamp (number_or_none flush.sequence).0 (number_or_none flush.unsequence).0
                 is.state.store.frozen is.state.store ∙ is.stands.stamp;
           }
 
-      by_record : IsOldestPair old job → (doubt : Option plain.State) → MayDoubt next at at doubt
-          → IsServing new (files ++ put) at doubt → IsServedBy Q old new files at next at at
+      by_record : IsOldestPair job (memory_of (logged_of old)) → (doubt : Option plain.State) → MayDoubt next at at doubt
+          → IsServing others new (files ++ put) at doubt → IsServedBy Q others old new files at next at at
       by_record oldest doubt may shown = record {
         put = put;
         numbers = numbers;
@@ -332,32 +347,33 @@ module _ {J F S R P : Type 0} {means : disk.Ghosts J} {counts : counted.Ghosts J
             (LeavesEither (files ++ put) (slot_under old) at next at)
             (λ image leaves. either_wider later.kept (files ++ put) (slot_under old) at next at image
             (held_with built is.outside.kept files is.held) leaves)
-            (commits.moments is.outside is.state is.flush is.others is.seen is.out tells at at next stands_later
+            (commits.moments is.outside is.state flush found.rest is.seen out tells at at next stands_later
             leads_later (record_stands oldest));
       }
 
-      committed_as : (c : Commit) → c ≡ commit → IsCommitAnswer old job c
-          → IsSeenAfterCommit new later is.state is.flush is.others c
-          → IsServedBy Q old new files at next at at
+      committed_as : (c : Commit) → c ≡ commit → IsCommitAnswer job (memory_of (logged_of old)) c
+          → IsSeenAfterCommit new later is.state flush found.rest c
+          → IsServedBy Q others old new files at next at at
       committed_as Done same oldest seen = by_record oldest None (inl refl) (record {
-        outside = with_record (flush_record is.flush) later;
-        state = committed_flush is.flush is.others is.state;
+        outside = with_record (flush_record flush) later;
+        state = committed_flush flush found.rest is.state;
         seen = seen;
+        lent = left;
         stands = record_stands oldest;
         doubt = tt;
         held = held_with built is.outside.kept files is.held;
       })
-      committed_as Gone same answered seen = quiet laws Q old new files put at next at
-          (ap (λ log. log_of log) (commits.gone (sym same))) numbers differ before
-          (shows (ended_flush is.flush is.others (built_files is.flush) is.state) next refl leads_later seen)
+      committed_as Gone same answered seen = quiet laws Q loans others old new files put at next at
+          (ap (λ log. log_of log) (commits.gone (sym same))) numbers differ is
+          (shows (ended_flush flush found.rest (built_files flush) is.state) next refl leads_later seen left)
       committed_as Device same oldest (inl seen) = by_record oldest None (inl refl)
-          (shows (settled (ended_flush is.flush is.others (built_files is.flush) is.state)) None refl tt seen)
+          (shows (settled (ended_flush flush found.rest (built_files flush) is.state)) None refl tt seen left)
       committed_as Device same oldest (inr (inl seen)) = by_record oldest next (inr (inl refl))
-          (shows (ended_flush is.flush is.others (built_files is.flush) is.state) next refl leads_later seen)
+          (shows (ended_flush flush found.rest (built_files flush) is.state) next refl leads_later seen left)
       committed_as Device same oldest (inr (inr seen)) = by_record oldest (Some at) (inr (inr (inl refl)))
-          (shows (failed (flush_record is.flush) (ended_flush is.flush is.others (built_files is.flush) is.state))
-          (Some at) refl (record_stands oldest) seen)
+          (shows (failed (flush_record flush) (ended_flush flush found.rest (built_files flush) is.state))
+          (Some at) refl (record_stands oldest) seen left)
 
-      pub committed : IsServedBy Q old new files at next at at
+      pub committed : IsServedBy Q others old new files at next at at
       committed = committed_as commit refl commits.answer
-          (commits.step is.outside is.state is.flush is.others is.seen is.out tells)
+          (commits.step is.outside is.state flush found.rest is.seen out tells)

@@ -20,17 +20,17 @@ module _ {J F S R P : Type 0} {means : disk.Ghosts J} {counts : counted.Ghosts J
     (laws : (journal : J) → IsLawful (means.state journal)) where
   pub shown : (core : Core J F S R P means counts) (result : Result Listing Memory) → IfOk result (TellsStore core)
       → IfOk result (λ listing. ServesCommand core core ShowFiles (Files listing))
-  shown core (Ok listing) tells = λ files at next serving. record {
+  shown core (Ok listing) tells = λ loans files at next serving. record {
     allowed = (
       refl,
       possible serving.outside.told serving.outside.known serving.seen.sound.stored.named serving.state
           serving.seen.sound.stored.order at serving.stands.world serving.stands.stamp listing
           (tells serving.outside serving.state serving.seen),
     );
-    served = unchanged laws (IsDrawn core core) core core files at next (state_after at ShowFiles (Plain Done)) refl
+    served = unchanged laws (IsDrawn core core) loans core core files at next (state_after at ShowFiles (Plain Done)) refl
         (λ outside engine seen. seen) serving;
     settled = λ change is. absurd cc;
-    doubtful = inr (inl (unchanged_left laws (IsDrawn core core) core core files at next
+    doubtful = inr (inl (unchanged_left laws (IsDrawn core core) loans core core files at next
         (state_after at ShowFiles (Plain Done)) refl (λ outside engine seen. seen) serving));
     unwritten = λ change. absurd cc;
   }

@@ -22,6 +22,7 @@ use Rattle.tsdb_serving.proofs.Differing.{Differ, differ_on}
 use Rattle.tsdb_serving.proofs.Held.{as_before, doubt_on, held_more, same_state, wider}
 use Rattle.tsdb_serving.specs.Serving.{AreHeldWith, IsServedBy, IsServing, LeavesEither, disk_under}
 use Rattle.tsdb_serving.specs.Serving.{slot_under}
+use Rattle.tsdb_serving.specs.declared.loan.Loan.{Loan}
 
 -- time passes over nothing
 pub idle : (disk : DiskState) (P : Image → Type 0) → IsLawful disk → ((image : Image) → disk.may_leave image → P image)
@@ -34,22 +35,22 @@ idle disk P laws each = record {
 module _ {J F S R P : Type 0} {means : disk.Ghosts J} {counts : counted.Ghosts J}
     (laws : (journal : J) → IsLawful (means.state journal)) where
   -- what a stop leaves of a core that is in the state
-  pub image_left : (core : Core J F S R P means counts) (files : List StoredFile) (at : plain.State)
-      (next : Option plain.State) (image : Image) → IsServing core files at next → (disk_under core).may_leave image
-      → LeavesOneOf files (slot_under core) at next image
-  image_left core files at next image serving left =
+  pub image_left : (loans : List (Loan F S R P)) (core : Core J F S R P means counts) (files : List StoredFile)
+      (at : plain.State) (next : Option plain.State) (image : Image) → IsServing loans core files at next
+      → (disk_under core).may_leave image → LeavesOneOf files (slot_under core) at next image
+  image_left loans core files at next image serving left =
       wider serving.outside.kept files (slot_under core) at next image serving.held
       (image_stands serving.outside.items serving.outside.kept serving.outside.told serving.outside.known serving.state
       serving.seen.sound.stored at next serving.stands serving.doubt (slot_under core) (disk_under core)
       core.logged.frames.gate image serving.seen.sound.log.log.stands left)
 
   -- a step that leaves the log as it was, and the state
-  pub quiet : (Q : ℕ → Type 0) (old new : Core J F S R P means counts) (files put : List StoredFile) (at : plain.State)
-      (next : Option plain.State) (after : plain.State) → log_of (logged_of new) ≡ log_of (logged_of old)
-      → Each (λ (file : StoredFile). Q file.number) put → Differ put
-      → IsServing old files at next → IsServing new (files ++ put) at next
-      → IsServedBy Q old new files at next after at
-  quiet Q old new files put at next after same numbers differ before serving = record {
+  pub quiet : (Q : ℕ → Type 0) (loans left : List (Loan F S R P)) (old new : Core J F S R P means counts)
+      (files put : List StoredFile) (at : plain.State) (next : Option plain.State) (after : plain.State)
+      → log_of (logged_of new) ≡ log_of (logged_of old) → Each (λ (file : StoredFile). Q file.number) put → Differ put
+      → IsServing loans old files at next → IsServing left new (files ++ put) at next
+      → IsServedBy Q left old new files at next after at
+  quiet Q loans left old new files put at next after same numbers differ before serving = record {
     put = put;
     numbers = numbers;
     differ = differ;
@@ -60,25 +61,26 @@ module _ {J F S R P : Type 0} {means : disk.Ghosts J} {counts : counted.Ghosts J
         (LeavesEither (files ++ put) (slot_under old) at next after)) (sym same)
         (idle (disk_under old) (LeavesEither (files ++ put) (slot_under old) at next after)
         (laws old.logged.frames.journal)
-        (λ image left. inl (wider files (files ++ put) (slot_under old) at next image
+        (λ image left_of. inl (wider files (files ++ put) (slot_under old) at next image
         (held_more files files put (λ there holds. holds))
-        (image_left old files at next image before left))));
+        (image_left loans old files at next image before left_of))));
   }
 
-  pub quiet_left : (Q : ℕ → Type 0) (old new : Core J F S R P means counts) (files put : List StoredFile)
-      (at : plain.State) (next : Option plain.State) (after : plain.State)
+  pub quiet_left : (Q : ℕ → Type 0) (loans left : List (Loan F S R P)) (old new : Core J F S R P means counts)
+      (files put : List StoredFile) (at : plain.State) (next : Option plain.State) (after : plain.State)
       (same : log_of (logged_of new) ≡ log_of (logged_of old)) (numbers : Each (λ (file : StoredFile). Q file.number) put)
-      (differ : Differ put) (before : IsServing old files at next) (serving : IsServing new (files ++ put) at next)
-      → (quiet Q old new files put at next after same numbers differ before serving).doubt ≡ next
+      (differ : Differ put) (before : IsServing loans old files at next)
+      (serving : IsServing left new (files ++ put) at next)
+      → (quiet Q loans left old new files put at next after same numbers differ before serving).doubt ≡ next
   unfolding quiet
-  quiet_left Q old new files put at next after same numbers differ before serving = refl
+  quiet_left Q loans left old new files put at next after same numbers differ before serving = refl
 
   -- a step that keeps the state, and then a command, which puts files of other numbers
   module _ (A B Q : ℕ → Type 0) (from_first : (n : ℕ) → A n → Q n) (from_second : (n : ℕ) → B n → Q n)
-      (apart : (a b : ℕ) → A a → B b → a ≢ b) (old mid new : Core J F S R P means counts) (files : List StoredFile) (at : plain.State)
-      (next : Option plain.State) (after now : plain.State) (slot : slot_under mid ≡ slot_under old)
-      (first : IsServedBy A old mid files at next at at)
-      (second : IsServedBy B mid new (files ++ first.put) at first.doubt after now) where
+      (apart : (a b : ℕ) → A a → B b → a ≢ b) (loans left : List (Loan F S R P)) (old mid new : Core J F S R P means counts)
+      (files : List StoredFile) (at : plain.State) (next : Option plain.State) (after now : plain.State)
+      (slot : slot_under mid ≡ slot_under old) (first : IsServedBy A loans old mid files at next at at)
+      (second : IsServedBy B left mid new (files ++ first.put) at first.doubt after now) where
     abbrev both : List StoredFile
     both = first.put ++ second.put
 
@@ -118,7 +120,7 @@ module _ {J F S R P : Type 0} {means : disk.Ghosts J} {counts : counted.Ghosts J
     ends image leaves =
         last image (at_old ((files ++ first.put) ++ second.put) (slot_under mid) image slot joined leaves)
 
-    pub then : IsServedBy Q old new files at next after now
+    pub then : IsServedBy Q left old new files at next after now
     then = record {
       put = both;
       numbers = each_append (λ (file : StoredFile). Q file.number) first.put second.put
@@ -129,7 +131,7 @@ module _ {J F S R P : Type 0} {means : disk.Ghosts J} {counts : counted.Ghosts J
       differ = differ_on A B apart first.put second.put first.numbers second.numbers first.differ second.differ;
       doubt = second.doubt;
       may = doubt_on next first.doubt second.doubt at after first.may second.may;
-      serving = subst (λ list. IsServing new list now second.doubt) joined second.serving;
+      serving = subst (λ list. IsServing left new list now second.doubt) joined second.serving;
       moments = leaves_on (disk_under old) (disk_under mid) (disk_under new) (laws new.logged.frames.journal) AtAll
           (weaker (disk_under old) (disk_under mid)
           (LeavesEither (files ++ first.put) (slot_under old) at next at) AtAll begins first.moments)
@@ -147,22 +149,22 @@ module _ {J F S R P : Type 0} {means : disk.Ghosts J} {counts : counted.Ghosts J
     then_left = refl
 
   -- the same of a state that is written otherwise
-  pub moved : (Q : ℕ → Type 0) (old new : Core J F S R P means counts) (files : List StoredFile) (at : plain.State)
-      (next : Option plain.State) (after now later : plain.State) → now ≡ later
-      → IsServedBy Q old new files at next after now → IsServedBy Q old new files at next after later
-  moved Q old new files at next after now later is served = record {
+  pub moved : (Q : ℕ → Type 0) (left : List (Loan F S R P)) (old new : Core J F S R P means counts)
+      (files : List StoredFile) (at : plain.State) (next : Option plain.State) (after now later : plain.State)
+      → now ≡ later → IsServedBy Q left old new files at next after now → IsServedBy Q left old new files at next after later
+  moved Q left old new files at next after now later is served = record {
     put = served.put;
     numbers = served.numbers;
     differ = served.differ;
     doubt = served.doubt;
     may = served.may;
-    serving = subst (λ state. IsServing new (files ++ served.put) state served.doubt) is served.serving;
+    serving = subst (λ state. IsServing left new (files ++ served.put) state served.doubt) is served.serving;
     moments = served.moments;
   }
 
-  pub moved_left : (Q : ℕ → Type 0) (old new : Core J F S R P means counts) (files : List StoredFile) (at : plain.State)
-      (next : Option plain.State) (after now later : plain.State) (is : now ≡ later)
-      (served : IsServedBy Q old new files at next after now)
-      → (moved Q old new files at next after now later is served).doubt ≡ served.doubt
+  pub moved_left : (Q : ℕ → Type 0) (left : List (Loan F S R P)) (old new : Core J F S R P means counts)
+      (files : List StoredFile) (at : plain.State) (next : Option plain.State) (after now later : plain.State)
+      (is : now ≡ later) (served : IsServedBy Q left old new files at next after now)
+      → (moved Q left old new files at next after now later is served).doubt ≡ served.doubt
   unfolding moved
-  moved_left Q old new files at next after now later is served = refl
+  moved_left Q left old new files at next after now later is served = refl

@@ -1,8 +1,13 @@
 pub mod Faults
+pub mod Loans
+pub mod Rows
 pub mod Flushing
 pub mod Serving
 pub mod Sweeping
 pub use Rattle.tsdb_core.specs.Core
+pub use Rattle.tsdb_core.specs.Out
+pub use Rattle.tsdb_core.specs.Loans as CoreLoans
+pub use Rattle.tsdb_core.specs.Places
 pub use Rattle.tsdb_core.specs.Pins
 pub use Rattle.tsdb_core.specs.declared.engine.Core as CoreType
 pub use Rattle.tsdb_core.specs.Beginnings

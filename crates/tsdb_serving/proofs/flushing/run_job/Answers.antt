@@ -1,41 +1,94 @@
-use Rattle.std.proofs.Common.{inl, subst, sym}
-use Rattle.tsdb_core.specs.Core.{next_of}
-use Rattle.tsdb_serving.proofs.Causes.{commit_cause, file_cause}
+use Rattle.std.proofs.Common.{inl, inr, subst, sym}
+use Rattle.tsdb_core.specs.Core.{files_of, next_of}
+use Rattle.tsdb_core.specs.Places.{AreOfStore}
+use Rattle.tsdb_serving.proofs.Causes.{commit_cause, file_cause, result_cause, rose_on}
+use Rattle.tsdb_serving.proofs.Flushes.{result_flushed}
+use Rattle.tsdb_serving.proofs.Swept.{read_since}
 use Rattle.tsdb_serving.specs.Faults.{HasFlushCause}
-use Rattle.tsdb_serving.specs.Flushing.{faults_under}
+use Rattle.tsdb_serving.specs.Flushing.{EndsFlush, faults_under, frozen_under}
+use Rattle.tsdb_core.specs.Core.{logged_of}
+use Rattle.tsdb_memory.specs.LogState.{memory_of}
 use Rattle.tsdb_serving.proofs.flushing.run_job.Goals as goal
 
-pub commit-requires-clause-busy : goal.commit-requires-clause-busy
-commit-requires-clause-busy g c = λ lifetimes lives. (
-  g.F.Port.Port.store c.args.port.now,
-  record { sequence = c.in-Ok.ensures.sequence; unsequence = c.in-Ok.ensures.unsequence },
-  c.requires.busy,
+pub end_flush-requires-clause-store : goal.end_flush-requires-clause-store
+end_flush-requires-clause-store g c = λ lifetimes lives. subst (λ store. AreOfStore store (files_of c.args.core.now).places)
+    (sym c.run_flush.ensures.same_store) c.requires.store
+
+pub end_flush-requires-clause-so_far : goal.end_flush-requires-clause-so_far
+end_flush-requires-clause-so_far g c = λ lifetimes lives. (
+  record {
+    store = g.F.Port.Port.store c.args.port.now;
+    sequence = inr c.in-Ok.ensures.sequence;
+    unsequence = inr c.in-Ok.ensures.unsequence;
+  },
+  sym c.run_flush.ensures.same_store,
 )
 
-pub give_up-requires-clause-busy : goal.give_up-requires-clause-busy
-give_up-requires-clause-busy g c = λ lifetimes lives. (
-  g.F.Port.Port.store c.args.port.now,
-  record { sequence = c.in-Err.ensures.put; unsequence = inl c.in-Err.ensures.not_put },
-  c.requires.busy,
+pub end_flush-requires-clause-done : goal.end_flush-requires-clause-done
+end_flush-requires-clause-done g c = λ lifetimes lives whole. (
+  record {
+    store = g.F.Port.Port.store c.args.port.now;
+    sequence = c.in-Ok.ensures.sequence;
+    unsequence = c.in-Ok.ensures.unsequence;
+  },
+  sym c.run_flush.ensures.same_store,
 )
+
+pub end_flush-requires-in-Err-clause-store : goal.end_flush-requires-in-Err-clause-store
+end_flush-requires-in-Err-clause-store g c = λ lifetimes lives.
+    subst (λ store. AreOfStore store (files_of c.args.core.now).places) (sym c.run_flush.ensures.same_store)
+    c.requires.store
+
+pub end_flush-requires-in-Err-clause-so_far : goal.end_flush-requires-in-Err-clause-so_far
+end_flush-requires-in-Err-clause-so_far g c = λ lifetimes lives. (
+  record {
+    store = g.F.Port.Port.store c.args.port.now;
+    sequence = c.in-Err.ensures.put;
+    unsequence = inl c.in-Err.ensures.not_put;
+  },
+  sym c.run_flush.ensures.same_store,
+)
+
+pub end_flush-requires-in-Err-clause-done : goal.end_flush-requires-in-Err-clause-done
+end_flush-requires-in-Err-clause-done g c = λ lifetimes lives whole. absurd cc
+
+pub returns-in-Ok-clause-flushed : goal.returns-in-Ok-clause-flushed
+returns-in-Ok-clause-flushed g c = result_flushed c.args.job (memory_of (logged_of c.args.core.now))
+    (frozen_under c.args.core.now) (frozen_under c.end_flush.new.core) c.end_flush.result c.result_of.result
+    c.end_flush.ensures.answer c.requires.oldest c.result_of.ensures.ok c.end_flush.ensures.left
 
 pub returns-in-Ok-clause-ends : goal.returns-in-Ok-clause-ends
-returns-in-Ok-clause-ends g c = c.commit.ensures.ends (g.F.Port.Port.store c.args.port.now) c.requires.busy
-    (record { sequence = c.in-Ok.ensures.sequence; unsequence = c.in-Ok.ensures.unsequence })
+returns-in-Ok-clause-ends g c = subst (λ store. EndsFlush g.F.Right.ReadRight.file store c.args.job c.args.core.now
+    c.end_flush.new.core) c.run_flush.ensures.same_store c.end_flush.ensures.ends
+
+pub returns-in-Ok-clause-swept : goal.returns-in-Ok-clause-swept
+returns-in-Ok-clause-swept g c = read_since (g.F.Port.Counted.faults c.args.port.now)
+    (g.F.Port.Counted.faults c.run_flush.new.port) (g.F.Port.Counted.faults c.end_flush.new.port) c.end_flush.new.core
+    c.run_flush.ensures.later c.end_flush.ensures.swept
 
 pub returns-in-Ok-clause-cause : goal.returns-in-Ok-clause-cause
-returns-in-Ok-clause-cause g c = commit_cause c.commit.result (faults_under c.args.core.now)
-    (faults_under c.commit.new.core) (g.F.Port.Counted.faults c.args.port.now)
-    (g.F.Port.Counted.faults c.run_flush.new.port) (next_of c.commit.new.core) c.commit.ensures.cause
+returns-in-Ok-clause-cause g c = commit_cause c.result_of.result (faults_under c.args.core.now)
+    (faults_under c.end_flush.new.core) (g.F.Port.Counted.faults c.args.port.now)
+    (g.F.Port.Counted.faults c.end_flush.new.port) (next_of c.end_flush.new.core)
+    (result_cause c.result_of.result c.end_flush.result (faults_under c.args.core.now)
+    (faults_under c.end_flush.new.core) c.result_of.ensures.device c.end_flush.ensures.cause)
 
 pub returns-in-Err-clause-ends : goal.returns-in-Err-clause-ends
-returns-in-Err-clause-ends g c = c.give_up.ensures.ends (g.F.Port.Port.store c.args.port.now) c.requires.busy
-    (record { sequence = c.in-Err.ensures.put; unsequence = inl c.in-Err.ensures.not_put })
+returns-in-Err-clause-ends g c = subst (λ store. EndsFlush g.F.Right.ReadRight.file store c.args.job c.args.core.now
+    c.end_flush-in-Err.new.core) c.run_flush.ensures.same_store c.end_flush-in-Err.ensures.ends
+
+pub returns-in-Err-clause-swept : goal.returns-in-Err-clause-swept
+returns-in-Err-clause-swept g c = read_since (g.F.Port.Counted.faults c.args.port.now)
+    (g.F.Port.Counted.faults c.run_flush.new.port) (g.F.Port.Counted.faults c.end_flush-in-Err.new.port)
+    c.end_flush-in-Err.new.core c.run_flush.ensures.later c.end_flush-in-Err.ensures.swept
 
 pub returns-in-Err-clause-cause : goal.returns-in-Err-clause-cause
-returns-in-Err-clause-cause g c = subst (HasFlushCause (faults_under c.args.core.now) (faults_under c.give_up.new.core)
-    (g.F.Port.Counted.faults c.args.port.now) (g.F.Port.Counted.faults c.run_flush.new.port)
-    (next_of c.give_up.new.core)) (sym c.of_file.ensures)
-    (file_cause (faults_under c.args.core.now) (faults_under c.give_up.new.core) (g.F.Port.Counted.faults c.args.port.now)
-    (g.F.Port.Counted.faults c.run_flush.new.port) (next_of c.give_up.new.core) c.in-Err.field-0.fault
-    c.in-Err.ensures.failed)
+returns-in-Err-clause-cause g c = subst (HasFlushCause (faults_under c.args.core.now) (faults_under c.end_flush-in-Err.new.core)
+    (g.F.Port.Counted.faults c.args.port.now) (g.F.Port.Counted.faults c.end_flush-in-Err.new.port)
+    (next_of c.end_flush-in-Err.new.core)) (sym c.of_file.ensures)
+    (file_cause (faults_under c.args.core.now) (faults_under c.end_flush-in-Err.new.core)
+    (g.F.Port.Counted.faults c.args.port.now) (g.F.Port.Counted.faults c.end_flush-in-Err.new.port)
+    (next_of c.end_flush-in-Err.new.core) c.in-Err.field-0.fault
+    (λ is. rose_on (g.F.Port.Counted.faults c.args.port.now) (g.F.Port.Counted.faults c.run_flush.new.port)
+    (g.F.Port.Counted.faults c.end_flush-in-Err.new.port) (c.in-Err.ensures.failed is)
+    c.end_flush-in-Err.ensures.later))
