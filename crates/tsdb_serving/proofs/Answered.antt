@@ -447,7 +447,7 @@ module _ {J F S R P : Type 0} {means : disk.Ghosts J} {counts : counted.Ghosts J
     )
     placed between (inr frozen) = (
       froze laws NoNumber old between answer.Done frozen.freeze frozen.can loans files at next serving,
-      frozen.freeze.slot,
+      frozen.freeze.slot.same,
     )
 
     put_leads : (result : Answer) (put : IsRowPut device row old new result)

@@ -12,7 +12,7 @@ use Rattle.tsdb_core.proofs.Out.{files_handed, flush_joins, no_flush}
 use Rattle.tsdb_core.specs.Commands.{IsCoreCommand}
 use Rattle.tsdb_core.specs.Core.{logged_of, newest_born, next_of, working_of}
 use Rattle.tsdb_core.specs.Ending.{drawn_for}
-use Rattle.tsdb_core.specs.Files.{AreFilesOfJob, NewFile, NewFiles, TellBytes, all_of}
+use Rattle.tsdb_core.specs.Files.{AreFilesOfJob, NewFiles, TellBytes}
 use Rattle.tsdb_core.specs.FlushJob.{FlushJob}
 use Rattle.tsdb_core.specs.Flushes.{IsAbandoned, IsCommit, IsCommitAnswer, IsDue, IsFlushTaken, IsFlushTakenOrNot}
 use Rattle.tsdb_core.specs.Flushes.{IsNotTaken, IsOldestPair, IsTakeAnswer, TakesMemory}
@@ -23,6 +23,8 @@ use Rattle.tsdb_core.specs.declared.commit.CoreFault.{CoreFault}
 use Rattle.tsdb_core.specs.declared.commit.CoreFault.TheVariants as job
 use Rattle.tsdb_core.specs.declared.commit.Commit.TheVariants as commits
 use Rattle.tsdb_core.specs.declared.engine.Core.{Core}
+use Rattle.tsdb_frames.proofs.CallLemmas.{keeps_to_slot_on, same_keeps_to_slot}
+use Rattle.tsdb_frames.specs.Calls.{KeepsToSlot}
 use Rattle.tsdb_frames.specs.Frames.{faults_of, slot_of}
 use Rattle.tsdb_frames.specs.declared.frames.Frames.{Frames}
 use Rattle.tsdb_log.specs.declared.record.LogRecord.TheVariants.{Freeze}
@@ -48,15 +50,11 @@ use Rattle.tsdb_serving.proofs.Steps.{quiet, then}
 use Rattle.tsdb_serving.specs.Flushing.{CountsNothing, EndsFlush, EndsLoan, GoesOn, IsOfJob, LendsFlush}
 use Rattle.tsdb_serving.specs.Flushing.{LendsFlushOrNot, LendsOne, Serves, StaysIdle}
 use Rattle.tsdb_serving.specs.Flushing.{faults_under, frozen_under}
-use Rattle.tsdb_serving.specs.Loans.{KeepsAll}
-use Rattle.tsdb_serving.specs.Serving.{IsDrawn, IsServing, NoNumber, ServesWithout, StaysInPlace}
+use Rattle.tsdb_serving.specs.Loans.{CanServe, KeepsAll}
+use Rattle.tsdb_serving.specs.Serving.{IsDrawn, IsServing, NoNumber, ServesWithout, StaysInPlace, log_under}
 use Rattle.tsdb_serving.specs.declared.fault.FlushFault.{FlushFault}
 use Rattle.tsdb_serving.specs.declared.loan.Loan.{Loan}
 use Rattle.tsdb_serving.specs.declared.loan.Loan.TheVariants as loan
-
--- the file is of the store
-abbrev IsIn : Store → NewFile → Type 0
-IsIn store new = new.token.name.store ≡ store
 
 -- a list of at most two is empty after two steps
 pub none_left : {X : Type 0} (xs : List X) → length xs ≤ 2 → drop 1 (drop 1 xs) ≡ []
@@ -69,6 +67,11 @@ none_left (a ∷ b ∷ c ∷ xs) few = absurd (omega (arith, few))
 pub one_left : {X : Type 0} (xs ys : List X) → length xs ≤ 2 → ys ≡ drop 1 xs → length ys < 2
 one_left [] ys few is = subst (λ (l : List _). length l < 2) (sym is) (omega arith)
 one_left (a ∷ xs) ys few is = subst (λ (l : List _). length l < 2) (sym is) (omega (arith, few))
+
+-- nothing was done
+pub stays_same : {J F S R P : Type 0} {means : disk.Ghosts J} {counts : counted.Ghosts J} (core : Core J F S R P means counts)
+    → StaysInPlace core core
+stays_same core = record { slot = same_keeps_to_slot (log_under core) (log_under core) refl; next = omega arith }
 
 -- nothing was counted where nothing was done
 pub no_counts : {J F S R P : Type 0} {means : disk.Ghosts J} {counts : counted.Ghosts J} (core : Core J F S R P means counts)
@@ -87,16 +90,10 @@ module _ {J F S R P : Type 0} {means : disk.Ghosts J} {counts : counted.Ghosts J
       → ChangesRoom (memory_of (logged_of old)) (memory_of (logged_of new)) → CountsNothing old new
   roomy_counts old new room = record { series = room.series; stamp = room.stamp }
 
-  -- taking memory leaves the pairs, and the journal's count
-  pub oldest_still : (old new : Core J F S R P means counts) (job : FlushJob) → TakesMemory old new
-      → IsFlushTaken old new job → IsOldestPair job (memory_of (logged_of new))
-  oldest_still old new job takes taken = subst (IsOldestPair job) (sym takes.memory)
-      (born_of (slice_get (memory_of (logged_of old)).frozen 0) taken.oldest)
-    where
-      born_of : (o : Option FrozenPair) → IsSomeAnd o (λ pair. (pair.born ≡ job.born.0) × (pair.pair ≡ arc_value job.pair))
-          → IsSomeAnd o (λ pair. pair.born ≡ job.born.0)
-      born_of None is = is
-      born_of (Some pair) is = is.0
+  -- the pair of a flush that was taken is the oldest still
+  oldest_still : (old new : Core J F S R P means counts) (job : FlushJob) → IsFlushTaken old new job → (store : Store)
+      → CanServe store old → IsOldestPair new job
+  oldest_still old new job taken store can = taken.still can.0.flushes can.0.compactions can.1.loans.jobs
 
   -- in memory series, stamp and pair are as they were where all is
   pub kept_series : (old new : Core J F S R P means counts) → logged_of new ≡ logged_of old
@@ -135,7 +132,7 @@ module _ {J F S R P : Type 0} {means : disk.Ghosts J} {counts : counted.Ghosts J
     pub was_taken : (name : R → NamedFile) (job : FlushJob) → IsFlushTaken old new job → LendsFlush name old new job
     was_taken name job taken = record {
       is_job = taken.is_job;
-      oldest = oldest_still old new job takes taken;
+      oldest = oldest_still old new job taken;
       numbers = taken.numbers;
       some = taken.some;
       few = few_drawn job;
@@ -194,7 +191,7 @@ module _ {J F S R P : Type 0} {means : disk.Ghosts J} {counts : counted.Ghosts J
     nothing port core drawn = record {
       serves = record {
         keeps_all = λ out kept. kept;
-        stays = record { slot = refl; next = omega arith };
+        stays = stays_same core;
         draws = omega arith;
         same_store = refl;
         later = (omega arith, omega arith);
@@ -211,7 +208,10 @@ module _ {J F S R P : Type 0} {means : disk.Ghosts J} {counts : counted.Ghosts J
     stayed_idle port old new drawn idle = record {
       serves = record {
         keeps_all = idle.keeps_all (store port);
-        stays = record { slot = ap (λ log. slot_of log) idle.log; next = omega (arith, idle.next) };
+        stays = record {
+          slot = same_keeps_to_slot (log_under old) (log_under new) idle.log;
+          next = omega (arith, idle.next);
+        };
         draws = omega (arith, idle.next);
         same_store = refl;
         later = (same_faults old new idle.log, omega arith);
@@ -242,7 +242,10 @@ module _ {J F S R P : Type 0} {means : disk.Ghosts J} {counts : counted.Ghosts J
             keeps_all = λ out kept. subst (λ (s : Store). KeepsOut s out new) one.same_store
                 (two.keeps_all out (subst (λ (s : Store). KeepsOut s out mid) (sym one.same_store)
                 (one.keeps_all out kept)));
-            stays = record { slot = two.stays.slot ∙ one.stays.slot; next = omega (arith, from, to) };
+            stays = record {
+              slot = keeps_to_slot_on (log_under old) (log_under mid) (log_under new) one.stays.slot two.stays.slot;
+              next = omega (arith, from, to);
+            };
             draws = omega (arith, less, some, others);
             same_store = two.same_store ∙ one.same_store;
             later = (omega (arith, journal, journal_on), omega (arith, counted_first, counted_second));
@@ -254,7 +257,7 @@ module _ {J F S R P : Type 0} {means : disk.Ghosts J} {counts : counted.Ghosts J
               (λ n drawn. let low = drawn.from in let high = drawn.to in record { from = low; to = omega (arith, high, to) })
               (λ n drawn. let low = drawn.from in let high = drawn.to in
               record { from = omega (arith, low, from); to = high })
-              (drawn_apart old mid new) loans loans old mid new files at next at at one.stays.slot kept
+              (drawn_apart old mid new) loans loans old mid new files at next at at one.stays.slot.same kept
               (second.keeps (ap (λ (s : Store). s.tells) one.same_store ∙ tells) loans (files ++ kept.put) at kept.doubt
               kept.serving);
         }
@@ -299,7 +302,7 @@ module _ {J F S R P : Type 0} {means : disk.Ghosts J} {counts : counted.Ghosts J
       serves = record {
         keeps_all = loan_over name (store port) old mid new one (lent.lends (store port)) ends.back;
         stays = record {
-          slot = ends.slot ∙ ap (λ log. slot_of log) lent.log;
+          slot = subst (λ (log : Frames J means counts). KeepsToSlot log (log_under new)) lent.log ends.slot;
           next = omega (arith, lent.next, ends.next);
         };
         draws = omega (arith, lent.next, ends.next);
@@ -342,12 +345,12 @@ module _ {J F S R P : Type 0} {means : disk.Ghosts J} {counts : counted.Ghosts J
   -- ---- the end of a job
 
   module _ (old new : Core J F S R P means counts) (job : FlushJob) (built : NewFiles) (given : Store)
-      (of_job : AreFilesOfJob given job built) (all : Each (IsIn store) (all_of built))
+      (of_job : AreFilesOfJob given job built)
       (tells : store.tells ≡ true → TellBytes built) where
     pub commit_ends : (commit : Commit) → IsCommit old new job built commit → EndsFlush name store job old new
     commit_ends commit is = record {
       ends = record {
-        back = flush_back name store old new job built commit is.ends all;
+        back = flush_back name store old new job built commit is.ends;
         slot = is.slot;
         next = is.ends.next;
         limit = is.ends.limit;
@@ -362,8 +365,8 @@ module _ {J F S R P : Type 0} {means : disk.Ghosts J} {counts : counted.Ghosts J
     pub abandon_ends : IsAbandoned old new job built → EndsFlush name store job old new
     abandon_ends gives_up = record {
       ends = record {
-        back = flush_back name store old new job built commits.Gone gives_up.ends all;
-        slot = ap (λ logged. slot_of (log_of logged)) gives_up.logged;
+        back = flush_back name store old new job built commits.Gone gives_up.ends;
+        slot = same_keeps_to_slot (log_under old) (log_under new) (ap (λ logged. log_of logged) gives_up.logged);
         next = gives_up.ends.next;
         limit = gives_up.ends.limit;
         kept = kept_series old new gives_up.logged;
@@ -405,13 +408,14 @@ due_at_fault upto next store job.Memory is = is.0
 due_at_fault upto next store (job.Full counter) is = is.0
 
 -- what a commit of the oldest pair that is done leaves of the frozen pairs
-pub result_flushed : (job : FlushJob) (store : MemoryStore) (old new : List FrozenPair) (commit : Commit)
-    (result : Result (Unit {0}) FlushFault) → IsCommitAnswer job store commit → IsOldestPair job store
+pub result_flushed : {J F S R P : Type 0} {means : disk.Ghosts J} {counts : counted.Ghosts J}
+    (core : Core J F S R P means counts) (job : FlushJob) (old new : List FrozenPair) (commit : Commit)
+    (result : Result (Unit {0}) FlushFault) → IsCommitAnswer core job commit → IsOldestPair core job
     → OnOk result (commit ≢ commits.Device) → (commit ≡ commits.Done → new ≡ drop 1 old) → OnOk result (new ≡ drop 1 old)
-result_flushed job store old new commit (Err fault) answer oldest ok left = tt
-result_flushed job store old new commits.Done (Ok value) answer oldest ok left = left refl
-result_flushed job store old new commits.Gone (Ok value) answer oldest ok left = absurd (answer oldest)
-result_flushed job store old new commits.Device (Ok value) answer oldest ok left = absurd (ok refl)
+result_flushed core job old new commit (Err fault) answer oldest ok left = tt
+result_flushed core job old new commits.Done (Ok value) answer oldest ok left = left refl
+result_flushed core job old new commits.Gone (Ok value) answer oldest ok left = absurd (answer oldest)
+result_flushed core job old new commits.Device (Ok value) answer oldest ok left = absurd (ok refl)
 
 -- ---- the newest pair
 

@@ -13,10 +13,10 @@ use Rattle.tsdb_core.proofs.Out.{first_job, first_one, flush_can_end, has_number
 use Rattle.tsdb_core.specs.Built.{IsPartDone}
 use Rattle.tsdb_core.specs.BuiltType.{Built}
 use Rattle.tsdb_core.specs.Compactions.{IsHandedOut}
-use Rattle.tsdb_core.specs.Core.{files_of, next_of}
+use Rattle.tsdb_core.specs.Core.{next_of, store_of}
 use Rattle.tsdb_core.specs.Ending.{numbers_if}
-use Rattle.tsdb_core.specs.Files.{AreFilesOfJob, IsOfPart, NewFile, NewFiles, TellBytes, all_of, file_built, new_files}
-use Rattle.tsdb_core.specs.Files.{file_number, stored_of}
+use Rattle.tsdb_core.specs.Files.{AreDoneSoFar, AreFilesOfJob, IsOfPart, NewFile, NewFiles, TellBytes, all_of, file_built}
+use Rattle.tsdb_core.specs.Files.{file_number, new_files, stored_of}
 use Rattle.tsdb_core.specs.FlushJob.{FlushJob}
 use Rattle.tsdb_core.specs.Flushed.{Flushed}
 use Rattle.tsdb_core.specs.Flushes.{HasEndedFlush, IsOut}
@@ -25,14 +25,12 @@ use Rattle.tsdb_core.specs.Loans.{KeepsLoans}
 use Rattle.tsdb_core.specs.Out.{KeepsOut, Loans, flush_of, with_flush}
 use Rattle.tsdb_core.specs.Parts.{Filled}
 use Rattle.tsdb_core.specs.Pins.{IsUnpinned, pin_rights}
-use Rattle.tsdb_core.specs.Places.{AreOfStore}
 use Rattle.tsdb_core.specs.Replacements.{HasEndedJob}
 use Rattle.tsdb_core.specs.declared.commit.Commit.{Commit}
 use Rattle.tsdb_core.specs.declared.engine.Core.{Core}
 use Rattle.tsdb_outside.specs.Files.{NamedFile, Store, StoredFile, Tells}
 use Rattle.tsdb_outside.specs.declared.disk.Disk as disk
 use Rattle.tsdb_outside.specs.declared.faults.Counted as counted
-use Rattle.tsdb_serving.specs.Files.{AreDoneInStore, AreDoneSoFarInStore}
 use Rattle.tsdb_serving.specs.Flushing.{IsOfJob}
 use Rattle.tsdb_serving.specs.Loans.{CanServe, IsWithLoan, KeepsAll, Lends, TakesBack, with_loan}
 use Rattle.tsdb_serving.specs.Serving.{IsDrawn}
@@ -136,9 +134,8 @@ first_loan name (loan.Pin pin) out =
 -- ---- what is out
 
 module _ {J F S R P : Type 0} {means : disk.Ghosts J} {counts : counted.Ghosts J} where
-  -- all files are of the store of those for which the core can serve
-  pub of_the_store : (store : Store) (core : Core J F S R P means counts) → CanServe store core
-      → AreOfStore store (files_of core).places
+  -- a core that can serve is of the store
+  pub of_the_store : (store : Store) (core : Core J F S R P means counts) → CanServe store core → store ≡ store_of core
   of_the_store store core can = can.1.of_store
 
   pub can_still : (store : Store) (old new : Core J F S R P means counts) → KeepsAll store old new → CanServe store old
@@ -153,22 +150,21 @@ module _ {J F S R P : Type 0} {means : disk.Ghosts J} {counts : counted.Ghosts J
 
   -- a flush that is out among others is out no longer behind its end
   pub flush_back : (name : R → NamedFile) (store : Store) (old new : Core J F S R P means counts) (job : FlushJob)
-      (files : NewFiles) (commit : Commit) → HasEndedFlush old new job files commit → Each (IsIn store) (all_of files)
-      → TakesBack name store (loan.Flush job) old new
-  flush_back name store old new job files commit ended in_store others all is kept = record {
+      (files : NewFiles) (commit : Commit) → HasEndedFlush old new job files commit → TakesBack name store (loan.Flush job) old new
+  flush_back name store old new job files commit ended others all is kept = record {
     loans = subst (λ l. KeepsLoans new others.flushes others.compactions l) is.lent
         (subst (λ l. KeepsLoans new others.flushes l all.lent) is.compactions
         (ended.loans (flush_of job) others.flushes all.flushes all.compactions all.lent (has_numbers job) is.flushes
         kept.loans));
-    of_store = ended.of_store store kept.of_store in_store;
+    of_store = kept.of_store ∙ sym ended.store;
   }
 
   -- so too a compaction, and a pin
   pub job_back : (name : R → NamedFile) (store : Store) (old new : Core J F S R P means counts) (job : Job F S R P)
       (file : Option NewFile) → HasEndedJob old new job file → IsHandedOut job
-      → IfSome file (λ one. one.token.name.store ≡ store) → TakesBack name store (loan.Compaction job) old new
-  job_back name store old new job file ended handed in_store others all is kept =
-      job_leaves name old new job file ended store others all handed in_store is kept
+      → TakesBack name store (loan.Compaction job) old new
+  job_back name store old new job file ended handed others all is kept =
+      job_leaves name old new job file ended store others all handed is kept
 
   pub pin_back : (name : R → NamedFile) (store : Store) (old new : Core J F S R P means counts) (pin : Pin F S R P)
       → IsUnpinned old new pin → TakesBack name store (loan.Pin pin) old new
@@ -177,7 +173,7 @@ module _ {J F S R P : Type 0} {means : disk.Ghosts J} {counts : counted.Ghosts J
         (subst (λ l. KeepsLoans new l all.compactions others.lent) is.flushes
         (unpinned.loans all.flushes all.compactions (pin_rights name pin) others.lent all.lent (on_columns name pin) is.lent
         kept.loans));
-    of_store = unpinned.rest.store store kept.of_store;
+    of_store = kept.of_store ∙ sym unpinned.rest.store;
   }
 
   -- a loan that comes and then goes leaves what was out

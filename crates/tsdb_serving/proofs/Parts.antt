@@ -322,7 +322,7 @@ module _ {J F S R P : Type 0} {means : disk.Ghosts J} {counts : counted.Ghosts J
         (gives_up.step is.outside is.state flush found.rest is.seen out tells) left)
 
     module _ (commit : Commit) (commits : IsCommit old new job built commit) where
-      record_stands : IsOldestPair job (memory_of (logged_of old))
+      record_stands : IsOldestPair old job
           → IsStateOf later.told (after (flush_record flush) is.state.store) at
       record_stands oldest =
           let keeps = commits.keeps is.outside is.state flush found.rest is.seen out tells oldest in record {
@@ -334,7 +334,7 @@ module _ {J F S R P : Type 0} {means : disk.Ghosts J} {counts : counted.Ghosts J
                 is.state.store.frozen is.state.store ∙ is.stands.stamp;
           }
 
-      by_record : IsOldestPair job (memory_of (logged_of old)) → (doubt : Option plain.State) → MayDoubt next at at doubt
+      by_record : IsOldestPair old job → (doubt : Option plain.State) → MayDoubt next at at doubt
           → IsServing others new (files ++ put) at doubt → IsServedBy Q others old new files at next at at
       by_record oldest doubt may shown = record {
         put = put;
@@ -351,7 +351,7 @@ module _ {J F S R P : Type 0} {means : disk.Ghosts J} {counts : counted.Ghosts J
             leads_later (record_stands oldest));
       }
 
-      committed_as : (c : Commit) → c ≡ commit → IsCommitAnswer job (memory_of (logged_of old)) c
+      committed_as : (c : Commit) → c ≡ commit → IsCommitAnswer old job c
           → IsSeenAfterCommit new later is.state flush found.rest c
           → IsServedBy Q others old new files at next at at
       committed_as Done same oldest seen = by_record oldest None (inl refl) (record {

@@ -14,7 +14,8 @@ use Rattle.tsdb_core.specs.FilesetSweeps.{tried_numbers}
 use Rattle.tsdb_core.specs.Sweeps.{IsSwept, without_files}
 use Rattle.tsdb_core.specs.declared.engine.Core.{Core}
 use Rattle.tsdb_frames.proofs.Counted.{no_fault_no_doubt}
-use Rattle.tsdb_frames.specs.Frames.{disk_of, faults_of, is_in_doubt, slot_of}
+use Rattle.tsdb_frames.specs.Calls.{KeepsToSlot}
+use Rattle.tsdb_frames.specs.Frames.{disk_of, faults_of, is_in_doubt}
 use Rattle.tsdb_memory.specs.Changes.{KeepsSeries}
 use Rattle.tsdb_memory.specs.Fits.{HasNoPairPoint}
 use Rattle.tsdb_memory.specs.LogState.{log_of, memory_of}
@@ -35,7 +36,7 @@ use Rattle.tsdb_serving.proofs.Read.{none_read, read_left}
 use Rattle.tsdb_serving.specs.Flushing.{EndsFlush, EndsLoan, GoesOn, IsOfJob, faults_under}
 use Rattle.tsdb_serving.specs.Flushing.{frozen_under}
 use Rattle.tsdb_serving.specs.Serving.{ServesCommand, IsDrawn, IsServedBy, LeavesEither, StaysInPlace, disk_under}
-use Rattle.tsdb_serving.specs.Serving.{slot_under}
+use Rattle.tsdb_serving.specs.Serving.{log_under, slot_under}
 use Rattle.tsdb_serving.specs.Sweeping.{AreOutgoingRead, IsRead, KeepsAllButOutgoing, LeavesNothing, LeavesRead}
 use Rattle.tsdb_serving.specs.Sweeping.{StaysEmpty, StaysRead}
 use Rattle.tsdb_serving.specs.declared.fault.FlushFault.{FlushFault}
@@ -196,7 +197,8 @@ module _ {J F S R P : Type 0} {means : disk.Ghosts J} {counts : counted.Ghosts J
       → KeepsAllButOutgoing mid new → HandsOn mid new → EndsLoan name store one old mid → EndsLoan name store one old new
   loan_swept name store one old mid new keeps hands_on part = record {
     back = λ others all is kept. hands_on store others (part.back others all is kept);
-    slot = ap (λ logged. slot_of (log_of logged)) keeps.logged ∙ part.slot;
+    slot = subst (λ (logged : LoggedMemory J means counts). KeepsToSlot (log_under old) (log_of logged))
+        (sym keeps.logged) part.slot;
     next = keeps.next ∙ part.next;
     limit = keeps.limit ∙ part.limit;
     kept = subst (λ (logged : LoggedMemory J means counts). KeepsSeries (memory_of (logged_of old)) (memory_of logged))

@@ -13,7 +13,6 @@ ghost use Rattle.tsdb_core.specs.declared.commit.Commit.{Commit as CommitOf};
 ghost use Rattle.tsdb_memory.specs.LogState.{memory_of};
 ghost use Rattle.tsdb_base.specs.Causes.{Rose};
 ghost use Rattle.tsdb_memory.specs.Fits.{HasNoPairPoint};
-ghost use Rattle.tsdb_outside.specs.Files.{Store};
 ghost use Rattle.tsdb_serving.specs.declared.fault.FlushFault.{FlushFault as FaultOf};
 ghost use Rattle.tsdb_serving.specs.Flushing.{EndsFlush, GoesOn, HasFlushCauseOver, IsEndAnswer, LendsFlushOrNot};
 ghost use Rattle.tsdb_serving.specs.Flushing.{faults_under, frozen_under};
@@ -314,14 +313,12 @@ fn commit_or_give_up<J: Journal, F: Files>(
     whole: bool,
 ) -> Commit
     requires out { IsOut core.old job }
-    requires done { (store : Store) × AreDoneSoFar F.Sealed.file F.Sealed.rights store job files
-        × (IsTrue whole → AreDone F.Sealed.file F.Sealed.rights store job files) }
+    requires so_far { AreDoneSoFar F.Sealed.file F.Sealed.rights (store_of core.old) job files }
+    requires done { IsTrue whole → AreDone F.Sealed.file F.Sealed.rights (store_of core.old) job files }
     ensures answer { IsEndAnswer whole core.old job result }
     ensures left { result ≡ CommitOf.Done → frozen_under core.new ≡ drop 1 (frozen_under core.old) }
     ensures stays { result ≢ CommitOf.Done → memory_of (logged_of core.new) ≡ memory_of (logged_of core.old) }
-    ensures ends { (store : Store) → AreDoneSoFar F.Sealed.file F.Sealed.rights store job files
-        → (IsTrue whole → AreDone F.Sealed.file F.Sealed.rights store job files)
-        → EndsFlush F.Right.file store job core.old core.new }
+    ensures ends { EndsFlush F.Right.file (store_of core.old) job core.old core.new }
     ensures same_store { store_of core.new ≡ store_of core.old }
     ensures cause { result ≡ CommitOf.Device → Rose (faults_under core.old) (faults_under core.new) }
 {

@@ -3,6 +3,7 @@ use Rattle.tsdb_core.proofs.Out.{files_handed}
 use Rattle.tsdb_core.specs.Core.{logged_of}
 use Rattle.tsdb_core.specs.FilesetFiles.{KeptFiles}
 use Rattle.tsdb_core.specs.Rows.{IsRowCommand}
+use Rattle.tsdb_frames.proofs.CallLemmas.{keeps_to_slot_on}
 use Rattle.tsdb_memory.specs.LogState.{memory_of}
 use Rattle.tsdb_model.specs.declared.command.Command.TheVariants.{Insert}
 use Rattle.tsdb_model.specs.declared.reply.Reply.TheVariants.{Plain}
@@ -15,7 +16,7 @@ use Rattle.tsdb_serving.proofs.Jobs.{drawn_first, drawn_second}
 use Rattle.tsdb_serving.proofs.Slots.{row_slot}
 use Rattle.tsdb_serving.proofs.Swept.{read_without_faults}
 use Rattle.tsdb_serving.specs.Flushing.{faults_under}
-use Rattle.tsdb_serving.specs.Serving.{IsAnsweredBy, IsDrawn}
+use Rattle.tsdb_serving.specs.Serving.{IsAnsweredBy, IsDrawn, log_under}
 use Rattle.tsdb_serving.specs.Sweeping.{AreOutgoingRead}
 use Rattle.tsdb_serving.proofs.changes.insert.Goals as goal
 
@@ -39,7 +40,7 @@ pub returns-in-Ok-clause-answers : goal.returns-in-Ok-clause-answers
 returns-in-Ok-clause-answers g c = λ tells loans files at next serving.
     let first = c.make_room.ensures.goes_on.keeps tells loans files at next serving in
     behind g.J.Disk.lawful c.args.core.now c.make_room.new.core c.insert.new.self c.args.device.now c.args.row.now loans files
-    at next c.make_room.ensures.goes_on.serves.stays.slot first
+    at next c.make_room.ensures.goes_on.serves.stays.slot.same first
     (drawn_first c.args.core.now c.make_room.new.core c.insert.new.self c.insert.ensures.kept.next)
     (drawn_second c.args.core.now c.make_room.new.core c.insert.new.self c.make_room.ensures.goes_on.serves.stays.next)
     c.insert.result

@@ -1,6 +1,5 @@
-use Rattle.std.proofs.Common.{subst, sym}
-use Rattle.tsdb_core.specs.Core.{files_of, next_of}
-use Rattle.tsdb_core.specs.Places.{AreOfStore}
+use Rattle.std.proofs.Common.{◌∙◌}
+use Rattle.tsdb_core.specs.Core.{next_of}
 use Rattle.tsdb_serving.proofs.Causes.{cause_since}
 use Rattle.tsdb_serving.proofs.Jobs.{can_still, of_the_store}
 use Rattle.tsdb_serving.proofs.Swept.{flushed_swept, goes_on_swept, no_less_swept, read_since}
@@ -9,9 +8,8 @@ use Rattle.tsdb_serving.proofs.flushing.flush.Goals as goal
 
 pub sweep-requires-clause-store : goal.sweep-requires-clause-store
 sweep-requires-clause-store g c = λ lifetimes lives.
-    subst (λ store. AreOfStore store (files_of c.flush_pairs-flushed.new.core).places)
-    (sym c.flush_pairs-flushed.ensures.goes_on.serves.same_store)
-    (of_the_store (g.F.Port.Port.store c.args.port.now) c.flush_pairs-flushed.new.core
+    c.flush_pairs-flushed.ensures.goes_on.serves.same_store
+    ∙ (of_the_store (g.F.Port.Port.store c.args.port.now) c.flush_pairs-flushed.new.core
     (can_still (g.F.Port.Port.store c.args.port.now) c.args.core.now c.flush_pairs-flushed.new.core
     c.flush_pairs-flushed.ensures.goes_on.serves.keeps_all c.requires.ready))
 

@@ -33,6 +33,7 @@ pub run_job-requires-clause-oldest : goal.run_job-requires-clause-oldest
 run_job-requires-clause-oldest g c = λ lifetimes lives.
     (subst (LendsFlushOrNot g.F.Right.ReadRight.file c.args.core.now c.take_flush.new.core)
     (c.in-Ok-Some.is ∙ ap Ok c.in-Ok-Some.field-0-is) c.take_flush.ensures.taken).oldest
+    (g.F.Port.Port.store c.args.port.now) c.requires.ready
 
 pub returns-in-Ok-Some-clause-flushed : goal.returns-in-Ok-Some-clause-flushed
 returns-in-Ok-Some-clause-flushed g c = λ due. dropped (frozen_under c.args.core.now) (frozen_under c.take_flush.new.core)

@@ -1,59 +1,43 @@
-use Rattle.std.proofs.Common.{inl, inr, subst, sym}
-use Rattle.tsdb_core.specs.Core.{files_of, next_of}
-use Rattle.tsdb_core.specs.Places.{AreOfStore}
+use Rattle.std.proofs.Common.{inl, inr, subst, sym, ◌∙◌}
+use Rattle.tsdb_core.specs.Core.{next_of}
+use Rattle.tsdb_core.specs.Files.{AreDone, AreDoneSoFar}
 use Rattle.tsdb_serving.proofs.Causes.{commit_cause, file_cause, result_cause, rose_on}
 use Rattle.tsdb_serving.proofs.Flushes.{result_flushed}
 use Rattle.tsdb_serving.proofs.Swept.{read_since}
 use Rattle.tsdb_serving.specs.Faults.{HasFlushCause}
 use Rattle.tsdb_serving.specs.Flushing.{EndsFlush, faults_under, frozen_under}
-use Rattle.tsdb_core.specs.Core.{logged_of}
-use Rattle.tsdb_memory.specs.LogState.{memory_of}
 use Rattle.tsdb_serving.proofs.flushing.run_job.Goals as goal
 
 pub end_flush-requires-clause-store : goal.end_flush-requires-clause-store
-end_flush-requires-clause-store g c = λ lifetimes lives. subst (λ store. AreOfStore store (files_of c.args.core.now).places)
-    (sym c.run_flush.ensures.same_store) c.requires.store
+end_flush-requires-clause-store g c = λ lifetimes lives. c.run_flush.ensures.same_store ∙ c.requires.store
 
 pub end_flush-requires-clause-so_far : goal.end_flush-requires-clause-so_far
-end_flush-requires-clause-so_far g c = λ lifetimes lives. (
-  record {
-    store = g.F.Port.Port.store c.args.port.now;
-    sequence = inr c.in-Ok.ensures.sequence;
-    unsequence = inr c.in-Ok.ensures.unsequence;
-  },
-  sym c.run_flush.ensures.same_store,
-)
+end_flush-requires-clause-so_far g c = λ lifetimes lives.
+    subst (λ store. AreDoneSoFar g.F.Sealed.SealedFile.file g.F.Sealed.SealedFile.rights store c.args.job c.in-Ok.files)
+    (sym c.run_flush.ensures.same_store)
+    (record { sequence = inr c.in-Ok.ensures.sequence; unsequence = inr c.in-Ok.ensures.unsequence })
 
 pub end_flush-requires-clause-done : goal.end_flush-requires-clause-done
-end_flush-requires-clause-done g c = λ lifetimes lives whole. (
-  record {
-    store = g.F.Port.Port.store c.args.port.now;
-    sequence = c.in-Ok.ensures.sequence;
-    unsequence = c.in-Ok.ensures.unsequence;
-  },
-  sym c.run_flush.ensures.same_store,
-)
+end_flush-requires-clause-done g c = λ lifetimes lives whole.
+    subst (λ store. AreDone g.F.Sealed.SealedFile.file g.F.Sealed.SealedFile.rights store c.args.job c.in-Ok.files)
+    (sym c.run_flush.ensures.same_store)
+    (record { sequence = c.in-Ok.ensures.sequence; unsequence = c.in-Ok.ensures.unsequence })
 
 pub end_flush-requires-in-Err-clause-store : goal.end_flush-requires-in-Err-clause-store
-end_flush-requires-in-Err-clause-store g c = λ lifetimes lives.
-    subst (λ store. AreOfStore store (files_of c.args.core.now).places) (sym c.run_flush.ensures.same_store)
-    c.requires.store
+end_flush-requires-in-Err-clause-store g c = λ lifetimes lives. c.run_flush.ensures.same_store
+    ∙ c.requires.store
 
 pub end_flush-requires-in-Err-clause-so_far : goal.end_flush-requires-in-Err-clause-so_far
-end_flush-requires-in-Err-clause-so_far g c = λ lifetimes lives. (
-  record {
-    store = g.F.Port.Port.store c.args.port.now;
-    sequence = c.in-Err.ensures.put;
-    unsequence = inl c.in-Err.ensures.not_put;
-  },
-  sym c.run_flush.ensures.same_store,
-)
+end_flush-requires-in-Err-clause-so_far g c = λ lifetimes lives.
+    subst (λ store. AreDoneSoFar g.F.Sealed.SealedFile.file g.F.Sealed.SealedFile.rights store c.args.job
+    c.in-Err.field-0.files) (sym c.run_flush.ensures.same_store)
+    (record { sequence = c.in-Err.ensures.put; unsequence = inl c.in-Err.ensures.not_put })
 
 pub end_flush-requires-in-Err-clause-done : goal.end_flush-requires-in-Err-clause-done
 end_flush-requires-in-Err-clause-done g c = λ lifetimes lives whole. absurd cc
 
 pub returns-in-Ok-clause-flushed : goal.returns-in-Ok-clause-flushed
-returns-in-Ok-clause-flushed g c = result_flushed c.args.job (memory_of (logged_of c.args.core.now))
+returns-in-Ok-clause-flushed g c = result_flushed c.args.core.now c.args.job
     (frozen_under c.args.core.now) (frozen_under c.end_flush.new.core) c.end_flush.result c.result_of.result
     c.end_flush.ensures.answer c.requires.oldest c.result_of.ensures.ok c.end_flush.ensures.left
 
