@@ -1,7 +1,7 @@
 -- A pin that is taken is out, and one that is given back is out no longer.
 use Rattle.std.proofs.Common.{◌≡◌, ℕ, List, map, arith, sym, subst, ap}
 use Rattle.tsdb_base.specs.declared.point.Range.{Range}
-use Rattle.tsdb_frames.specs.Frames.{slot_of}
+use Rattle.tsdb_frames.proofs.CallLemmas.{same_keeps_to_slot}
 use Rattle.tsdb_memory.proofs.LogLemmas.Changed.{room_itself}
 use Rattle.tsdb_memory.specs.LogState.{log_of, memory_of}
 use Rattle.tsdb_memory.specs.Rows.{ChangesRoom}
@@ -26,12 +26,13 @@ use Rattle.tsdb_serving.proofs.Jobs.{pin_back}
 use Rattle.tsdb_serving.proofs.Lent.{HasPartner, pin_partner, without_pin}
 use Rattle.tsdb_serving.proofs.Out.{no_pin, pin_joins}
 use Rattle.tsdb_serving.proofs.Parts.{same_seen}
-use Rattle.tsdb_serving.specs.Core.{files_of, logged_of}
+use Rattle.tsdb_serving.specs.Core.{files_of, logged_of, store_of}
 use Rattle.tsdb_serving.specs.CoreType.{Core}
 use Rattle.tsdb_serving.specs.Flushing.{EndsLoan, LendsOne, StaysIdle}
 use Rattle.tsdb_serving.specs.Loans.{pins_in}
 use Rattle.tsdb_serving.specs.Pins.{IsNotPinned, IsPinned, IsUnpinned}
-use Rattle.tsdb_serving.specs.Serving.{KeepsWithout, ServesWith}
+use Rattle.tsdb_serving.specs.Places.{AreOfStore}
+use Rattle.tsdb_serving.specs.Serving.{KeepsWithout, ServesWith, log_under}
 use Rattle.tsdb_serving.specs.declared.loan.Loan.TheVariants as loan
 use Rattle.tsdb_state.specs.Steps.{pinned, unpinned}
 
@@ -81,18 +82,19 @@ module _ {J F S R P : Type 0} {means : disk.Ghosts J} {counts : counted.Ghosts J
       serves = serves_pin;
     }
 
-    pub lends_pin : (device : List ℕ) (items : List Item) (range : Range)
+    pub lends_pin : (device : List ℕ) (items : List Item) (range : Range) → AreOfStore (store_of new) (files_of new).places
         → AreFit (map series_entry (memory_of (logged_of old)).series) device items
         → IsPinFor name (files_of old) (memory_of (logged_of old)) device items range pin
         → LendsPin name device items range old new pin
-    lends_pin device items range fit is =
+    lends_pin device items range of fit is =
         let nodes : HaveNodes pin.columns = have_nodes name (files_of old) (memory_of (logged_of old)) device range items
         pin.columns is.columns in
         record {
           fit = fit;
           is = is;
           nodes = nodes;
-          of_store = λ store of. columns_of name (files_of new) store (took.rest.store store of) pin.columns took.held;
+          of_store = columns_of name (files_of new) (store_of old)
+              (subst (λ store. AreOfStore store (files_of new).places) took.rest.store of) pin.columns took.held;
           turn = lends_one;
           tells = λ loans files at next serving. tells_world name old new pin took nodes loans files at next serving;
           replies = λ loans files at next serving.
@@ -118,7 +120,7 @@ module _ {J F S R P : Type 0} {means : disk.Ghosts J} {counts : counted.Ghosts J
     pub ends_pin : (name : R → NamedFile) (store : Store) → EndsLoan name store (loan.Pin pin) old new
     ends_pin name store = record {
       back = pin_back name store old new pin gave;
-      slot = ap (λ logged. slot_of (log_of logged)) gave.rest.logged;
+      slot = same_keeps_to_slot (log_under old) (log_under new) (ap (λ logged. log_of logged) gave.rest.logged);
       next = gave.rest.next;
       limit = gave.rest.limit;
       kept = kept_series old new gave.rest.logged;

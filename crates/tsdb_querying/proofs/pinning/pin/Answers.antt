@@ -9,7 +9,8 @@ use Rattle.tsdb_querying.proofs.pinning.pin.Goals as goal
 
 pub returns-in-Ok-clause-taken : goal.returns-in-Ok-clause-taken
 returns-in-Ok-clause-taken g c = lends_pin g.F.Right.ReadRight.file c.args.core.now c.pin.new.self c.in-Ok.pin
-    c.in-Ok.ensures.taken c.args.device.now c.args.items.now c.args.range.now c.in-Ok.ensures.answer c.in-Ok.ensures.pin
+    c.in-Ok.ensures.taken c.args.device.now c.args.items.now c.args.range.now c.sound.ensures.of_store
+    c.in-Ok.ensures.answer c.in-Ok.ensures.pin
 
 pub returns-in-Err-clause-refused : goal.returns-in-Err-clause-refused
 returns-in-Err-clause-refused g c = (c.in-Err.fault, c.refusal_of.ensures, c.in-Err.ensures.answer)

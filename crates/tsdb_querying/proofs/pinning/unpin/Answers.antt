@@ -1,12 +1,11 @@
-use Rattle.std.proofs.Common.{◌∙◌}
+use Rattle.std.proofs.Common.{sym, ◌∙◌}
 use Rattle.tsdb_querying.proofs.Pinned.{ends_pin, keeps_without}
 use Rattle.tsdb_serving.proofs.Swept.{loan_swept}
 use Rattle.tsdb_serving.specs.declared.loan.Loan.TheVariants as loan
 use Rattle.tsdb_querying.proofs.pinning.unpin.Goals as goal
 
 pub sweep-requires-clause-store : goal.sweep-requires-clause-store
-sweep-requires-clause-store g c = λ lifetimes lives.
-    c.unpin.ensures.rest.store (g.F.Port.Port.store c.args.port.now) c.requires.store
+sweep-requires-clause-store g c = λ lifetimes lives. c.requires.store ∙ sym c.unpin.ensures.rest.store
 
 pub returns-clause-ends : goal.returns-clause-ends
 returns-clause-ends g c = loan_swept g.F.Right.ReadRight.file (g.F.Port.Port.store c.args.port.now) (loan.Pin c.args.pin)

@@ -1,5 +1,6 @@
 use Rattle.std.proofs.Common.{◌∷◌, arith, ap, subst, sym, ◌∙◌}
-use Rattle.tsdb_frames.specs.Frames.{faults_of, slot_of}
+use Rattle.tsdb_frames.proofs.CallLemmas.{same_keeps_to_slot}
+use Rattle.tsdb_frames.specs.Frames.{faults_of}
 use Rattle.tsdb_memory.specs.LogState.{log_of}
 use Rattle.tsdb_model.specs.declared.command.Command.TheVariants.{Select}
 use Rattle.tsdb_model.specs.declared.reply.Reply.TheVariants.{Plain}
@@ -8,10 +9,10 @@ use Rattle.tsdb_querying.proofs.Selected.{first_pin, over_pin, plain_is}
 use Rattle.tsdb_serving.proofs.Causes.{rose_on}
 use Rattle.tsdb_serving.proofs.Out.{pin_is_held}
 use Rattle.tsdb_serving.proofs.Swept.{answers_swept, faults_swept, read_since, stays_swept}
-use Rattle.tsdb_serving.specs.Core.{files_of}
 use Rattle.tsdb_serving.specs.Flushing.{EndsLoan}
-use Rattle.tsdb_serving.specs.Places.{AreOfStore}
+use Rattle.tsdb_serving.specs.Serving.{log_under}
 use Rattle.tsdb_serving.specs.declared.loan.Loan.TheVariants as loan
+use Rattle.tsdb_pins.specs.Reading.{AreColumnsOf}
 use Rattle.tsdb_querying.proofs.query.select.Goals as goal
 
 pub read_pin-reply-requires-clause-nodes : goal.read_pin-reply-requires-clause-nodes
@@ -19,7 +20,8 @@ read_pin-reply-requires-clause-nodes g c = λ lifetimes lives. c.in-Ok.ensures.t
 
 pub read_pin-reply-requires-clause-of_store : goal.read_pin-reply-requires-clause-of_store
 read_pin-reply-requires-clause-of_store g c = λ lifetimes lives.
-    c.in-Ok.ensures.taken.of_store (g.F.Port.Port.store c.args.port.now) c.requires.ready.1.of_store
+    subst (λ store. AreColumnsOf g.F.Right.ReadRight.file store c.in-Ok.pin.columns) (sym c.requires.ready.1.of_store)
+    c.in-Ok.ensures.taken.of_store
 
 pub unpin-requires-clause-held : goal.unpin-requires-clause-held
 unpin-requires-clause-held g c = λ lifetimes lives. pin_is_held g.F.Right.ReadRight.file c.pin.new.core c.in-Ok.pin
@@ -27,9 +29,8 @@ unpin-requires-clause-held g c = λ lifetimes lives. pin_is_held g.F.Right.ReadR
     (c.in-Ok.ensures.taken.turn.lends (g.F.Port.Port.store c.args.port.now) c.requires.ready.0 c.requires.ready.1)
 
 pub unpin-requires-clause-store : goal.unpin-requires-clause-store
-unpin-requires-clause-store g c = λ lifetimes lives. subst (λ store. AreOfStore store (files_of c.pin.new.core).places)
-    (sym c.read_pin-reply.ensures.same_store)
-    (c.in-Ok.ensures.taken.turn.lends (g.F.Port.Port.store c.args.port.now) c.requires.ready.0
+unpin-requires-clause-store g c = λ lifetimes lives. c.read_pin-reply.ensures.same_store
+    ∙ (c.in-Ok.ensures.taken.turn.lends (g.F.Port.Port.store c.args.port.now) c.requires.ready.0
     c.requires.ready.1).of_store
 
 pub returns-in-Ok-clause-answers : goal.returns-in-Ok-clause-answers
@@ -56,7 +57,8 @@ returns-in-Ok-clause-keeps_all g c = over_pin g.F.Right.ReadRight.file (g.F.Port
 
 pub returns-in-Ok-clause-stays : goal.returns-in-Ok-clause-stays
 returns-in-Ok-clause-stays g c = record {
-  slot = c.unpin.ensures.ends.slot ∙ ap (λ log. slot_of log) c.in-Ok.ensures.taken.turn.log;
+  slot = same_keeps_to_slot (log_under c.args.core.now) (log_under c.unpin.new.core)
+      (ap (λ logged. log_of logged) c.unpin.ensures.log ∙ c.in-Ok.ensures.taken.turn.log);
   next = omega (arith, c.unpin.ensures.ends.next, c.in-Ok.ensures.taken.turn.next);
 }
 
@@ -96,7 +98,7 @@ returns-in-Err-clause-keeps_all g c = λ out kept. c.sweep.ensures.keeps_all (g.
 pub returns-in-Err-clause-stays : goal.returns-in-Err-clause-stays
 returns-in-Err-clause-stays g c = stays_swept c.args.core.now c.pin.new.core c.sweep.new.core c.sweep.ensures.listed
     (record {
-      slot = ap (λ log. slot_of log) c.in-Err.ensures.not.log;
+      slot = same_keeps_to_slot (log_under c.args.core.now) (log_under c.pin.new.core) c.in-Err.ensures.not.log;
       next = omega (arith, c.in-Err.ensures.not.next);
     })
 
