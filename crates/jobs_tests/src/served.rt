@@ -1,10 +1,9 @@
 //! A core over a place in memory that serves commands. Depends on nothing here.
 ghost use Rattle.std.specs.Prelude.{◌≡◌, ◌≤◌};
 ghost use Rattle.std.proofs.Props.{props};
+ghost use Rattle.jobs_tests.specs.Free.{IsFree};
 ghost use Rattle.tsdb_core.specs.Limits.{IsPairLimit};
 ghost use Rattle.tsdb_model.specs.Commands.{IsWellFormed};
-ghost use Rattle.tsdb_outside.specs.Files.{Store};
-ghost use Rattle.tsdb_serving.specs.Flushing.{IsReady};
 
 use mem_outside::{Fails, MemFiles, MemJournal, MemPlace};
 use std::alloc::Global;
@@ -28,12 +27,12 @@ pub fn new_place(alloc: Global, journal: &[u64], files: &[u64]) -> Result<MemPla
     Ok(MemPlace::new(alloc, slots, Vec::new(alloc), fails)?)
 }
 
-/// A core that is ready, with its files and a port of theirs.
+/// A core of which nothing is out, with its files and a port of theirs.
 pub struct Served<J: Journal, F: Files> {
     core: Core<J, F>,
     port: F::Port,
     files: F,
-    ghost ready: { IsReady (F.Port.store port) core } by { Prim.hlevel props },
+    ghost free: { IsFree (F.Port.store port) core } by { Prim.hlevel props },
     ghost same: { F.store files ≡ F.Port.store port },
 }
 
@@ -42,20 +41,20 @@ impl<J: Journal, F: Files> Served<J, F> {
     pub fn serve(&mut self, alloc: Global, command: &Command) -> Reply
         requires { IsWellFormed command.now }
     {
-        serve_ready(alloc, &mut self.core, &mut self.port, command)
+        serve_free(alloc, &mut self.core, &mut self.port, command)
     }
 }
 
-/// The reply to a command, after which the core is ready for the next.
-fn serve_ready<J: Journal, F: Files>(
+/// The reply to a command, behind which nothing is out of the core.
+fn serve_free<J: Journal, F: Files>(
     alloc: Global,
     core: &mut Core<J, F>,
     port: &mut F::Port,
     command: &Command,
 ) -> Reply
     requires well_formed { IsWellFormed command.now }
-    requires ready { IsReady (F.Port.store port.old) core.old }
-    ensures ready { IsReady (F.Port.store port.old) core.new }
+    requires free { IsFree (F.Port.store port.old) core.old }
+    ensures free { IsFree (F.Port.store port.old) core.new }
     ensures same_store { F.Port.store port.new ≡ F.Port.store port.old }
 {
     serve(alloc, core, port, command)
@@ -78,7 +77,7 @@ fn new_core<J: Journal, F: Files>(
 ) -> Core<J, F>
     requires limit { IsPairLimit pair_points }
     requires next { 1 ≤ next }
-    ensures { IsReady (F.store files.now) result }
+    ensures { IsFree (F.store files.now) result }
 {
     let kept = KeptFiles::new(alloc, files);
     Core::new(
