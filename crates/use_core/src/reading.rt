@@ -9,8 +9,8 @@ use tsdb_base::Range;
 use tsdb_model::{Item, Line};
 use tsdb_outside::{Files, Journal};
 use tsdb_path::Path;
-use tsdb_pins::{rights_are_of_the_store, select, series_have_a_device};
-use tsdb_querying::Core;
+use tsdb_pins::select;
+use tsdb_querying::{Core, pin, unpin};
 
 /// The rows of the items in the range. The pin goes back whatever came of the reading.
 pub fn read<J: Journal, F: Files>(
@@ -25,16 +25,12 @@ pub fn read<J: Journal, F: Files>(
     ensures ready { IsReady (F.Port.store port.old) core.new }
     ensures same_store { F.Port.store port.new ≡ F.Port.store port.old }
 {
-    let pin = match core.pin(device, items, range) {
+    let pin = match pin(core, device, items, range) {
         Ok(pin) => pin,
         Err(_) => return Err(Fault::Refused),
     };
-    // (what `select` asks of a pin is a law of every pin that a core gives)
-    series_have_a_device(&pin);
-    core.sound();
-    rights_are_of_the_store(&pin);
     let lines = select(alloc, &pin, port);
-    core.unpin(pin);
+    unpin(core, port, pin);
     match lines {
         Ok(lines) => Ok(lines),
         Err(fault) => Err(Fault::Store(fault)),

@@ -1,14 +1,25 @@
 use Rattle.std.proofs.Common.{subst, sym, ◌∙◌}
-use Rattle.tsdb_querying.specs.Core.{files_of, store_of}
+use Rattle.tsdb_querying.proofs.Out.{pin_is_held}
+use Rattle.tsdb_querying.proofs.Selected.{over_pin}
+use Rattle.tsdb_querying.specs.Flushing.{EndsLoan}
+use Rattle.tsdb_querying.specs.Out.{nothing_out}
 use Rattle.tsdb_querying.specs.Reading.{AreColumnsOf}
+use Rattle.tsdb_querying.specs.declared.loan.Loan.TheVariants as loan
 use Rattle.use_core.proofs.reading.read.Goals as goal
 
 pub select-lines-requires-clause-nodes : goal.select-lines-requires-clause-nodes
-select-lines-requires-clause-nodes g c = λ lifetimes lives. c.series_have_a_device.ensures _ _ _ _ _ c.in-Ok.ensures.pin
+select-lines-requires-clause-nodes g c = λ lifetimes lives. c.in-Ok.ensures.taken.nodes
 
 pub select-lines-requires-clause-of_store : goal.select-lines-requires-clause-of_store
 select-lines-requires-clause-of_store g c = λ lifetimes lives.
-    subst (λ store. AreColumnsOf g.F.Right.ReadRight.file store c.in-Ok.pin.columns)
-    (c.in-Ok.ensures.taken.rest.store ∙ sym c.requires.ready.of_store)
-    (c.rights_are_of_the_store.ensures (files_of c.pin.new.self) (store_of c.pin.new.self)
-    c.in-Ok.ensures.taken.held c.sound.ensures.of_store)
+    subst (λ store. AreColumnsOf g.F.Right.ReadRight.file store c.in-Ok.pin.columns) (sym c.requires.ready.of_store)
+    c.in-Ok.ensures.taken.of_store
+
+pub unpin-requires-clause-held : goal.unpin-requires-clause-held
+unpin-requires-clause-held g c = λ lifetimes lives. pin_is_held g.F.Right.ReadRight.file c.pin.new.core c.in-Ok.pin
+    (g.F.Port.Port.store c.args.port.now) nothing_out
+    (c.in-Ok.ensures.taken.turn.lends (g.F.Port.Port.store c.args.port.now) nothing_out c.requires.ready)
+
+pub unpin-requires-clause-store : goal.unpin-requires-clause-store
+unpin-requires-clause-store g c = λ lifetimes lives. c.select-lines.ensures.same_store
+    ∙ (c.in-Ok.ensures.taken.turn.lends (g.F.Port.Port.store c.args.port.now) nothing_out c.requires.ready).of_store
