@@ -2,6 +2,7 @@
 use Rattle.std.proofs.Common.{◌≡◌, ◌≢◌, ◌⊎◌, ℕ, ◌+◌, ◌-◌, ◌<◌, ◌≤◌, true, List, [], ◌∷◌, ◌++◌, length, drop, Option, Result, Ok, Err, inl}
 use Rattle.std.proofs.Common.{inr, zero, suc}
 use Rattle.std.proofs.Common.{ap, arith, refl, sym, subst, ◌∙◌}
+use Rattle.std.specs.List.{AllByRecursion as Each}
 use Rattle.std.specs.Option.{IsSomeAnd, option_map}
 use Rattle.std.specs.Prelude.{None, OnOk, Some, slice_get}
 use Rattle.tsdb_base.specs.Lists.{Among}
