@@ -1,6 +1,6 @@
-//! The work of one turn on a core, whatever else is out of it, and lists of such turns on one thread. Depends on
-//! tsdb_base, tsdb_path, tsdb_model, tsdb_outside, tsdb_frames, tsdb_log, tsdb_marks, tsdb_state, tsdb_memory,
-//! tsdb_fileset, tsdb_tasks and tsdb_core.
+//! The work of one turn on a core, whatever else is out of it, and lists of turns on one thread. Depends on tsdb_base,
+//! tsdb_path, tsdb_model, tsdb_outside, tsdb_frames, tsdb_log, tsdb_marks, tsdb_state, tsdb_memory, tsdb_fileset,
+//! tsdb_tasks and tsdb_core.
 //!
 //! A command is one step of the plain map, whatever the core does for it. `IsAnsweredBy` says which states a core is in
 //! before and after it, and what a stop leaves meanwhile. What is out of a core is a list of loans: a state that the core
