@@ -29,12 +29,7 @@ use tsdb_pin::Pin;
 
 /// Reads what a pin has of these items: a line for each time at which one has a value, or, where aggregates are asked for,
 /// a value or none for each item. Answers `Device` where a file could not be read, and `Memory`.
-pub fn read_pin<F: Files>(
-    alloc: Global,
-    pin: &Pin<F>,
-    port: &mut F::Port,
-    items: &[Item],
-) -> Reply
+pub fn read_pin<F: Files>(alloc: Global, pin: &Pin<F>, port: &mut F::Port, items: &[Item]) -> Reply
     requires nodes { HaveNodes pin.now.columns }
     requires of_store { AreColumnsOf F.Right.file (F.Port.store port.old) pin.now.columns }
     ensures read { (device : List ℕ) (range : Range) (world : World) → TellsWorld F.Right.file pin.now world

@@ -1,5 +1,5 @@
 -- A sweep, and what a command leaves that sweeps at its end.
-use Rattle.std.proofs.Common.{◌≡◌, ℕ, ◌+◌, ◌≤◌, false, List, [], ◌++◌, Option, Result, Ok, Err, arith, refl, sym, ap, subst, ◌∙◌}
+use Rattle.std.proofs.Common.{◌≡◌, ℕ, ◌≤◌, false, List, [], ◌++◌, Option, Result, Ok, Err, arith, refl, sym, ap, subst, ◌∙◌}
 use Rattle.std.specs.List.{AllByRecursion as Each}
 use Rattle.std.specs.Prelude.{OnOk}
 use Rattle.tsdb_base.proofs.Lists.{each_weaker}
@@ -66,14 +66,14 @@ module _ {J F S R P : Type 0} {means : disk.Ghosts J} {counts : counted.Ghosts J
       unsequence = sweeps.all.left.unsequence;
       serving = λ loans files at next serving.
           let gone = may_go sweeps.doubted (files_of old) (files_of old).outgoing in record {
-        outside = without_files gone serving.outside;
-        state = swept_state gone serving.state;
-        seen = sweeps.all.step serving.outside serving.state serving.seen;
-        lent = serving.lent;
-        stands = serving.stands;
-        doubt = serving.doubt;
-        held = held_without gone serving.outside.kept files serving.held;
-      };
+            outside = without_files gone serving.outside;
+            state = swept_state gone serving.state;
+            seen = sweeps.all.step serving.outside serving.state serving.seen;
+            lent = serving.lent;
+            stands = serving.stands;
+            doubt = serving.doubt;
+            held = held_without gone serving.outside.kept files serving.held;
+          };
     }
     sweep_keeps (Err fault) sweeps = record {
       logged = sweeps.logged;

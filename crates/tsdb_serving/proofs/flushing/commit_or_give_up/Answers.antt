@@ -30,7 +30,7 @@ pub returns-then-whole-clause-cause : goal.returns-then-whole-clause-cause
 returns-then-whole-clause-cause g c = c.commit_flush.ensures.cause
 
 pub returns-then-whole-clause-ends : goal.returns-then-whole-clause-ends
-returns-then-whole-clause-ends g c = 
+returns-then-whole-clause-ends g c =
     let file = g.F.Sealed.SealedFile.file in
     let rights = g.F.Sealed.SealedFile.rights in
     let store = store_of c.args.core.now in
@@ -57,7 +57,7 @@ pub returns-clause-cause : goal.returns-clause-cause
 returns-clause-cause g c = λ is. absurd cc
 
 pub returns-clause-ends : goal.returns-clause-ends
-returns-clause-ends g c = 
+returns-clause-ends g c =
     let file = g.F.Sealed.SealedFile.file in
     let rights = g.F.Sealed.SealedFile.rights in
     let store = store_of c.args.core.now in
