@@ -48,7 +48,7 @@ use Rattle.tsdb_serving.proofs.Full.{few_drawn}
 use Rattle.tsdb_serving.proofs.Jobs.{flush_back, loan_over, put_numbers, within}
 use Rattle.tsdb_serving.proofs.Parts as parts
 use Rattle.tsdb_serving.proofs.Steps.{quiet, then}
-use Rattle.tsdb_serving.specs.Flushing.{CountsNothing, EndsFlush, EndsLoan, GoesOn, IsOfJob, LendsFlush}
+use Rattle.tsdb_serving.specs.Flushing.{CountsNothing, TakesFlushBack, EndsLoan, GoesOn, IsOfJob, LendsFlush}
 use Rattle.tsdb_serving.specs.Flushing.{LendsFlushOrNot, LendsOne, Serves, StaysIdle}
 use Rattle.tsdb_serving.specs.Flushing.{faults_under, frozen_under}
 use Rattle.tsdb_serving.specs.Loans.{CanServe, KeepsAll}
@@ -323,7 +323,7 @@ module _ {J F S R P : Type 0} {means : disk.Ghosts J} {counts : counted.Ghosts J
     }
 
     pub flushed : (name : R → NamedFile) (port after : P) (old mid new : Core J F S R P means counts) (job : FlushJob)
-        → LendsFlush name old mid job → EndsFlush name (store port) job mid new → (drawn : ℕ)
+        → LendsFlush name old mid job → TakesFlushBack name (store port) job mid new → (drawn : ℕ)
         → length (drawn_for job) ≤ drawn → store after ≡ store port → faults port ≤ faults after
         → GoesOn store faults port after old new drawn
     flushed name port after old mid new job lent ends drawn few same_store later =
@@ -348,7 +348,7 @@ module _ {J F S R P : Type 0} {means : disk.Ghosts J} {counts : counted.Ghosts J
   module _ (old new : Core J F S R P means counts) (job : FlushJob) (built : NewFiles) (given : Store)
       (of_job : AreFilesOfJob given job built)
       (tells : store.tells ≡ true → TellBytes built) where
-    pub commit_ends : (commit : Commit) → IsCommit old new job built commit → EndsFlush name store job old new
+    pub commit_ends : (commit : Commit) → IsCommit old new job built commit → TakesFlushBack name store job old new
     commit_ends commit is = record {
       ends = record {
         back = flush_back name store old new job built commit is.ends;
@@ -363,7 +363,7 @@ module _ {J F S R P : Type 0} {means : disk.Ghosts J} {counts : counted.Ghosts J
           (put_numbers given job built of_job) others loans files at next one serving commit is;
     }
 
-    pub abandon_ends : IsAbandoned old new job built → EndsFlush name store job old new
+    pub abandon_ends : IsAbandoned old new job built → TakesFlushBack name store job old new
     abandon_ends gives_up = record {
       ends = record {
         back = flush_back name store old new job built commits.Gone gives_up.ends;

@@ -33,7 +33,7 @@ use Rattle.tsdb_serving.proofs.Causes.{rose_later}
 use Rattle.tsdb_serving.proofs.Held.{held_without}
 use Rattle.tsdb_serving.proofs.Jobs.{drawn_first}
 use Rattle.tsdb_serving.proofs.Read.{none_read, read_left}
-use Rattle.tsdb_serving.specs.Flushing.{EndsFlush, EndsLoan, GoesOn, IsOfJob, faults_under}
+use Rattle.tsdb_serving.specs.Flushing.{TakesFlushBack, EndsLoan, GoesOn, IsOfJob, faults_under}
 use Rattle.tsdb_serving.specs.Flushing.{frozen_under}
 use Rattle.tsdb_serving.specs.Serving.{ServesCommand, IsDrawn, IsServedBy, LeavesEither, StaysInPlace, disk_under}
 use Rattle.tsdb_serving.specs.Serving.{log_under, slot_under}
@@ -208,7 +208,7 @@ module _ {J F S R P : Type 0} {means : disk.Ghosts J} {counts : counted.Ghosts J
   }
 
   pub ends_swept : (name : R → NamedFile) (store : Store) (job : FlushJob) (old mid new : Core J F S R P means counts)
-      → KeepsAllButOutgoing mid new → HandsOn mid new → EndsFlush name store job old mid → EndsFlush name store job old new
+      → KeepsAllButOutgoing mid new → HandsOn mid new → TakesFlushBack name store job old mid → TakesFlushBack name store job old new
   ends_swept name store job old mid new keeps hands_on part = record {
     ends = loan_swept name store (loan.Flush job) old mid new keeps hands_on part.ends;
     serves = λ tells others loans files at next one serving. served_on old mid new keeps (IsOfJob job) (IsOfJob job)

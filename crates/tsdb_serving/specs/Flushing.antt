@@ -114,6 +114,7 @@ module _ {J F S R P : Type 0} {means : disk.Ghosts J} {counts : counted.Ghosts J
       pub few : length (drawn_for job) ≤ 2
       pub turn : LendsOne (loan.Flush job) (length (drawn_for job)) old new
 
+    -- a flush was lent, or nothing, by the answer
     abbrev pub LendsFlushOrNot : Core J F S R P means counts → Core J F S R P means counts
         → Result (Option FlushJob) CoreFault → Type 0
     LendsFlushOrNot old new (Ok None) = StaysIdle old new
@@ -130,7 +131,7 @@ module _ {J F S R P : Type 0} {means : disk.Ghosts J} {counts : counted.Ghosts J
       pub kept : KeepsSeries (memory_of (logged_of old)) (memory_of (logged_of new))
       pub later : faults_under old ≤ faults_under new
 
-    -- so too the end of a flush, and where the store tells what its files hold the core is in the states that it was in
-    pub record EndsFlush (store : Store) (job : FlushJob) (old new : Core J F S R P means counts) : Type 0 where
+    -- So too the end of a flush; and where the store tells what its files hold, the core is in the states that it was in.
+    pub record TakesFlushBack (store : Store) (job : FlushJob) (old new : Core J F S R P means counts) : Type 0 where
       pub ends : EndsLoan store (loan.Flush job) old new
       pub serves : store.tells ≡ true → ServesWithout (IsOfJob job) (loan.Flush job) old new

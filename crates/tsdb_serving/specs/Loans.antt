@@ -31,17 +31,19 @@ pub record IsFlushLent (job : FlushJob) (flush : FlushState) : Type 0 where
   pub of : IsFlushOf job flush
 
 module _ {F S R P : Type 0} where
-  -- the flush, the compaction or the pin that a loan is
+  -- the flush that a loan is,
   abbrev pub flush_in : Loan F S R P → List FlushJob
   flush_in (loan.Flush job) = job ∷ []
   flush_in (loan.Compaction job) = []
   flush_in (loan.Pin pin) = []
 
+  -- the compaction,
   abbrev pub job_in : Loan F S R P → List (Job F S R P)
   job_in (loan.Flush job) = []
   job_in (loan.Compaction job) = job ∷ []
   job_in (loan.Pin pin) = []
 
+  -- or the pin
   abbrev pub pin_in : Loan F S R P → List (Pin F S R P)
   pin_in (loan.Flush job) = []
   pin_in (loan.Compaction job) = []

@@ -14,7 +14,7 @@ ghost use Rattle.tsdb_memory.specs.LogState.{memory_of};
 ghost use Rattle.tsdb_base.specs.Causes.{Rose};
 ghost use Rattle.tsdb_memory.specs.Fits.{HasNoPairPoint};
 ghost use Rattle.tsdb_serving.specs.declared.fault.FlushFault.{FlushFault as FaultOf};
-ghost use Rattle.tsdb_serving.specs.Flushing.{EndsFlush, GoesOn, HasFlushCauseOver, IsEndAnswer, LendsFlushOrNot};
+ghost use Rattle.tsdb_serving.specs.Flushing.{TakesFlushBack, GoesOn, HasFlushCauseOver, IsEndAnswer, LendsFlushOrNot};
 ghost use Rattle.tsdb_serving.specs.Flushing.{faults_under, frozen_under};
 ghost use Rattle.tsdb_serving.specs.Loans.{CanServe};
 ghost use Rattle.tsdb_serving.specs.Sweeping.{AreOutgoingRead, LeavesRead, StaysRead};
@@ -250,7 +250,7 @@ fn run_job<J: Journal, F: Files>(
     requires store { F.Port.store port.old ≡ store_of core.old }
     requires oldest { IsOldestPair core.old job }
     ensures flushed { OnOk result (frozen_under core.new ≡ drop 1 (frozen_under core.old)) }
-    ensures ends { EndsFlush F.Right.file (F.Port.store port.old) job core.old core.new }
+    ensures ends { TakesFlushBack F.Right.file (F.Port.store port.old) job core.old core.new }
     ensures swept { LeavesRead (F.Port.faults port.old) (F.Port.faults port.new) core.new }
     ensures same_store { F.Port.store port.new ≡ F.Port.store port.old }
     ensures cause { IfErr result (HasFlushCauseOver F.Port.faults port.old port.new core.old core.new) }
@@ -294,7 +294,7 @@ pub fn end_flush<J: Journal, F: Files>(
     ensures answer { IsEndAnswer whole core.old job result }
     ensures left { result ≡ CommitOf.Done → frozen_under core.new ≡ drop 1 (frozen_under core.old) }
     ensures stays { result ≢ CommitOf.Done → memory_of (logged_of core.new) ≡ memory_of (logged_of core.old) }
-    ensures ends { EndsFlush F.Right.file (F.Port.store port.old) job core.old core.new }
+    ensures ends { TakesFlushBack F.Right.file (F.Port.store port.old) job core.old core.new }
     ensures cause { result ≡ CommitOf.Device → Rose (faults_under core.old) (faults_under core.new) }
     ensures swept { LeavesRead (F.Port.faults port.old) (F.Port.faults port.new) core.new }
     ensures same_store { F.Port.store port.new ≡ F.Port.store port.old }
@@ -318,7 +318,7 @@ fn commit_or_give_up<J: Journal, F: Files>(
     ensures answer { IsEndAnswer whole core.old job result }
     ensures left { result ≡ CommitOf.Done → frozen_under core.new ≡ drop 1 (frozen_under core.old) }
     ensures stays { result ≢ CommitOf.Done → memory_of (logged_of core.new) ≡ memory_of (logged_of core.old) }
-    ensures ends { EndsFlush F.Right.file (store_of core.old) job core.old core.new }
+    ensures ends { TakesFlushBack F.Right.file (store_of core.old) job core.old core.new }
     ensures same_store { store_of core.new ≡ store_of core.old }
     ensures cause { result ≡ CommitOf.Device → Rose (faults_under core.old) (faults_under core.new) }
 {

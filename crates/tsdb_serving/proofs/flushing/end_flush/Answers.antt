@@ -3,7 +3,7 @@ use Rattle.tsdb_core.specs.Files.{AreDone, AreDoneSoFar}
 use Rattle.tsdb_memory.specs.LogState.{memory_of}
 use Rattle.tsdb_serving.proofs.Causes.{rose_on}
 use Rattle.tsdb_serving.proofs.Swept.{ends_swept, no_less_swept}
-use Rattle.tsdb_serving.specs.Flushing.{EndsFlush, faults_under}
+use Rattle.tsdb_serving.specs.Flushing.{TakesFlushBack, faults_under}
 use Rattle.tsdb_serving.proofs.flushing.end_flush.Goals as goal
 
 pub commit_or_give_up-commit-requires-clause-so_far : goal.commit_or_give_up-commit-requires-clause-so_far
@@ -31,7 +31,7 @@ returns-clause-stays g c = λ not. ap memory_of c.sweep.ensures.listed.logged
 pub returns-clause-ends : goal.returns-clause-ends
 returns-clause-ends g c = ends_swept g.F.Right.ReadRight.file (g.F.Port.Port.store c.args.port.now) c.args.job
     c.args.core.now c.commit_or_give_up-commit.new.core c.sweep.new.core c.sweep.ensures.listed c.sweep.ensures.keeps_all
-    (subst (λ store. EndsFlush g.F.Right.ReadRight.file store c.args.job c.args.core.now c.commit_or_give_up-commit.new.core)
+    (subst (λ store. TakesFlushBack g.F.Right.ReadRight.file store c.args.job c.args.core.now c.commit_or_give_up-commit.new.core)
     (sym c.requires.store) c.commit_or_give_up-commit.ensures.ends)
 
 pub returns-clause-cause : goal.returns-clause-cause

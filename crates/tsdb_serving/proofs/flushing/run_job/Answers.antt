@@ -5,7 +5,7 @@ use Rattle.tsdb_serving.proofs.Causes.{commit_cause, file_cause, result_cause, r
 use Rattle.tsdb_serving.proofs.Flushes.{result_flushed}
 use Rattle.tsdb_serving.proofs.Swept.{read_since}
 use Rattle.tsdb_serving.specs.Faults.{HasFlushCause}
-use Rattle.tsdb_serving.specs.Flushing.{EndsFlush, faults_under, frozen_under}
+use Rattle.tsdb_serving.specs.Flushing.{TakesFlushBack, faults_under, frozen_under}
 use Rattle.tsdb_serving.proofs.flushing.run_job.Goals as goal
 
 pub end_flush-requires-clause-store : goal.end_flush-requires-clause-store
@@ -42,7 +42,7 @@ returns-in-Ok-clause-flushed g c = result_flushed c.args.core.now c.args.job
     c.end_flush.ensures.answer c.requires.oldest c.result_of.ensures.ok c.end_flush.ensures.left
 
 pub returns-in-Ok-clause-ends : goal.returns-in-Ok-clause-ends
-returns-in-Ok-clause-ends g c = subst (λ store. EndsFlush g.F.Right.ReadRight.file store c.args.job c.args.core.now
+returns-in-Ok-clause-ends g c = subst (λ store. TakesFlushBack g.F.Right.ReadRight.file store c.args.job c.args.core.now
     c.end_flush.new.core) c.run_flush.ensures.same_store c.end_flush.ensures.ends
 
 pub returns-in-Ok-clause-swept : goal.returns-in-Ok-clause-swept
@@ -58,7 +58,7 @@ returns-in-Ok-clause-cause g c = commit_cause c.result_of.result (faults_under c
     (faults_under c.end_flush.new.core) c.result_of.ensures.device c.end_flush.ensures.cause)
 
 pub returns-in-Err-clause-ends : goal.returns-in-Err-clause-ends
-returns-in-Err-clause-ends g c = subst (λ store. EndsFlush g.F.Right.ReadRight.file store c.args.job c.args.core.now
+returns-in-Err-clause-ends g c = subst (λ store. TakesFlushBack g.F.Right.ReadRight.file store c.args.job c.args.core.now
     c.end_flush-in-Err.new.core) c.run_flush.ensures.same_store c.end_flush-in-Err.ensures.ends
 
 pub returns-in-Err-clause-swept : goal.returns-in-Err-clause-swept
