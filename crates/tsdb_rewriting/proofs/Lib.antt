@@ -1,8 +1,8 @@
 pub mod States
-pub mod Ready
 pub mod Untold
 pub mod Listed
 pub mod Outputs
 pub mod Begun
 pub mod Ended
+pub mod Told
 pub mod Whole

@@ -1,20 +1,17 @@
--- What is known of the output of a job before it is listed, and why a job fails.
+-- What is known of the output of a job before it is listed, what its end means, and why a compaction fails.
 use Rattle.std.proofs.Common.{◌≡◌, ◌≢◌, ◌⊎◌, ℕ, ◌+◌, ◌<◌, ◌≤◌, true, List, Option, None, Some, Result, Ok, Err, inl, inr, arith, zero, suc}
 use Rattle.std.proofs.Common.{ap, refl, sym, subst, ◌∙◌, Bool, false, nat_eq}
 use Rattle.std.proofs.lemmas.Bool.{false≢true}
 use Rattle.std.proofs.lemmas.Bool.Decides.{nat_tests}
 use Rattle.std.specs.Option.{option_map}
-use Rattle.std.specs.Prelude.{IfErr, IfSome, IsErrOf, IsSome, is_some}
+use Rattle.std.specs.Prelude.{IfErr, IfSome, IsErrOf, IsSome, OnErr, OnOk, is_some}
 use Rattle.tsdb_serving.specs.TasksFiles.{file_built}
 use Rattle.tsdb_serving.specs.Finishing.{AreRunsOf}
 use Rattle.tsdb_serving.specs.InputRuns.{InputRuns}
-use Rattle.tsdb_serving.specs.Beginnings.{IsBeginAnswer}
 use Rattle.tsdb_serving.specs.Core.{files_of}
 use Rattle.tsdb_serving.specs.Replacements.{EndsFiles, TellsNew}
-use Rattle.tsdb_serving.specs.CoreFault.{CoreFault}
-use Rattle.tsdb_serving.specs.TheVariants as core_fault
 use Rattle.tsdb_serving.specs.CoreType.{Core}
-use Rattle.tsdb_compactions.specs.Outputs.{IsOutputOf}
+use Rattle.tsdb_compactions.specs.Outputs.{IsBuiltFor, IsOutputOf}
 use Rattle.tsdb_compactions.specs.declared.job.Job.{Job}
 use Rattle.tsdb_serving.specs.TasksFiles.{NewFile}
 use Rattle.tsdb_compactions.specs.Built.{Built}
@@ -23,8 +20,9 @@ use Rattle.tsdb_outside.specs.Causes.{HasStoreCause}
 use Rattle.tsdb_outside.specs.Files.{NamedFile, Store, Tells}
 use Rattle.tsdb_outside.specs.declared.disk.Disk as disk
 use Rattle.tsdb_outside.specs.declared.faults.Counted as counted
-use Rattle.tsdb_rewriting.specs.Rewriting.{IsFinished}
-use Rattle.tsdb_serving.specs.Faults.{of_core_fault, of_file_fault}
+use Rattle.tsdb_outside.specs.declared.faults.Failed.{Failed}
+use Rattle.tsdb_rewriting.specs.Rewriting.{IsEndOf, IsFinished, IsFullAtEnd, IsStartAnswer}
+use Rattle.tsdb_serving.specs.Faults.{of_file_fault}
 use Rattle.tsdb_serving.specs.declared.fault.FlushFault.{FlushFault}
 use Rattle.tsdb_serving.specs.declared.fault.FlushFault.TheVariants as fault
 use Rattle.tsdb_outside.specs.declared.faults.StoreFault.{StoreFault}
@@ -36,11 +34,6 @@ told_bytes None is = absurd (false≢true is)
 told_bytes (Some bytes) is = refl
 
 module _ {F S R P : Type 0} (file : S → NamedFile) where
-  pub output_unread : (output : Option (Built F S R P))
-      → IfSome (option_map (file_built file) output) (λ one. one.token.rights ≡ 0)
-  output_unread None = tt
-  output_unread (Some built) = refl
-
   -- it has the number of the job
   pub output_numbered : (name : R → NamedFile) (rights : S → ℕ) (job : Job F S R P) (output : Option (Built F S R P))
       → IsOutputOf name file rights job output
@@ -55,10 +48,12 @@ module _ {F S R P : Type 0} (file : S → NamedFile) where
   output_tells laws store tells (Some built) is = told_bytes (file built.sealed).bytes
       (sym (laws built.sealed) ∙ ap (λ (s : Store). s.tells) is ∙ tells)
 
--- the fault of a job that could not begin is no fault of a device
-pub not_device : (why : CoreFault) → of_core_fault why ≢ fault.Device
-not_device core_fault.Memory is = absurd cc
-not_device (core_fault.Full counter) is = absurd cc
+-- an output that is one of the job, where there is one
+pub made_of : {F S R P : Type 0} (name : R → NamedFile) (file : S → NamedFile) (rights : S → ℕ) (job : Job F S R P)
+    (output : Option (Built F S R P)) → IsOutputOf name file rights job output
+    → IfSome output (IsBuiltFor name file rights job)
+made_of name file rights job None is = tt
+made_of name file rights job (Some built) is = is
 
 pub not_full : (why : StoreFault) (counter : ℕ) → of_file_fault why ≢ fault.Full counter
 not_full file_fault.Failed counter is = absurd cc
@@ -71,18 +66,22 @@ device_failed file_fault.Memory is = absurd cc
 device_is_not_full : (counter : ℕ) → fault.Device ≢ fault.Full counter
 device_is_not_full counter is = absurd cc
 
--- a commit fails at the device alone
-pub device_alone : (result : Result (Unit {0}) FlushFault) (rose : Type 0)
-    → IfErr result (λ why. (why ≡ fault.Device) × rose)
-    → IfErr result (λ why. (counter : ℕ) → why ≢ fault.Full counter)
-device_alone (Ok value) rose cause = tt
-device_alone (Err why) rose cause = λ counter is. device_is_not_full counter (sym cause.0 ∙ is)
+-- ---- what the end of a whole job means
 
-pub device_cause : (result : Result (Unit {0}) FlushFault) (before after port port_after : ℕ)
-    → IfErr result (λ why. (why ≡ fault.Device) × Rose before after)
+-- it fails at the device alone
+pub device_alone : (ended : Result (Unit {0}) Failed) (result : Result (Unit {0}) FlushFault)
+    → IfErr result (λ why. (why ≡ fault.Device) × OnOk ended ⊥)
+    → IfErr result (λ why. (counter : ℕ) → why ≢ fault.Full counter)
+device_alone ended (Ok value) device = tt
+device_alone ended (Err why) device = λ counter is. device_is_not_full counter (sym device.0 ∙ is)
+
+pub device_cause : (ended : Result (Unit {0}) Failed) (result : Result (Unit {0}) FlushFault)
+    (before after port port_after : ℕ) → IfErr result (λ why. (why ≡ fault.Device) × OnOk ended ⊥)
+    → OnErr ended (Rose before after)
     → IfErr result (λ why. why ≡ fault.Device → Rose before after ⊎ Rose port port_after)
-device_cause (Ok value) before after port port_after cause = tt
-device_cause (Err why) before after port port_after cause = λ is. inl cause.1
+device_cause ended (Ok value) before after port port_after device rose = tt
+device_cause (Ok good) (Err why) before after port port_after device rose = absurd device.1
+device_cause (Err failed) (Err why) before after port port_after device rose = λ is. inl rose
 
 -- a job that could not be run
 pub store_cause : {T : Type 0} (result : Result T StoreFault) (why : StoreFault) (before after : ℕ) → result ≡ Err why
@@ -100,38 +99,6 @@ below_or_not (suc a) (suc b) = by (below_or_not a b)
     by (inl below) = inl (omega (arith, below))
     by (inr not) = inr (omega (arith, not))
 
--- numbers have ended, where order cannot be ruled out
-pub full_counter : {F S R P : Type 0} (IsPlan : InputRuns → Type 0) (next : ℕ) (Order : Type 0)
-    (result : Result (Option (Job F S R P)) CoreFault) (why : CoreFault) → result ≡ Err why → ¬ (¬ Order)
-    → (Order → IsBeginAnswer IsPlan next result) → (counter : ℕ) → of_core_fault why ≡ fault.Full counter
-    → end_of_numbers < counter + 2
-full_counter IsPlan next Order result core_fault.Memory is sure answer counter same = absurd cc
-full_counter IsPlan next Order result (core_fault.Full number) is sure answer counter same =
-    by (below_or_not end_of_numbers (counter + 2))
-  where
-    equal : number ≡ counter
-    equal = cc
-
-    by : (end_of_numbers < counter + 2) ⊎ (counter + 2 ≤ end_of_numbers) → end_of_numbers < counter + 2
-    by (inl below) = below
-    by (inr not) = absurd (sure (λ order.
-        let answered = subst (IsBeginAnswer IsPlan next) is (answer order) in
-        omega (arith, answered.1, answered.2, equal, not)))
-
-full_is_no_memory : {F S R P : Type 0} (result : Result (Option (Job F S R P)) CoreFault) (number : ℕ)
-    → result ≡ Err (core_fault.Full number) → result ≡ Err core_fault.Memory → ⊥
-full_is_no_memory result number is other = cc
-
--- the same of a call that answers where order is not there with a want of memory
-pub full_of_cross : {F S R P : Type 0} (IsPlan : InputRuns → Type 0) (next : ℕ) (Order : Type 0)
-    (result : Result (Option (Job F S R P)) CoreFault) (why : CoreFault) → result ≡ Err why
-    → (¬ Order → result ≡ Err core_fault.Memory) → (Order → IsBeginAnswer IsPlan next result) → (counter : ℕ)
-    → of_core_fault why ≡ fault.Full counter → end_of_numbers < counter + 2
-full_of_cross IsPlan next Order result core_fault.Memory is disorder answer counter same = absurd cc
-full_of_cross IsPlan next Order result (core_fault.Full number) is disorder answer counter same =
-    full_counter IsPlan next Order result (core_fault.Full number) is
-    (λ not. full_is_no_memory result number is (disorder not)) answer counter same
-
 equal_or_not : (a b : ℕ) → (a ≡ b) ⊎ (a ≢ b)
 equal_or_not a b = by (nat_eq a b) refl
   where
@@ -145,31 +112,45 @@ equal_or_not a b = by (nat_eq a b) refl
     by true is = inl (equal is)
     by false is = inr (apart is)
 
--- the counter is the next number
-pub counter_is : {F S R P : Type 0} (IsPlan : InputRuns → Type 0) (next : ℕ) (Order : Type 0)
-    (result : Result (Option (Job F S R P)) CoreFault) (why : CoreFault) → result ≡ Err why → ¬ (¬ Order)
-    → (Order → IsBeginAnswer IsPlan next result) → (counter : ℕ) → of_core_fault why ≡ fault.Full counter
-    → counter ≡ next
-counter_is IsPlan next Order result core_fault.Memory is sure answer counter same = absurd cc
-counter_is IsPlan next Order result (core_fault.Full number) is sure answer counter same = by (equal_or_not counter next)
-  where
-    equal : number ≡ counter
-    equal = cc
+-- ---- a start that fails, where order cannot be ruled out
 
-    by : (counter ≡ next) ⊎ (counter ≢ next) → counter ≡ next
-    by (inl at) = at
-    by (inr other) = absurd (sure (λ order.
-        let answered = subst (IsBeginAnswer IsPlan next) is (answer order) in
-        other (sym equal ∙ answered.2)))
+module _ {F S R P : Type 0} (IsPlan : InputRuns → Type 0) (next : ℕ) (Order : Type 0)
+    (result : Result (Option (Job F S R P)) FlushFault) (disorder : ¬ Order → result ≡ Err fault.Memory)
+    (answer : Order → IsStartAnswer IsPlan next result) where
+  no_memory : (why : FlushFault) → result ≡ Err why → why ≢ fault.Memory → result ≡ Err fault.Memory → ⊥
+  no_memory why is not other = not cc
 
-pub counter_of_cross : {F S R P : Type 0} (IsPlan : InputRuns → Type 0) (next : ℕ) (Order : Type 0)
-    (result : Result (Option (Job F S R P)) CoreFault) (why : CoreFault) → result ≡ Err why
-    → (¬ Order → result ≡ Err core_fault.Memory) → (Order → IsBeginAnswer IsPlan next result) → (counter : ℕ)
-    → of_core_fault why ≡ fault.Full counter → counter ≡ next
-counter_of_cross IsPlan next Order result core_fault.Memory is disorder answer counter same = absurd cc
-counter_of_cross IsPlan next Order result (core_fault.Full number) is disorder answer counter same =
-    counter_is IsPlan next Order result (core_fault.Full number) is
-    (λ not. full_is_no_memory result number is (disorder not)) answer counter same
+  -- no device failed
+  pub never_device : (why : FlushFault) → result ≡ Err why → why ≡ fault.Device → ⊥
+  never_device fault.Memory is device = absurd cc
+  never_device (fault.Full counter) is device = absurd cc
+  never_device fault.Device is device = no_memory fault.Device is (λ same. absurd cc)
+      (disorder (λ order. subst (IsStartAnswer IsPlan next) is (answer order)))
+
+  -- numbers have ended, and the counter is the next one
+  pub full_at_end : (why : FlushFault) → result ≡ Err why → IsFullAtEnd next why
+  full_at_end fault.Memory is counter same = absurd cc
+  full_at_end fault.Device is counter same = absurd cc
+  full_at_end (fault.Full number) is counter same =
+      (low (below_or_not end_of_numbers (counter + 2)), at (equal_or_not counter next))
+    where
+      equal : number ≡ counter
+      equal = cc
+
+      sure : ¬ (¬ Order)
+      sure not = no_memory (fault.Full number) is (λ other. absurd cc) (disorder not)
+
+      low : (end_of_numbers < counter + 2) ⊎ (counter + 2 ≤ end_of_numbers) → end_of_numbers < counter + 2
+      low (inl below) = below
+      low (inr not) = absurd (sure (λ order.
+          let answered = subst (IsStartAnswer IsPlan next) is (answer order) in
+          omega (arith, answered.1, answered.2, equal, not)))
+
+      at : (counter ≡ next) ⊎ (counter ≢ next) → counter ≡ next
+      at (inl is_next) = is_next
+      at (inr other) = absurd (sure (λ order.
+          let answered = subst (IsStartAnswer IsPlan next) is (answer order) in
+          other (sym equal ∙ answered.2)))
 
 module _ {J F S R P : Type 0} {means : disk.Ghosts J} {counts : counted.Ghosts J} where
   -- a commit that is done has replaced the files of the job
@@ -192,3 +173,11 @@ module _ {J F S R P : Type 0} {means : disk.Ghosts J} {counts : counted.Ghosts J
           → IfSome (option_map (λ one. one.entry) o) (λ entry. entry.number.0 ≡ job.output.0)
       number_of None is = tt
       number_of (Some one) is = is
+
+  -- the end of a whole job that went well has replaced its files
+  pub finished_of : (old new : Core J F S R P means counts) (job : Job F S R P) (ended : Result (Unit {0}) Failed)
+      (result : Result (Unit {0}) FlushFault) → IsEndOf true job old new ended → OnOk result (OnErr ended ⊥)
+      → OnOk result (IsFinished job old new)
+  finished_of old new job ended (Err why) is done = tt
+  finished_of old new job (Ok value) (Ok good) is done = is
+  finished_of old new job (Err failed) (Ok good) is done = absurd done

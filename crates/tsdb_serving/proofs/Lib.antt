@@ -24,3 +24,4 @@ pub use Rattle.tsdb_core.proofs.Given
 pub use Rattle.tsdb_core.proofs.InRuns
 pub use Rattle.tsdb_core.proofs.InState
 pub use Rattle.tsdb_core.proofs.OutputsTold
+pub use Rattle.tsdb_tasks.proofs.OutputsBuilt

@@ -24,4 +24,4 @@ pub use laws::{
 pub use loan::Loan;
 pub use showing::show;
 pub use sweeping::sweep;
-pub use tsdb_core::{Core, Options};
+pub use tsdb_core::{Core, CoreFault, Options};
