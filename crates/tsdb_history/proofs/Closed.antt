@@ -98,7 +98,7 @@ some_of (Some x) one = (x, refl)
 
 module _ {J F S R P : Type 0} {means : disk.Ghosts J} {counts : counted.Ghosts J} (core : Core J F S R P means counts)
     (are_kept : AreKept (files_of core)) (rising : AreNumbersRising (files_of core).places) (pair_counts : HasStateCounts core)
-    (put : List StoredFile) (at : plain.State) (next : Option plain.State) (serving : IsServing core put at next) where
+    (put : List StoredFile) (at : plain.State) (next : Option plain.State) (serving : IsServing [] core put at next) where
   abbrev kept : List StoredFile
   kept = serving.outside.kept
 

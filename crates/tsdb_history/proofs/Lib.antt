@@ -7,6 +7,8 @@ pub mod Ends
 pub mod Steps
 pub mod Replies
 pub mod Joined
+pub use Rattle.tsdb_querying.proofs.Out
 pub use Rattle.tsdb_querying.proofs.Pinned
+pub use Rattle.tsdb_querying.proofs.Swept
 pub use Rattle.tsdb_querying.proofs.PinsHeld
 pub use Rattle.tsdb_querying.proofs.Named

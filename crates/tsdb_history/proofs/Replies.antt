@@ -5,6 +5,7 @@ use Rattle.tsdb_base.specs.declared.answers.Answer.{Answer}
 use Rattle.tsdb_base.specs.declared.answers.Answer.TheVariants as answer
 use Rattle.tsdb_base.specs.declared.ids.Space.{Space}
 use Rattle.tsdb_querying.specs.CoreType.{Core}
+use Rattle.tsdb_querying.specs.Loan.{Loan}
 use Rattle.tsdb_frames.proofs.MomentLemmas.{weaker}
 use Rattle.tsdb_history.proofs.Prefixes.{no_change}
 use Rattle.tsdb_model.specs.Apply.{reply_of}
@@ -101,9 +102,9 @@ fault_is_device fault.Memory is = absurd cc
 fault_is_device (fault.Full counter) is = absurd cc
 
 module _ {J F S R P : Type 0} {means : disk.Ghosts J} {counts : counted.Ghosts J} where
-  module _ (command : Command) (writes : WritesFiles command) (Q : ℕ → Type 0) (old new : Core J F S R P means counts)
-      (files : List StoredFile) (at : plain.State) (next : Option plain.State)
-      (kept : IsServedBy Q old new files at next at at) (result : Answer) where
+  module _ (command : Command) (writes : WritesFiles command) (Q : ℕ → Type 0) (loans : List (Loan F S R P))
+      (old new : Core J F S R P means counts) (files : List StoredFile) (at : plain.State) (next : Option plain.State)
+      (kept : IsServedBy Q loans old new files at next at at) (result : Answer) where
     abbrev done : plain.State
     done = state_after at command (Plain answer.Done)
 
@@ -126,7 +127,7 @@ module _ {J F S R P : Type 0} {means : disk.Ghosts J} {counts : counted.Ghosts J
 
     -- what keeps the state answers the command
     pub kept_answered : IsAllowed at command (Plain result)
-        → IsAnsweredBy Q old new files at next command (Plain result)
+        → IsAnsweredBy Q loans old new files at next command (Plain result)
     kept_answered may = record {
       allowed = may;
       served = record {
@@ -135,7 +136,7 @@ module _ {J F S R P : Type 0} {means : disk.Ghosts J} {counts : counted.Ghosts J
         differ = kept.differ;
         doubt = kept.doubt;
         may = may_then kept.may;
-        serving = subst (λ state. IsServing new (files ++ kept.put) state kept.doubt)
+        serving = subst (λ state. IsServing loans new (files ++ kept.put) state kept.doubt)
             (sym (state_stays command writes at result)) kept.serving;
         moments = weaker (disk_under old) (disk_under new) (LeavesEither (files ++ kept.put) (slot_under old) at next at)
             (LeavesEither (files ++ kept.put) (slot_under old) at next done) left_then kept.moments;
@@ -147,30 +148,30 @@ module _ {J F S R P : Type 0} {means : disk.Ghosts J} {counts : counted.Ghosts J
 
   pub writing_done : (command : Command) → WritesFiles command → (old new : Core J F S R P means counts)
       → KeepsServing old new → ServesCommand old new command (Plain answer.Done)
-  writing_done command writes old new keeps files at next serving = kept_answered command writes (IsDrawn old new) old new
-      files at next (keeps files at next serving) answer.Done (done_allowed command writes at)
+  writing_done command writes old new keeps loans files at next serving = kept_answered command writes (IsDrawn old new)
+      loans old new files at next (keeps loans files at next serving) answer.Done (done_allowed command writes at)
 
   pub writing_failed : (command : Command) → WritesFiles command → (old new : Core J F S R P means counts)
       → KeepsServing old new → (why : FlushFault)
       → ((counter : ℕ) → why ≡ fault.Full counter → end_of_numbers < counter + 2) → (result : Answer)
       → result ≡ flush_answer why → ServesCommand old new command (Plain result)
-  writing_failed command writes old new keeps why full result is files at next serving = kept_answered command writes
-      (IsDrawn old new) old new files at next (keeps files at next serving) result
+  writing_failed command writes old new keeps why full result is loans files at next serving = kept_answered command writes
+      (IsDrawn old new) loans old new files at next (keeps loans files at next serving) result
       (subst (λ answer. IsAllowed at command (Plain answer)) (sym is) (fault_allowed command writes at why full))
 
   -- a listing for which memory ended
   pub not_shown : ((journal : J) → IsLawful (means.state journal)) → (core : Core J F S R P means counts)
       → ServesCommand core core ShowFiles (Plain answer.Memory)
-  not_shown laws core files at next serving =
-      unmoved laws core core refl ShowFiles (Plain answer.Memory) (λ change. cc) files at next serving serving refl tt
+  not_shown laws core loans files at next serving = unmoved laws core core refl ShowFiles (Plain answer.Memory)
+      (λ change. cc) loans files at next serving serving refl tt
 
   -- a query fails where a fault is counted, whether the store tells what its files hold or not
   pub sure_cause : (store : Store) (core : Core J F S R P means counts) (reply : Reply) (rose : Type 0)
-      → ((files : List StoredFile) (at : plain.State) (next : Option plain.State) → IsServing core files at next
-      → reply ≡ Plain answer.Device → rose) → (store.tells ≡ false → reply ≡ Plain answer.Device → rose)
+      → ((loans : List (Loan F S R P)) (files : List StoredFile) (at : plain.State) (next : Option plain.State)
+      → IsServing loans core files at next → reply ≡ Plain answer.Device → rose) → (store.tells ≡ false → reply ≡ Plain answer.Device → rose)
       → IsSure store core → reply ≡ Plain answer.Device → rose
   sure_cause store core reply rose told untold (inl none) = untold none
-  sure_cause store core reply rose told untold (inr is) = told is.0 is.1 is.2 is.3
+  sure_cause store core reply rose told untold (inr is) = told is.0 is.1 is.2 is.3 is.4
 
   -- the core is in a state of the plain model behind a command too
   pub sure_still : (store : Store) (old new : Core J F S R P means counts) (command : Command) (reply : Reply)
@@ -180,5 +181,11 @@ module _ {J F S R P : Type 0} {means : disk.Ghosts J} {counts : counted.Ghosts J
     where
       by : (told : Bool) → store.tells ≡ told → IsSure store new
       by false none = inl none
-      by true told = let answered = answers told is.0 is.1 is.2 is.3 in
-          inr (is.0 ++ answered.served.put, state_after is.1 command reply, answered.served.doubt, answered.served.serving)
+      by true told = let answered = answers told is.0 is.1 is.2 is.3 is.4 in
+          inr (
+            is.0,
+            is.1 ++ answered.served.put,
+            state_after is.2 command reply,
+            answered.served.doubt,
+            answered.served.serving,
+          )

@@ -6,6 +6,7 @@ use Rattle.tsdb_base.specs.declared.answers.Answer.TheVariants as answer
 use Rattle.tsdb_querying.specs.Core.{logged_of, next_of}
 use Rattle.tsdb_querying.specs.Listings.{TellsStore}
 use Rattle.tsdb_querying.specs.CoreType.{Core}
+use Rattle.tsdb_querying.specs.Loan.{Loan}
 use Rattle.tsdb_frames.proofs.CallLemmas.{keeps_to_slot_on}
 use Rattle.tsdb_frames.proofs.MomentLemmas.{leaves_on, weaker}
 use Rattle.tsdb_history.proofs.Ends.{last_ends, last_listed, none_ends, none_listed}
@@ -36,9 +37,9 @@ use Rattle.tsdb_querying.proofs.Parts.{more_files}
 use Rattle.tsdb_querying.proofs.Steps.{idle, image_left}
 use Rattle.tsdb_querying.proofs.ServingAnswered.{stamp_is}
 use Rattle.tsdb_querying.specs.Flushing.{faults_under}
-use Rattle.tsdb_querying.specs.Sweeping.{StaysEmpty}
+use Rattle.tsdb_querying.specs.Sweeping.{StaysRead}
 use Rattle.tsdb_querying.specs.Serving as serving
-use Rattle.tsdb_querying.specs.Serving.{ServesCommand, HasFullCause, IsAnsweredBy, IsDrawn, IsServedBy, IsServing, MayBeWritten}
+use Rattle.tsdb_querying.specs.Serving.{HasFullCause, IsAnsweredBy, IsDrawn, IsServedBy, IsServing, MayBeWritten}
 use Rattle.tsdb_querying.specs.Serving.{LeavesDoubt, LeavesEither, StaysInPlace, disk_under, log_under, slot_under}
 
 -- this is held of a file
@@ -55,12 +56,12 @@ module _ {J F S R P : Type 0} {means : disk.Ghosts J} {counts : counted.Ghosts J
         next = omega (arith, drawn, next);
       }
 
-  -- where no file was on its way out none is behind one step and then another
-  pub empty_on : (first mid new : Core J F S R P means counts) (before between now : ℕ) → before ≤ between → between ≤ now
-      → faults_under mid ≤ faults_under new → StaysEmpty before between first mid → StaysEmpty between now mid new
-      → StaysEmpty before now first new
-  empty_on first mid new before between now earlier later under one two = λ empty calm none.
-      two (one empty (λ rose. calm (still before between now rose later)) (omega (arith, none, under)))
+  -- where only files that are read were on their way out only such are behind one step and then another
+  pub read_on : (first mid new : Core J F S R P means counts) (before between now : ℕ) → before ≤ between → between ≤ now
+      → faults_under mid ≤ faults_under new → StaysRead before between first mid → StaysRead between now mid new
+      → StaysRead before now first new
+  read_on first mid new before between now earlier later under one two = λ read calm none.
+      two (one read (λ rose. calm (still before between now rose later)) (omega (arith, none, under)))
       (λ rose. calm (since before between now earlier rose)) none
     where
       still : (a b c : ℕ) → Rose a b → b ≤ c → Rose a c
@@ -72,9 +73,9 @@ module _ {J F S R P : Type 0} {means : disk.Ghosts J} {counts : counted.Ghosts J
 module _ {J F S R P : Type 0} {means : disk.Ghosts J} {counts : counted.Ghosts J}
     (laws : (journal : J) → IsLawful (means.state journal)) where
   -- before the first command
-  pub none_served : (core : Core J F S R P means counts) (files : List StoredFile) (start : plain.State)
-      → IsServing core files start None → HasServed core core files start []
-  none_served core files start is = record {
+  pub none_served : (loans : List (Loan F S R P)) (core : Core J F S R P means counts) (files : List StoredFile)
+      (start : plain.State) → IsServing loans core files start None → HasServed loans core core files start []
+  none_served loans core files start is = record {
     after = start;
     legal = refl;
     reached = tt;
@@ -84,19 +85,22 @@ module _ {J F S R P : Type 0} {means : disk.Ghosts J} {counts : counted.Ghosts J
     doubt = None;
     may = inl refl;
     settled = λ ends. refl;
-    serving = more_files laws core files [] start None is;
+    serving = more_files laws loans core files [] start None is;
     moments = idle (disk_under core) (LeavesPrefix (files ++ []) (slot_under core) start [])
         (laws core.logged.frames.journal)
         (λ image left there holds. whole_prefix (StoreStandsFor there (in_slot (slot_under core) image)) start start [] refl
-        (inl (image_left laws core files start None image is left there (each_left (Held there) files [] holds))));
+        (inl (image_left laws loans core files start None image is left there (each_left (Held there) files [] holds))));
     listed = λ listing ends. absurd (none_listed listing ends);
     flushed = λ ends. absurd (none_ends IsFlushDone (λ e. e.command ≡ ShowFiles) ends);
   }
 
-  module _ (first mid new : Core J F S R P means counts) (files : List StoredFile) (start : plain.State)
-      (entries : List Entry) (command : Command) (reply : Reply) (so_far : HasServed first mid files start entries)
-      (place : StaysInPlace first mid) (stays : StaysInPlace mid new) (full : HasFullCause new reply)
-      (answers : ServesCommand mid new command reply)
+  -- a command that left these loans
+  module _ (loans left : List (Loan F S R P)) (first mid new : Core J F S R P means counts) (files : List StoredFile)
+      (start : plain.State) (entries : List Entry) (command : Command) (reply : Reply)
+      (so_far : HasServed loans first mid files start entries) (place : StaysInPlace first mid)
+      (stays : StaysInPlace mid new) (full : HasFullCause new reply)
+      (answered : IsAnsweredBy (IsDrawn mid new) left mid new (files ++ so_far.put) so_far.after so_far.doubt command
+      reply)
       (shows : (listing : Listing) → command ≡ ShowFiles → reply ≡ Files listing → TellsStore new listing)
       (flushes : command ≡ Flush → reply ≡ Plain answer.Done → HasFlushed new) (shown : command ≡ ShowFiles → new ≡ mid) where
     abbrev at : plain.State
@@ -117,9 +121,6 @@ module _ {J F S R P : Type 0} {means : disk.Ghosts J} {counts : counted.Ghosts J
     abbrev held : List StoredFile
     held = files ++ so_far.put
 
-    answered : IsAnsweredBy (IsDrawn mid new) mid new held at so_far.doubt command reply
-    answered = answers held at so_far.doubt so_far.serving
-
     legal_all : IsLegal start all now
     legal_all = legal_more start at entries command reply so_far.legal answered.allowed
 
@@ -137,7 +138,7 @@ module _ {J F S R P : Type 0} {means : disk.Ghosts J} {counts : counted.Ghosts J
 
     -- the command led to the state `later`, where it took effect
     module _ (later then : plain.State) (same : then ≡ now)
-        (served : IsServedBy (IsDrawn mid new) mid new held at so_far.doubt later then)
+        (served : IsServedBy (IsDrawn mid new) left mid new held at so_far.doubt later then)
         (stands_later : (there : stores.BytesByNumber) (bytes : List ℕ) → StoreStandsFor there bytes later
         → StandsAfterPrefix (StoreStandsFor there bytes) start all) where
       abbrev put : List StoredFile
@@ -183,7 +184,7 @@ module _ {J F S R P : Type 0} {means : disk.Ghosts J} {counts : counted.Ghosts J
 
       same_stamp : (counter : ℕ) → reply ≡ Plain (answer.Full counter) → (memory_of (logged_of new)).stamp ≡ at.stamp
       same_stamp counter is =
-          stamp_is new (held ++ served.put) then served.doubt served.serving ∙ ap (λ (s : plain.State). s.stamp) same
+          stamp_is left new (held ++ served.put) then served.doubt served.serving ∙ ap (λ (s : plain.State). s.stamp) same
           ∙ ap (λ r. (state_after at command r).stamp) is
 
       last_within : IsFullWithin (next_of new) at reply
@@ -200,7 +201,7 @@ module _ {J F S R P : Type 0} {means : disk.Ghosts J} {counts : counted.Ghosts J
           (so_far.flushed rest.0))
           (last_ends IsFlushDone (λ e. e.command ≡ ShowFiles) entries entry ends)
 
-      led : MayDoubtAfter all now served.doubt → (EndsDone all → served.doubt ≡ None) → HasServed first new files start all
+      led : MayDoubtAfter all now served.doubt → (EndsDone all → served.doubt ≡ None) → HasServed left first new files start all
       led may settled = record {
         after = now;
         legal = legal_all;
@@ -216,8 +217,8 @@ module _ {J F S R P : Type 0} {means : disk.Ghosts J} {counts : counted.Ghosts J
         doubt = served.doubt;
         may = may;
         settled = settled;
-        serving = subst (λ list. IsServing new list now served.doubt) joined
-            (subst (λ state. IsServing new (held ++ served.put) state served.doubt) same served.serving);
+        serving = subst (λ list. IsServing left new list now served.doubt) joined
+            (subst (λ state. IsServing left new (held ++ served.put) state served.doubt) same served.serving);
         moments = leaves_on (disk_under first) (disk_under mid) (disk_under new) (laws new.logged.frames.journal) AtAll
             (weaker (disk_under first) (disk_under mid) (LeavesPrefix held (slot_under first) start entries) AtAll begins
             so_far.moments)
@@ -275,7 +276,7 @@ module _ {J F S R P : Type 0} {means : disk.Ghosts J} {counts : counted.Ghosts J
         by (inr rest) = query_doubt answered.served.doubt rest.1 (so_far.settled rest.0) answered.doubtful
 
     tried : ((there : stores.BytesByNumber) (bytes : List ℕ) → StoreStandsFor there bytes done
-        → StandsAfterPrefix (StoreStandsFor there bytes) start all) → HasServed first new files start all
+        → StandsAfterPrefix (StoreStandsFor there bytes) start all) → HasServed left first new files start all
     tried stands = led done now refl answered.served stands doubted settled_then
 
     -- it was done
@@ -297,7 +298,7 @@ module _ {J F S R P : Type 0} {means : disk.Ghosts J} {counts : counted.Ghosts J
       other : ¬ IsDoneChange entry
       other is = not (inl is.1)
 
-      kept : IsServedBy (IsDrawn mid new) mid new held at so_far.doubt at at
+      kept : IsServedBy (IsDrawn mid new) left mid new held at so_far.doubt at at
       kept = answered.unwritten change not
 
       kept_doubt : (doubt : Option plain.State) → serving.MayDoubt so_far.doubt at at doubt → MayDoubtAfter all at doubt
@@ -314,14 +315,14 @@ module _ {J F S R P : Type 0} {means : disk.Ghosts J} {counts : counted.Ghosts J
           by (inl done) = absurd (other done)
           by (inr rest) = absurd (rest.1.0 change)
 
-      not_tried : HasServed first new files start all
+      not_tried : HasServed left first new files start all
       not_tried = led at at (sym (state_stays at command reply other)) kept stands_still
           (subst (λ state. MayDoubtAfter all state kept.doubt) (sym (state_stays at command reply other))
           (kept_doubt kept.doubt kept.may)) no_end
 
     by_device : IsChange command → reply ≡ Plain answer.Device
         → (reply_of at.world command ≡ Plain answer.Done) ⊎ (reply_of at.world command ≢ Plain answer.Done)
-        → HasServed first new files start all
+        → HasServed left first new files start all
     by_device change is (inl accepts) = tried (doubt_stands change is accepts)
     by_device change is (inr refuses) = not_tried change (neither is refuses)
       where
@@ -333,7 +334,7 @@ module _ {J F S R P : Type 0} {means : disk.Ghosts J} {counts : counted.Ghosts J
 
     by_reply : IsChange command → (reply ≡ Plain answer.Done)
         ⊎ ((reply ≡ Plain answer.Device) ⊎ ((reply ≢ Plain answer.Done) × (reply ≢ Plain answer.Device)))
-        → HasServed first new files start all
+        → HasServed left first new files start all
     by_reply change (inl is) = tried (done_stands is)
     by_reply change (inr (inl is)) = by_device change is (done_or_not (reply_of at.world command))
     by_reply change (inr (inr other)) = not_tried change (neither other)
@@ -342,10 +343,10 @@ module _ {J F S R P : Type 0} {means : disk.Ghosts J} {counts : counted.Ghosts J
         neither other (inl done) = other.0 done
         neither other (inr device) = other.1 device.0
 
-    by_command : IsChange command ⊎ (¬ IsChange command) → HasServed first new files start all
+    by_command : IsChange command ⊎ (¬ IsChange command) → HasServed left first new files start all
     by_command (inl change) = by_reply change (is_reply reply)
     by_command (inr none) = tried (λ there bytes stands.
         stands_still there bytes (subst (StoreStandsFor there bytes) (no_change at command none) stands))
 
-    pub one_more_served : HasServed first new files start all
+    pub one_more_served : HasServed left first new files start all
     one_more_served = by_command (is_change command)

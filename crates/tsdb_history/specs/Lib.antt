@@ -7,6 +7,9 @@ pub mod Listings
 pub mod Closing
 pub mod Joining
 pub use Rattle.tsdb_querying.specs.Flushing
+pub use Rattle.tsdb_querying.specs.Loan
+pub use Rattle.tsdb_querying.specs.Loans
+pub use Rattle.tsdb_querying.specs.Out
 pub use Rattle.tsdb_querying.specs.Serving
 pub use Rattle.tsdb_querying.specs.Core
 pub use Rattle.tsdb_querying.specs.CoreType

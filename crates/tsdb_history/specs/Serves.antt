@@ -7,6 +7,7 @@ use Rattle.tsdb_querying.specs.Beginnings.{IsCrossRuns, IsInnerRuns}
 use Rattle.tsdb_querying.specs.Core.{next_of, working_of}
 use Rattle.tsdb_querying.specs.Listings.{TellsStore}
 use Rattle.tsdb_querying.specs.CoreType.{Core}
+use Rattle.tsdb_querying.specs.Loan.{Loan}
 use Rattle.tsdb_history.specs.History.{IsHistory, IsInLineOrder}
 use Rattle.tsdb_history.specs.Prefixes.{EndsDone, EndsFlushed, EndsListed, IsInDoubt, StandsAfterPrefix}
 use Rattle.tsdb_history.specs.Reach.{AreFullWithin}
@@ -60,11 +61,11 @@ module _ {J F S R P : Type 0} {means : disk.Ghosts J} {counts : counted.Ghosts J
   HasCompacted Flush old new = ⊤
   HasCompacted ShowFiles old new = ⊤
 
-  -- These entries were served, beside the files that were there. The files that were put have different numbers, which
+  -- These entries were served, beside the files that were there, and these loans are out. The files that were put have different numbers, which
   -- were drawn meanwhile. A stop at any moment left the state after a prefix of the entries. A listing that was
   -- answered last is that of the core; after a flush that was done last all points are in files.
-  pub record HasServed (old new : Core J F S R P means counts) (files : List StoredFile) (start : plain.State)
-      (entries : List Entry)
+  pub record HasServed (loans : List (Loan F S R P)) (old new : Core J F S R P means counts) (files : List StoredFile)
+      (start : plain.State) (entries : List Entry)
       : Type 0 where
     pub after : plain.State
     pub legal : IsLegal start entries after
@@ -75,19 +76,19 @@ module _ {J F S R P : Type 0} {means : disk.Ghosts J} {counts : counted.Ghosts J
     pub doubt : Option plain.State
     pub may : MayDoubtAfter entries after doubt
     pub settled : EndsDone entries → doubt ≡ None
-    pub serving : IsServing new (files ++ put) after doubt
+    pub serving : IsServing loans new (files ++ put) after doubt
     pub moments : LeavesOnly (disk_under old) (disk_under new)
         (LeavesPrefix (files ++ put) (slot_under old) start entries)
     pub listed : (listing : Listing) → EndsListed entries listing → TellsStore new listing
     pub flushed : EndsFlushed entries → HasFlushed new
 
   -- The commands of a script were executed, in the order of its lines. Where the store tells what its files hold, they
-  -- were served from each state that the core may have been in.
+  -- were served from each state that the core may have been in, with all that is out.
   pub record HasExecuted (script : List Numbered) (history : List Told) (tells : Bool)
       (old new : Core J F S R P means counts)
       : Type 0 where
     pub entries : List Entry
     pub history_of : IsHistory script history entries
     pub in_line_order : IsInLineOrder script history
-    pub served : tells ≡ true → (files : List StoredFile) (start : plain.State) → IsServing old files start None
-        → HasServed old new files start entries
+    pub served : tells ≡ true → (loans : List (Loan F S R P)) (files : List StoredFile) (start : plain.State)
+        → IsServing loans old files start None → HasServed loans old new files start entries

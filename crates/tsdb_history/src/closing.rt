@@ -17,7 +17,7 @@ use tsdb_querying::Core;
 pub fn close<J: Journal, F: Files>(core: Core<J, F>, files: &mut F) -> J
     requires ready { IsReady (F.store files.old) core }
     ensures closed { F.at_rest files.old ≡ Some [] → (put : List StoredFile) (at : plain.State)
-        (next : Option plain.State) → IsServing core put at next → IsSomeAnd (F.at_rest files.new)
+        (next : Option plain.State) → IsServing [] core put at next → IsSomeAnd (F.at_rest files.new)
         (λ stored. IsCoreClosed core (J.state result) stored (Rose (faults_under core) (J.faults result)) put at next) }
     ensures aside { LeavesAside (log_under core) (J.state result) }
     ensures later { faults_under core ≤ J.faults result }

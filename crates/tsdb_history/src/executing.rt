@@ -6,9 +6,10 @@ ghost use Rattle.tsdb_history.specs.Reach.{max_drawn};
 ghost use Rattle.tsdb_history.specs.Rooms.{IsRoomFor};
 ghost use Rattle.tsdb_history.specs.Serves.{HasExecuted};
 ghost use Rattle.tsdb_base.specs.Limits.{max_commands};
-ghost use Rattle.tsdb_querying.specs.Flushing.{IsReady, faults_under};
+ghost use Rattle.tsdb_querying.specs.Flushing.{faults_under};
+ghost use Rattle.tsdb_querying.specs.Loans.{CanServe, KeepsAll};
 ghost use Rattle.tsdb_querying.specs.Serving.{IsSure, StaysInPlace};
-ghost use Rattle.tsdb_querying.specs.Sweeping.{StaysEmpty};
+ghost use Rattle.tsdb_querying.specs.Sweeping.{StaysRead};
 
 use crate::room::ReplyRoom;
 use crate::serving::serve;
@@ -29,9 +30,9 @@ pub fn execute<J: Journal, F: Files>(
 ) -> List<Told>
     requires script { CanExecute script.now }
     requires room { IsRoomFor (length script.now) room }
-    requires ready { IsReady (F.Port.store port.old) core.old }
+    requires ready { CanServe (F.Port.store port.old) core.old }
     ensures executed { HasExecuted script.now result (F.Port.store port.old).tells core.old core.new }
-    ensures ready { IsReady (F.Port.store port.old) core.new }
+    ensures keeps_all { KeepsAll (F.Port.store port.old) core.old core.new }
     ensures stays { StaysInPlace core.old core.new }
     ensures draws { next_of core.new ≤ next_of core.old + max_drawn * length script.now }
     ensures same_store { F.Port.store port.new ≡ F.Port.store port.old }
@@ -40,7 +41,7 @@ pub fn execute<J: Journal, F: Files>(
         ≤ faults_under core.new + F.Port.faults port.new }
     ensures later { (faults_under core.old ≤ faults_under core.new)
         × (F.Port.faults port.old ≤ F.Port.faults port.new) }
-    ensures swept { StaysEmpty (F.Port.faults port.old) (F.Port.faults port.new) core.old core.new }
+    ensures swept { StaysRead (F.Port.faults port.old) (F.Port.faults port.new) core.old core.new }
 {
     let ReplyRoom {
         mut counts,

@@ -12,16 +12,17 @@ ghost use Rattle.tsdb_model.specs.declared.reply.Listing.{Listing};
 ghost use Rattle.tsdb_model.specs.declared.reply.Reply.{Reply as ReplyOf};
 ghost use Rattle.tsdb_base.specs.Causes.{Rose};
 ghost use Rattle.tsdb_rewriting.specs.Rewriting.{IsCompacted};
-ghost use Rattle.tsdb_querying.specs.Flushing.{HasCountedFault, IsReady, Serves, faults_under};
+ghost use Rattle.tsdb_querying.specs.Flushing.{HasCountedFault, Serves};
+ghost use Rattle.tsdb_querying.specs.Loans.{CanServe};
 ghost use Rattle.tsdb_querying.specs.Serving.{ServesCommand, HasFullCause, IsSure};
-ghost use Rattle.tsdb_querying.specs.Sweeping.{LeavesNothing, StaysEmpty};
+ghost use Rattle.tsdb_querying.specs.Sweeping.{LeavesRead, StaysRead};
 
 use std::alloc::Global;
 use tsdb_base::{Answer, Range, Space};
-use tsdb_model::{Command, Item, Reply, ask_aggregates};
+use tsdb_model::{Command, Item, Reply};
 use tsdb_outside::{Files, Journal};
 use tsdb_path::Path;
-use tsdb_querying::{Core, create, delete, flush, insert, select_aggregates, select_rows, show};
+use tsdb_querying::{Core, create, delete, flush, insert, select, show};
 use tsdb_rewriting::{compact_cross, compact_inner};
 
 /// Serves a command: the core makes one step of the plain map, whatever it does for it.
@@ -32,7 +33,7 @@ pub fn serve<J: Journal, F: Files>(
     command: &Command,
 ) -> Reply
     requires well_formed { IsWellFormed command.now }
-    requires ready { IsReady (F.Port.store port.old) core.old }
+    requires ready { CanServe (F.Port.store port.old) core.old }
     ensures answers { (F.Port.store port.old).tells ≡ true → ServesCommand core.old core.new command.now result }
     ensures serves { Serves F.Port.store F.Port.faults port.old port.new core.old core.new max_drawn }
     ensures full { HasFullCause core.new result }
@@ -43,7 +44,7 @@ pub fn serve<J: Journal, F: Files>(
     ensures listed { (listing : Listing) → command.now ≡ CommandOf.ShowFiles → result ≡ ReplyOf.Files listing
         → TellsStore core.new listing }
     ensures shown { command.now ≡ CommandOf.ShowFiles → core.new ≡ core.old }
-    ensures swept { StaysEmpty (F.Port.faults port.old) (F.Port.faults port.new) core.old core.new }
+    ensures swept { StaysRead (F.Port.faults port.old) (F.Port.faults port.new) core.old core.new }
 {
     match command {
         Command::Create(schema) => Reply::Plain(create(core, schema)),
@@ -70,19 +71,15 @@ fn query<J: Journal, F: Files>(
     items: &[Item],
     range: &Range,
 ) -> Reply
-    requires ready { IsReady (F.Port.store port.old) core.old }
+    requires ready { CanServe (F.Port.store port.old) core.old }
     ensures answers { ServesCommand core.old core.new (CommandOf.Select device.now items.now range.now) result }
     ensures serves { Serves F.Port.store F.Port.faults port.old port.new core.old core.new 0 }
     ensures no_full { (counter : ℕ) → result ≢ ReplyOf.Plain (AnswerOf.Full counter) }
     ensures cause { IsSure (F.Port.store port.old) core.old → result ≡ ReplyOf.Plain AnswerOf.Device
         → Rose (F.Port.faults port.old) (F.Port.faults port.new) }
-    ensures faults { faults_under core.new ≡ faults_under core.old }
-    ensures swept { LeavesNothing (F.Port.faults port.old) (F.Port.faults port.new) core.new }
+    ensures swept { LeavesRead (F.Port.faults port.old) (F.Port.faults port.new) core.new }
 {
-    if ask_aggregates(items) {
-        return select_aggregates(alloc, core, port, device, items, range);
-    }
-    select_rows(alloc, core, port, device, items, range)
+    select(alloc, core, port, device, items, range)
 }
 
 /// What a flush is answered.
@@ -91,14 +88,14 @@ fn serve_flush<J: Journal, F: Files>(
     core: &mut Core<J, F>,
     port: &mut F::Port,
 ) -> Answer
-    requires ready { IsReady (F.Port.store port.old) core.old }
+    requires ready { CanServe (F.Port.store port.old) core.old }
     ensures answers { (F.Port.store port.old).tells ≡ true
         → ServesCommand core.old core.new CommandOf.Flush (ReplyOf.Plain result) }
     ensures serves { Serves F.Port.store F.Port.faults port.old port.new core.old core.new 6 }
     ensures full { HasFullCause core.new (ReplyOf.Plain result) }
     ensures cause { result ≡ AnswerOf.Device → HasCountedFault F.Port.faults port.old port.new core.old core.new }
     ensures flushed { result ≡ AnswerOf.Done → HasFlushed core.new }
-    ensures swept { LeavesNothing (F.Port.faults port.old) (F.Port.faults port.new) core.new }
+    ensures swept { LeavesRead (F.Port.faults port.old) (F.Port.faults port.new) core.new }
 {
     match flush(alloc, core, port) {
         Ok(()) => Answer::Done,
@@ -113,7 +110,7 @@ fn serve_inner<J: Journal, F: Files>(
     port: &mut F::Port,
     space: Space,
 ) -> Answer
-    requires ready { IsReady (F.Port.store port.old) core.old }
+    requires ready { CanServe (F.Port.store port.old) core.old }
     ensures answers { (F.Port.store port.old).tells ≡ true
         → ServesCommand core.old core.new (CommandOf.CompactInner space) (ReplyOf.Plain result) }
     ensures serves { Serves F.Port.store F.Port.faults port.old port.new core.old core.new 1 }
@@ -121,7 +118,7 @@ fn serve_inner<J: Journal, F: Files>(
     ensures cause { IsSure (F.Port.store port.old) core.old → result ≡ AnswerOf.Device
         → HasCountedFault F.Port.faults port.old port.new core.old core.new }
     ensures compacted { result ≡ AnswerOf.Done → IsCompacted (IsInnerRuns space core.old) space core.old core.new }
-    ensures swept { LeavesNothing (F.Port.faults port.old) (F.Port.faults port.new) core.new }
+    ensures swept { LeavesRead (F.Port.faults port.old) (F.Port.faults port.new) core.new }
 {
     match compact_inner(alloc, core, port, space) {
         Ok(()) => Answer::Done,
@@ -135,7 +132,7 @@ fn serve_cross<J: Journal, F: Files>(
     core: &mut Core<J, F>,
     port: &mut F::Port,
 ) -> Answer
-    requires ready { IsReady (F.Port.store port.old) core.old }
+    requires ready { CanServe (F.Port.store port.old) core.old }
     ensures answers { (F.Port.store port.old).tells ≡ true
         → ServesCommand core.old core.new CommandOf.CompactCross (ReplyOf.Plain result) }
     ensures serves { Serves F.Port.store F.Port.faults port.old port.new core.old core.new 1 }
@@ -143,7 +140,7 @@ fn serve_cross<J: Journal, F: Files>(
     ensures cause { IsSure (F.Port.store port.old) core.old → result ≡ AnswerOf.Device
         → HasCountedFault F.Port.faults port.old port.new core.old core.new }
     ensures compacted { result ≡ AnswerOf.Done → IsCompacted (IsCrossRuns core.old) SequenceSpace core.old core.new }
-    ensures swept { LeavesNothing (F.Port.faults port.old) (F.Port.faults port.new) core.new }
+    ensures swept { LeavesRead (F.Port.faults port.old) (F.Port.faults port.new) core.new }
 {
     match compact_cross(alloc, core, port) {
         Ok(()) => Answer::Done,

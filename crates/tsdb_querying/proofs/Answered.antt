@@ -147,7 +147,7 @@ refusal_stays at device items range fault.Memory = refl
 module _ {J F S R P : Type 0} {means : disk.Ghosts J} {counts : counted.Ghosts J}
     (laws : (journal : J) → IsLawful (means.state journal)) where
   -- a command that changes nothing, after which log and state are as before it
-  unmoved : (old new : Core J F S R P means counts) → log_of (logged_of new) ≡ log_of (logged_of old)
+  pub unmoved : (old new : Core J F S R P means counts) → log_of (logged_of new) ≡ log_of (logged_of old)
       → (asked : Command) (reply : Reply) → ¬ IsChange asked → (loans : List (Loan F S R P)) (files : List StoredFile)
       (at : plain.State) (next : Option plain.State) → IsServing loans old files at next
       → IsServing loans new files at next → state_after at asked reply ≡ at → IsAllowed at asked reply

@@ -77,7 +77,7 @@ numbered_once (file ∷ files) differ (suc i) (suc j) n at other = ap suc (numbe
 
 module _ {J F S R P : Type 0} {means : disk.Ghosts J} {counts : counted.Ghosts J}
     (core last : Core J F S R P means counts) (files : List StoredFile) (start : plain.State) (entries : List Entry)
-    (served : HasServed core last files start entries) (slot : slot_under core ≡ A)
+    (served : HasServed [] core last files start entries) (slot : slot_under core ≡ A)
     (stays : slot_under last ≡ slot_under core) (new : DiskState) (laws : IsLawful new) (stored : List StoredFile)
     (rose : Type 0) (closed : IsCoreClosed last new stored rose (files ++ served.put) served.after served.doubt) where
   in_a : slot_under last ≡ A

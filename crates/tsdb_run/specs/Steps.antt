@@ -82,13 +82,13 @@ module _ {J F S R P : Type 0} {means : disk.Ghosts J} {counts : counted.Ghosts J
     pub history_of : IsHistory script history entries
     pub in_line_order : IsInLineOrder script history
     pub served : at_rest ≡ Some [] → (files : List StoredFile) (start : plain.State)
-        → IsServing core files start None → IsNewerThan files core
+        → IsServing [] core files start None → IsNewerThan files core
         → HasRun files start entries (disk_under core) new unanswered
     pub aside : LeavesOnly (disk_under core) new.disk (IsUntouched A (disk_under core))
-    pub swept : at_rest ≡ Some [] → (files : List StoredFile) (start : plain.State) → IsServing core files start None
+    pub swept : at_rest ≡ Some [] → (files : List StoredFile) (start : plain.State) → IsServing [] core files start None
         → (files_of core).outgoing ≡ [] → faults ≡ 0 → HasNoStrays new
     pub within : at_rest ≡ Some [] → (files : List StoredFile) (start : plain.State)
-        → IsServing core files start None → AreFullWithin (next_of core + max_drawn * length script) start entries
+        → IsServing [] core files start None → AreFullWithin (next_of core + max_drawn * length script) start entries
 
 -- sessions with one more, if it is not there
 abbrev pub with_session : List ℕ → ℕ → List ℕ

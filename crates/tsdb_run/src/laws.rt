@@ -20,7 +20,7 @@ use tsdb_recover::Core;
 /// A recovered core is in the state of its store, beside the stored files. So it can serve commands.
 pub(crate) fn a_recovered_core_serves<J: Journal, F: Files>(_core: &Core<J, F>)
     ensures { (bytes : List ℕ) (stored : List StoredFile) (at : plain.State) → IsRecovered _core.now bytes stored at
-        → IsServing _core.now stored at None }
+        → IsServing [] _core.now stored at None }
 {}
 
 /// Where a second run begins on the sound store that a first one left, its entries follow those of the first, with the

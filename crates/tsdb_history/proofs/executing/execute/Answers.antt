@@ -6,13 +6,15 @@ use Rattle.std.proofs.Math.Seq.{take-length, take-suc}
 use Rattle.std.proofs.lemmas.List.{length-set}
 use Rattle.tsdb_history.proofs.Replies.{sure_still}
 use Rattle.tsdb_history.proofs.SoFar.{SoFar, devices_more, few_of, nothing_so_far, one_more, whole_slice}
-use Rattle.tsdb_history.proofs.Steps.{empty_on, none_served, one_more_served, stays_on}
+use Rattle.tsdb_history.proofs.Steps.{none_served, one_more_served, read_on, stays_on}
 use Rattle.tsdb_history.specs.History.{IsHistory, IsInLineOrder, told_device, session_numbers}
 use Rattle.tsdb_querying.proofs.Flushes.{stays_same}
 use Rattle.tsdb_querying.specs.Serving.{IsSure}
 use Rattle.tsdb_history.specs.declared.told.Told.{Told}
 use Rattle.tsdb_script.specs.declared.numbered.Numbered.{Numbered}
-use Rattle.tsdb_querying.specs.Flushing.{IsReady, faults_under}
+use Rattle.tsdb_querying.specs.Flushing.{faults_under}
+use Rattle.tsdb_querying.specs.Loans.{KeepsAll}
+use Rattle.tsdb_querying.specs.Out.{KeepsOut}
 use Rattle.tsdb_history.proofs.executing.execute.Goals as goal
 
 pub next_index-index-requires-clause-few : goal.next_index-index-requires-clause-few
@@ -30,6 +32,14 @@ next_index-index-requires-clause-few g c =
       c.requires.script.few,
     ))
 
+pub serve-reply-requires-clause-ready : goal.serve-reply-requires-clause-ready
+serve-reply-requires-clause-ready g c = λ lifetimes lives.
+    let out = c.requires.ready.0 in (
+      out,
+      subst (λ s. KeepsOut s out c.loop-numbered.core) (sym c.loop-numbered.invariant.same_store)
+          (c.loop-numbered.invariant.keeps_all out c.requires.ready.1),
+    )
+
 pub loop-numbered-init : goal.loop-numbered-init
 loop-numbered-init g c = record {
   long = c.requires.room.long;
@@ -38,14 +48,14 @@ loop-numbered-init g c = record {
   entries = [];
   so_far = rw c.requires.room.none (nothing_so_far c.args.room.counts.items c.requires.room.zero);
   same_store = refl;
-  ready = c.requires.ready;
+  keeps_all = λ out kept. kept;
   stays = stays_same c.args.core.now;
   drawn = omega arith;
-  served = λ tells files start serving. none_served g.J.Disk.lawful c.args.core.now files start serving;
+  served = λ tells loans files start serving. none_served g.J.Disk.lawful loans c.args.core.now files start serving;
   sure = λ sure. sure;
   devices = λ sure. rw c.requires.room.none (omega arith);
   later = (omega arith, omega arith);
-  swept = λ empty calm none. empty;
+  swept = λ read calm none. read;
 }
 
 pub loop-numbered-preserved : goal.loop-numbered-preserved
@@ -96,15 +106,18 @@ loop-numbered-preserved g c =
           (subst (λ h. SoFar (take at script ++ numbered ∷ []) h more (take c.loop-numbered.counts.len (new ++ drop (length new) old))) (sym same)
           (subst (SoFar (take at script ++ numbered ∷ []) (c.loop-numbered.history.items ++ told ∷ []) more) (sym whole) pushed));
       same_store = c.serve-reply.ensures.serves.same_store ∙ same_store;
-      ready = subst (λ s. IsReady s core) same_store c.serve-reply.ensures.serves.ready;
+      keeps_all = λ out kept. subst (λ s. KeepsAll s mid core) same_store c.serve-reply.ensures.serves.keeps_all out
+          (c.loop-numbered.invariant.keeps_all out kept);
       stays = stays_on first mid core c.loop-numbered.invariant.stays c.serve-reply.ensures.serves.stays;
       drawn = (let drawn = c.loop-numbered.invariant.drawn in let one = c.serve-reply.ensures.serves.draws in
           omega (arith, drawn, one));
-      served = λ tells files start serving. one_more_served g.J.Disk.lawful first mid core files start entries
-          numbered.command told.reply (c.loop-numbered.invariant.served tells files start serving)
+      served = λ tells loans files start serving.
+          let so_far = c.loop-numbered.invariant.served tells loans files start serving in
+          one_more_served g.J.Disk.lawful loans loans first mid core files start entries numbered.command told.reply so_far
           c.loop-numbered.invariant.stays c.serve-reply.ensures.serves.stays c.serve-reply.ensures.full
-          (c.serve-reply.ensures.answers (ap (λ s. s.tells) same_store ∙ tells)) c.serve-reply.ensures.listed
-          c.serve-reply.ensures.flushed c.serve-reply.ensures.shown;
+          (c.serve-reply.ensures.answers (ap (λ s. s.tells) same_store ∙ tells) loans (files ++ so_far.put) so_far.after
+          so_far.doubt so_far.serving) c.serve-reply.ensures.listed c.serve-reply.ensures.flushed
+          c.serve-reply.ensures.shown;
       sure = λ sure. sure_still store mid core numbered.command told.reply
           (λ tells. c.serve-reply.ensures.answers (ap (λ s. s.tells) same_store ∙ tells))
           (c.loop-numbered.invariant.sure sure);
@@ -115,7 +128,7 @@ loop-numbered-preserved g c =
           c.loop-numbered.history.items told (c.loop-numbered.invariant.devices sure) later.0 later.1
           (c.serve-reply.ensures.cause (subst (λ s. IsSure s mid) (sym same_store) (c.loop-numbered.invariant.sure sure))));
       later = (omega (arith, later.0, sofar_later.0), omega (arith, later.1, sofar_later.1));
-      swept = empty_on first mid core (g.F.Port.Counted.faults c.args.port.now) (g.F.Port.Counted.faults c.loop-numbered.port)
+      swept = read_on first mid core (g.F.Port.Counted.faults c.args.port.now) (g.F.Port.Counted.faults c.loop-numbered.port)
           (g.F.Port.Counted.faults c.serve-reply.new.port) sofar_later.1 later.1 later.0 c.loop-numbered.invariant.swept
           c.serve-reply.ensures.swept;
     }

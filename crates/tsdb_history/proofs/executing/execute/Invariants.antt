@@ -9,9 +9,11 @@ use Rattle.tsdb_history.specs.Serves.{HasServed}
 use Rattle.tsdb_model.specs.History.{Entry}
 use Rattle.tsdb_model.specs.State as plain
 use Rattle.tsdb_outside.specs.Files.{StoredFile}
-use Rattle.tsdb_querying.specs.Flushing.{IsReady, faults_under}
+use Rattle.tsdb_querying.specs.Flushing.{faults_under}
+use Rattle.tsdb_querying.specs.Loan.{Loan}
+use Rattle.tsdb_querying.specs.Loans.{KeepsAll}
 use Rattle.tsdb_querying.specs.Serving.{IsServing, IsSure, StaysInPlace}
-use Rattle.tsdb_querying.specs.Sweeping.{StaysEmpty}
+use Rattle.tsdb_querying.specs.Sweeping.{StaysRead}
 use Rattle.tsdb_history.proofs.executing.execute.Given as goal
 
 abbrev pub invariant-loop-numbered : goal.invariant-loop-numbered
@@ -22,16 +24,17 @@ invariant-loop-numbered g l = record {
   entries : List Entry;
   so_far : SoFar (take l.numbered-index l.script) l.history.items entries l.counts.items;
   same_store : g.F.Port.Port.store l.port ≡ g.F.Port.Port.store l.fn.port;
-  ready : IsReady (g.F.Port.Port.store l.fn.port) l.core;
+  keeps_all : KeepsAll (g.F.Port.Port.store l.fn.port) l.fn.core l.core;
   stays : StaysInPlace l.fn.core l.core;
   drawn : next_of l.core ≤ next_of l.fn.core + max_drawn * l.numbered-index;
-  served : (g.F.Port.Port.store l.fn.port).tells ≡ true → (files : List StoredFile) (start : plain.State)
-      → IsServing l.fn.core files start None → HasServed l.fn.core l.core files start entries;
+  served : (g.F.Port.Port.store l.fn.port).tells ≡ true → (loans : List (Loan _ _ _ _)) (files : List StoredFile)
+      (start : plain.State) → IsServing loans l.fn.core files start None
+      → HasServed loans l.fn.core l.core files start entries;
   sure : IsSure (g.F.Port.Port.store l.fn.port) l.fn.core → IsSure (g.F.Port.Port.store l.fn.port) l.core;
   devices : IsSure (g.F.Port.Port.store l.fn.port) l.fn.core
       → min ((faults_under l.fn.core + g.F.Port.Counted.faults l.fn.port) + count_by told_device l.history.items) (2 ^ 64 - 1)
       ≤ faults_under l.core + g.F.Port.Counted.faults l.port;
   later : (faults_under l.fn.core ≤ faults_under l.core)
       × (g.F.Port.Counted.faults l.fn.port ≤ g.F.Port.Counted.faults l.port);
-  swept : StaysEmpty (g.F.Port.Counted.faults l.fn.port) (g.F.Port.Counted.faults l.port) l.fn.core l.core;
+  swept : StaysRead (g.F.Port.Counted.faults l.fn.port) (g.F.Port.Counted.faults l.port) l.fn.core l.core;
 }

@@ -1,11 +1,11 @@
-use Rattle.std.proofs.Common.{◌∙◌, ap, arith, refl, subst, sym}
+use Rattle.std.proofs.Common.{◌∙◌, arith, refl, subst, sym}
 use Rattle.tsdb_model.specs.declared.command.Command.TheVariants.{Select}
 use Rattle.tsdb_model.specs.declared.reply.Reply.TheVariants.{Plain}
 use Rattle.tsdb_querying.specs.Serving.{ServesCommand}
-use Rattle.tsdb_fileset.specs.Files.{KeptFiles}
+use Rattle.tsdb_querying.specs.Sweeping.{AreOutgoingRead}
 use Rattle.tsdb_querying.proofs.ServingFull.{no_full}
 use Rattle.tsdb_querying.proofs.Flushes.{serves_alone, serves_within, stays_same}
-use Rattle.tsdb_querying.proofs.Swept.{empty_without_faults}
+use Rattle.tsdb_querying.proofs.Swept.{read_without_faults}
 use Rattle.tsdb_history.proofs.serving.serve.Goals as goal
 
 pub returns-in-Create-clause-answers : goal.returns-in-Create-clause-answers
@@ -106,45 +106,45 @@ pub returns-in-ShowFiles-clause-shown : goal.returns-in-ShowFiles-clause-shown
 returns-in-ShowFiles-clause-shown g c = λ asked. refl
 
 pub returns-in-Create-clause-swept : goal.returns-in-Create-clause-swept
-returns-in-Create-clause-swept g c = λ empty calm none. ap (λ (files : KeptFiles). files.outgoing) c.create.ensures.files ∙ empty
+returns-in-Create-clause-swept g c = λ read calm none. subst AreOutgoingRead (sym c.create.ensures.files) read
 
 pub returns-in-Delete-clause-swept : goal.returns-in-Delete-clause-swept
-returns-in-Delete-clause-swept g c = λ empty calm none. ap (λ (files : KeptFiles). files.outgoing) c.delete.ensures.files ∙ empty
+returns-in-Delete-clause-swept g c = λ read calm none. subst AreOutgoingRead (sym c.delete.ensures.files) read
 
 pub returns-in-Insert-clause-swept : goal.returns-in-Insert-clause-swept
 returns-in-Insert-clause-swept g c = c.insert.ensures.swept
 
 pub returns-in-ShowFiles-clause-swept : goal.returns-in-ShowFiles-clause-swept
-returns-in-ShowFiles-clause-swept g c = λ empty calm none. empty
+returns-in-ShowFiles-clause-swept g c = λ read calm none. read
 
 pub returns-in-Select-clause-swept : goal.returns-in-Select-clause-swept
-returns-in-Select-clause-swept g c = λ empty. empty_without_faults c.query.new.core (g.F.Port.Counted.faults c.args.port.now)
+returns-in-Select-clause-swept g c = λ read. read_without_faults c.query.new.core (g.F.Port.Counted.faults c.args.port.now)
     (g.F.Port.Counted.faults c.query.new.port) c.query.ensures.swept
 
 pub returns-in-Flush-clause-swept : goal.returns-in-Flush-clause-swept
-returns-in-Flush-clause-swept g c = λ empty. empty_without_faults c.serve_flush.new.core (g.F.Port.Counted.faults c.args.port.now)
+returns-in-Flush-clause-swept g c = λ read. read_without_faults c.serve_flush.new.core (g.F.Port.Counted.faults c.args.port.now)
     (g.F.Port.Counted.faults c.serve_flush.new.port) c.serve_flush.ensures.swept
 
 pub returns-in-CompactInner-clause-swept : goal.returns-in-CompactInner-clause-swept
-returns-in-CompactInner-clause-swept g c = λ empty. empty_without_faults c.serve_inner.new.core (g.F.Port.Counted.faults c.args.port.now)
+returns-in-CompactInner-clause-swept g c = λ read. read_without_faults c.serve_inner.new.core (g.F.Port.Counted.faults c.args.port.now)
     (g.F.Port.Counted.faults c.serve_inner.new.port) c.serve_inner.ensures.swept
 
 pub returns-in-CompactCross-clause-swept : goal.returns-in-CompactCross-clause-swept
-returns-in-CompactCross-clause-swept g c = λ empty. empty_without_faults c.serve_cross.new.core (g.F.Port.Counted.faults c.args.port.now)
+returns-in-CompactCross-clause-swept g c = λ read. read_without_faults c.serve_cross.new.core (g.F.Port.Counted.faults c.args.port.now)
     (g.F.Port.Counted.faults c.serve_cross.new.port) c.serve_cross.ensures.swept
 
 pub returns-in-Create-clause-serves : goal.returns-in-Create-clause-serves
 returns-in-Create-clause-serves g c = serves_within g.F.Port.Port.store g.F.Port.Counted.faults c.args.port.now c.args.port.now
     c.args.core.now c.create.new.core 0 6 (omega arith)
     (serves_alone g.F.Port.Port.store g.F.Port.Counted.faults c.args.port.now c.args.core.now c.create.new.core
-    (c.create.ensures.ready (g.F.Port.Port.store c.args.port.now) c.requires.ready) c.create.ensures.stays
+    (c.create.ensures.keeps_all (g.F.Port.Port.store c.args.port.now)) c.create.ensures.stays
     c.create.ensures.draws c.create.ensures.later)
 
 pub returns-in-Delete-clause-serves : goal.returns-in-Delete-clause-serves
 returns-in-Delete-clause-serves g c = serves_within g.F.Port.Port.store g.F.Port.Counted.faults c.args.port.now c.args.port.now
     c.args.core.now c.delete.new.core 0 6 (omega arith)
     (serves_alone g.F.Port.Port.store g.F.Port.Counted.faults c.args.port.now c.args.core.now c.delete.new.core
-    (c.delete.ensures.ready (g.F.Port.Port.store c.args.port.now) c.requires.ready) c.delete.ensures.stays
+    (c.delete.ensures.keeps_all (g.F.Port.Port.store c.args.port.now)) c.delete.ensures.stays
     c.delete.ensures.draws c.delete.ensures.later)
 
 pub returns-in-Insert-clause-serves : goal.returns-in-Insert-clause-serves
@@ -170,5 +170,5 @@ returns-in-CompactCross-clause-serves g c = serves_within g.F.Port.Port.store g.
 pub returns-in-ShowFiles-clause-serves : goal.returns-in-ShowFiles-clause-serves
 returns-in-ShowFiles-clause-serves g c = serves_within g.F.Port.Port.store g.F.Port.Counted.faults c.args.port.now c.args.port.now
     c.args.core.now c.args.core.now 0 6 (omega arith)
-    (serves_alone g.F.Port.Port.store g.F.Port.Counted.faults c.args.port.now c.args.core.now c.args.core.now c.requires.ready
+    (serves_alone g.F.Port.Port.store g.F.Port.Counted.faults c.args.port.now c.args.core.now c.args.core.now (λ out kept. kept)
     (stays_same c.args.core.now) refl (omega arith))

@@ -15,6 +15,7 @@ returns g c = λ bytes stored at recovered. record {
   outside = recovered.outside;
   state = opened (next_of c.args._core.now) recovered.recorded.store;
   seen = recovered.seen;
+  lent = record { flushes = tt; compactions = tt; pins = tt };
   stands = recovered.stands;
   doubt = tt;
   -- whoever holds all of them holds those that are listed

@@ -1,4 +1,4 @@
-use Rattle.std.proofs.Common.{arith, ◌≡◌, ◌∙◌, ◌+◌, ◌++◌, ◌≤◌, None, ap, inr, length, sym, subst}
+use Rattle.std.proofs.Common.{arith, ◌≡◌, ◌∙◌, ◌+◌, ◌++◌, ◌≤◌, [], None, ap, inr, length, sym, subst}
 use Rattle.std.specs.Prelude.{◌*◌, ◌-◌, ◌^◌, count_by, min}
 use Rattle.tsdb_history.specs.History.{told_device}
 use Rattle.tsdb_recover.specs.Core.{next_of}
@@ -11,9 +11,20 @@ use Rattle.tsdb_outside.specs.Files.{Store}
 use Rattle.tsdb_outside.specs.Moments.{IsUntouched, LeavesOnly}
 use Rattle.tsdb_outside.specs.declared.disk.Slot.{Slot}
 use Rattle.tsdb_run.proofs.Executed.{has_run, no_strays, not_rose, one_more_fault, quiet_port, some_and}
-use Rattle.tsdb_history.specs.Flushing.{faults_under}
+use Rattle.tsdb_history.proofs.Out.{none_read}
+use Rattle.tsdb_history.proofs.Swept.{still_empty}
+use Rattle.tsdb_history.specs.Flushing.{IsReady, faults_under}
+use Rattle.tsdb_history.specs.Out.{nothing_out}
 use Rattle.tsdb_history.specs.Serving.{disk_under, log_under}
 use Rattle.tsdb_run.proofs.store.serve_script.Goals as goal
+
+pub execute-history-requires-clause-ready : goal.execute-history-requires-clause-ready
+execute-history-requires-clause-ready g c = λ lifetimes lives. (nothing_out, c.requires.ready)
+
+pub close-requires-clause-ready : goal.close-requires-clause-ready
+close-requires-clause-ready g c = λ lifetimes lives. subst (λ store. IsReady store c.execute-history.new.core)
+    (c.requires.port ∙ sym c.end_port.ensures.same_store)
+    (c.execute-history.ensures.keeps_all nothing_out c.requires.ready)
 
 pub returns-clause-served : goal.returns-clause-served
 returns-clause-served g c =
@@ -28,7 +39,7 @@ returns-clause-served g c =
       in_line_order = executed.in_line_order;
       served = λ none files start serving below.
           let tells = ap (λ (s : Store). s.tells) c.requires.port ∙ g.F.Files.tells c.args.files.now ∙ ap is_some none in
-          let served = executed.served tells files start serving in
+          let served = executed.served tells [] files start serving in
           let closed = some_and _ left (c.close.ensures.closed (c.end_port.ensures.same ∙ none) (files ++ served.put)
           served.after served.doubt served.serving) in
           has_run core last files start executed.entries served c.requires.slot c.execute-history.ensures.stays.slot.same
@@ -40,7 +51,7 @@ returns-clause-served g c =
           (g.F.Port.Counted.faults c.args.port) (g.F.Port.Counted.faults c.execute-history.new.port)
           (g.F.Counted.faults c.args.files.now) (g.F.Counted.faults c.close.new.files)
           (count_by told_device c.execute-history.result)
-          (c.execute-history.ensures.devices (inr (files, start, None, serving)))
+          (c.execute-history.ensures.devices (inr ([], files, start, None, serving)))
           (subst (λ n. min (g.F.Counted.faults c.args.files.now + g.F.Port.Counted.faults c.execute-history.new.port)
           (2 ^ 64 - 1) ≤ n) (sym c.close.ensures.faults) c.end_port.ensures.faults));
       aside = subst (λ (s : Slot). LeavesOnly (disk_under core) (g.J.Disk.state journal) (IsUntouched s (disk_under core)))
@@ -49,7 +60,7 @@ returns-clause-served g c =
           (second_false _ _ c.requires.no_doubt));
       swept = λ none files start serving empty quiet.
           let tells = ap (λ (s : Store). s.tells) c.requires.port ∙ g.F.Files.tells c.args.files.now ∙ ap is_some none in
-          let served = executed.served tells files start serving in
+          let served = executed.served tells [] files start serving in
           let closed = some_and _ left (c.close.ensures.closed (c.end_port.ensures.same ∙ none) (files ++ served.put)
           served.after served.doubt served.serving) in
           let no_fault : g.J.Counted.faults journal ≡ 0 = omega (arith, quiet) in
@@ -64,11 +75,14 @@ returns-clause-served g c =
           (g.J.Disk.state journal) (g.J.Disk.lawful journal) closed.0
           (Rose (faults_under last) (g.J.Counted.faults journal)) closed.2 left closed.1
           (not_rose (faults_under last) (g.J.Counted.faults journal) no_fault)
-          (c.execute-history.ensures.swept empty (not_rose (g.F.Port.Counted.faults c.args.port)
-          (g.F.Port.Counted.faults c.execute-history.new.port) port) under);
+          (still_empty core last (g.F.Port.Counted.faults c.args.port)
+          (g.F.Port.Counted.faults c.execute-history.new.port)
+          (none_read last (g.F.Port.Port.store c.args.port)
+          (c.execute-history.ensures.keeps_all nothing_out c.requires.ready)) c.execute-history.ensures.swept empty
+          (not_rose (g.F.Port.Counted.faults c.args.port) (g.F.Port.Counted.faults c.execute-history.new.port) port) under);
       within = λ none files start serving.
           let tells = ap (λ (s : Store). s.tells) c.requires.port ∙ g.F.Files.tells c.args.files.now ∙ ap is_some none in
-          let served = executed.served tells files start serving in
+          let served = executed.served tells [] files start serving in
           all_further (next_of last) (next_of core + max_drawn * length c.args.script.now) start executed.entries
           c.execute-history.ensures.draws served.reached;
     }
