@@ -1,7 +1,8 @@
-use Rattle.std.proofs.Common.{◌≡◌, ◌∙◌, ◌+◌, inl, inr, ap, length, refl, subst, sym, None}
+use Rattle.std.proofs.Common.{◌≡◌, ◌∙◌, ◌+◌, [], inl, inr, ap, length, refl, subst, sym, None}
 use Rattle.std.specs.Prelude.{◌*◌, count_by}
 use Rattle.tsdb_history.specs.History.{told_device}
 use Rattle.tsdb_history.specs.Reach.{AreFullWithin, max_drawn}
+use Rattle.tsdb_history.proofs.Out.{none_out}
 use Rattle.std.specs.Prelude.{is_some}
 use Rattle.tsdb_recover.specs.CoreType.{Core}
 use Rattle.tsdb_frames.specs.Frames.{journal_of}
@@ -19,6 +20,15 @@ use Rattle.tsdb_run.specs.Causes.{ReportsDamage}
 use Rattle.tsdb_run.specs.Steps.{IsOpeningRefused}
 use Rattle.tsdb_run.specs.declared.status.Status.TheVariants.{Memory}
 use Rattle.tsdb_run.proofs.store.run_on.Goals as goal
+
+pub serve_script-journal-requires-clause-ready : goal.serve_script-journal-requires-clause-ready
+serve_script-journal-requires-clause-ready g c = λ lifetimes lives. none_out c.in-Ok-recover.core _
+    c.in-Ok-recover.ensures.quiet c.in-Ok-recover.ensures.no_rights
+    (record {
+      sequence = c.in-Ok-recover.ensures.unclaimed.list;
+      late = c.in-Ok-recover.ensures.unclaimed.files.unsequence;
+    })
+    (c.in-Ok.ensures.store ∙ sym c.port.ensures.same_store ∙ sym c.in-Ok-recover.ensures.of_store)
 
 pub returns-in-Ok-recover-clause-executed : goal.returns-in-Ok-recover-clause-executed
 returns-in-Ok-recover-clause-executed g c =
@@ -87,6 +97,7 @@ returns-in-Ok-recover-clause-devices g c = λ sure. c.serve_script-journal.ensur
         let now = g.F.Files.at_rest c.port.new.self in
         let recovered = opened core state stored now start sound c.port.ensures.same c.in-Ok-recover.ensures.seen in
         inr (
+          [],
           sound.files,
           start,
           None,
