@@ -11,7 +11,7 @@ use Rattle.tsdb_base.specs.Lists.{count}
 use Rattle.tsdb_base.specs.declared.ids.Space.{Space}
 use Rattle.tsdb_compactions.specs.declared.job.Input.{Input}
 use Rattle.tsdb_compactions.specs.declared.job.Job.{Job}
-use Rattle.tsdb_fileset.specs.Files.{KeptFiles, kept_file}
+use Rattle.tsdb_fileset.specs.Files.{kept_file}
 use Rattle.tsdb_fileset.specs.Places.{AreOfStore, KeptFile}
 use Rattle.tsdb_fileset.specs.Rights.{IsRightTo}
 use Rattle.tsdb_fileset.specs.declared.files.Outgoing.{Outgoing}
@@ -30,7 +30,7 @@ use Rattle.tsdb_serving.proofs.Read.{still_read}
 use Rattle.tsdb_serving.specs.Beginnings.{IsBeginAnswer, IsBegun, IsBegunOrNot, IsNotBegun}
 use Rattle.tsdb_serving.specs.Changes.{more_rights}
 use Rattle.tsdb_serving.specs.Compactions.{IsJobOut}
-use Rattle.tsdb_serving.specs.Core.{files_of, next_of, store_of}
+use Rattle.tsdb_serving.specs.Core.{files_of, store_of}
 use Rattle.tsdb_serving.specs.CoreFault.{CoreFault}
 use Rattle.tsdb_serving.specs.CoreType.{Core}
 use Rattle.tsdb_serving.specs.Faults.{of_core_fault}

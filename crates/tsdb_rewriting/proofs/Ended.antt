@@ -31,7 +31,7 @@ use Rattle.tsdb_serving.proofs.OutputsBuilt.{new_output}
 use Rattle.tsdb_serving.proofs.Swept.{faults_swept, loan_swept, served_on}
 use Rattle.tsdb_rewriting.proofs.Told.{inputs_told}
 use Rattle.tsdb_serving.specs.Compactions.{IsHandedOut, IsJobOut}
-use Rattle.tsdb_serving.specs.Core.{files_of, logged_of, store_of}
+use Rattle.tsdb_serving.specs.Core.{files_of, store_of}
 use Rattle.tsdb_serving.specs.CoreType.{Core}
 use Rattle.tsdb_serving.specs.Flushing.{faults_under, frozen_under}
 use Rattle.tsdb_serving.specs.Out.{HandsOn}

@@ -8,7 +8,6 @@ use Rattle.tsdb_serving.specs.TasksFiles.{NewFile, all_of, stored_of}
 use Rattle.tsdb_serving.specs.States.{sent_files}
 use Rattle.tsdb_compactions.specs.declared.job.Job.{Job}
 use Rattle.tsdb_compactions.specs.Jobs.{IsCompactionOf}
-use Rattle.tsdb_compactions.specs.Outputs.{TellsInputs}
 use Rattle.tsdb_serving.specs.Core.{IsSeen}
 use Rattle.tsdb_serving.specs.Replacements.{CommitsIn, IsJobAbandoned, IsOutputIn, IsSeenAfterEnd, with_new}
 use Rattle.tsdb_serving.specs.CoreType.{Core}
