@@ -1,3 +1,4 @@
+pub mod Decimal
 pub mod Pieces
 pub mod Words
 pub mod Cells

@@ -1,10 +1,11 @@
-//! Appends numbers, values and items to a text, and lists of them with commas between. Depends on nothing here.
-ghost use Rattle.std.specs.Prelude.{◌≡◌, ℕ, ◌+◌, ◌<◌, List, [], ◌∷◌, ◌++◌, OnOk, map};
+//! Appends numbers, values and items to a text, and lists of them with commas between. Depends on `digits`.
+ghost use Rattle.std.specs.Prelude.{◌≡◌, ℕ, List, [], ◌∷◌, ◌++◌, OnOk, map};
 ghost use Rattle.std.specs.Fmt.{decimal, signed_decimal};
 ghost use Rattle.std.specs.List.{flat_map};
 ghost use Rattle.tsdb_base.specs.Notation.{aggregate_name, escape};
 ghost use Rattle.tsdb_print.specs.Text.{cell_text, item_text, join_with_commas, quote};
 
+use crate::digits::{MAX_DIGITS, write_digits};
 use std::alloc::AllocError;
 use tsdb_base::{Aggregate, Value};
 use tsdb_model::Item;
@@ -69,19 +70,9 @@ pub fn append_after_commas<T: Printed>(items: &[T], into: &mut Vec<u8>) -> Resul
 pub fn append_unsigned(number: u64, into: &mut Vec<u8>) -> Result<(), AllocError>
     ensures { OnOk result (into.new.items ≡ into.old.items ++ decimal number) }
 {
-    if number < 10 {
-        return append_digit(number, into);
-    }
-    append_unsigned(number / 10, into)?;
-    append_digit(number % 10, into)
-}
-
-fn append_digit(digit: u64, into: &mut Vec<u8>) -> Result<(), AllocError>
-    requires { digit < 10 }
-    ensures { OnOk result (into.new.items ≡ into.old.items ++ (48 + digit) ∷ []) }
-{
-    into.push(b'0' + digit as u8)?;
-    Ok(())
+    let mut buffer = [0; MAX_DIGITS];
+    let at = write_digits(number, &mut buffer, MAX_DIGITS);
+    into.extend_from_slice(&buffer[at..])
 }
 
 pub fn append_signed(number: i64, into: &mut Vec<u8>) -> Result<(), AllocError>

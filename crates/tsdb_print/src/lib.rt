@@ -3,6 +3,7 @@
 #![tactic(auto)]
 
 mod append;
+mod digits;
 mod laws;
 mod listing;
 mod order;
