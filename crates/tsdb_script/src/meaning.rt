@@ -24,7 +24,7 @@ use std::alloc::Global;
 use std::collections::HashSet;
 use tsdb_base::limits::MAX_NAMES;
 use tsdb_base::{Aggregate, List, Memory};
-use tsdb_model::{Cell, Command, Item, Literal, Row, Schema};
+use tsdb_model::{Cell, Command, Item, Row, Schema};
 use tsdb_path::{Name, Path};
 
 /// The statement as a whole is bad.
@@ -48,16 +48,15 @@ fn measurements(alloc: Global, device: &Path, words: &[WordToken]) -> Result<Vec
     Ok(names)
 }
 
-/// The values of an insert.
-fn literals(alloc: Global, operands: &[Operand]) -> Result<Vec<Literal>, LineFault>
-    ensures found { IfOk result (λ literals. AllZip IsLiteral operands.now literals.items) }
+/// Looks for a bad one among the values of an insert.
+fn check_values(alloc: Global, operands: &[Operand]) -> Result<(), LineFault>
+    ensures good { IfOk result (λ _. AllByRecursion IsGood (map Scalar operands.now)) }
     ensures bad { IfErr result (FaultsWith (HasBadWord (map Scalar operands.now))) }
 {
-    let mut literals = Vec::with_capacity(alloc, operands.len())?;
     for operand in operands {
-        literals.push(literal(alloc, operand)?)?;
+        let _ = literal(alloc, operand)?;
     }
-    Ok(literals)
+    Ok(())
 }
 
 /// The aggregate that a column asks for, if it does.
@@ -116,10 +115,10 @@ fn are_different(alloc: Global, names: &[Name]) -> Result<bool, Memory>
 }
 
 /// Whether an insert has at most 1,000 names, all different, each with a value.
-fn are_paired(alloc: Global, names: &[Name], literals: &[Literal]) -> Result<bool, Memory>
-    ensures { IfOk result (λ yes. IsTrue yes ↔ ArePaired names.now literals.now) }
+fn are_paired(alloc: Global, names: &[Name], values: &[Operand]) -> Result<bool, Memory>
+    ensures { IfOk result (λ yes. IsTrue yes ↔ ArePaired names.now values.now) }
 {
-    if names.len() > MAX_NAMES || names.len() != literals.len() {
+    if names.len() > MAX_NAMES || names.len() != values.len() {
         return Ok(false);
     }
     are_different(alloc, names)
@@ -129,20 +128,22 @@ fn are_paired(alloc: Global, names: &[Name], literals: &[Literal]) -> Result<boo
 fn cells(
     alloc: Global,
     mut names: Vec<Name>,
-    mut literals: Vec<Literal>,
-) -> Result<Vec<Cell>, Memory>
-    requires { length names.items ≡ length literals.items }
+    operands: &[Operand],
+) -> Result<Vec<Cell>, LineFault>
+    requires { length names.items ≡ length operands.now }
     ensures names { IfOk result (λ cells. map (λ cell. cell.measurement) cells.items ≡ names.items) }
-    ensures literals { IfOk result (λ cells. map (λ cell. cell.value) cells.items ≡ literals.items) }
+    ensures values { IfOk result (λ cells. AllZip IsLiteral operands.now (map (λ cell. cell.value) cells.items)) }
+    ensures bad { IfErr result (FaultsWith (HasBadWord (map Scalar operands.now))) }
 {
     let mut cells = Vec::with_capacity(alloc, names.len())?;
-    while let Some(measurement) = names.pop() {
-        let Some(value) = literals.pop() else {
+    names.reverse();
+    for operand in operands {
+        let value = literal(alloc, operand)?;
+        let Some(measurement) = names.pop() else {
             unreachable!()
         };
         cells.push(Cell { measurement, value })?;
     }
-    cells.reverse();
     Ok(cells)
 }
 
@@ -226,11 +227,12 @@ fn insert(
     let device = device_path(alloc, device)?;
     let names = measurements(alloc, &device, names.items())?;
     let time = number(time)?;
-    let literals = literals(alloc, values.items())?;
-    if !are_paired(alloc, names.as_slice(), literals.as_slice())? {
+    if !are_paired(alloc, names.as_slice(), values.items())? {
+        // A bad value is found before the statement as a whole is.
+        check_values(alloc, values.items())?;
         return Err(UNBALANCED);
     }
-    let cells = List::of(cells(alloc, names, literals)?);
+    let cells = List::of(cells(alloc, names, values.items())?);
     Ok(Command::Insert {
         device,
         row: Row { time, cells },

@@ -1,17 +1,20 @@
 use Rattle.std.proofs.lemmas.Grind.{common_steps}
-use Rattle.std.proofs.Common.{◌≡◌, length, arith}
-use Rattle.tsdb_script.proofs.Cells.{finished, map-reverse}
+use Rattle.std.proofs.Common.{arith}
+use Rattle.tsdb_script.specs.Meaning.{IsLiteral, Scalar}
+use Rattle.tsdb_script.proofs.WordLists.{bad_at, each_next, good_next, passed_on}
+use Rattle.tsdb_script.proofs.Cells.{one_more_value}
 use Rattle.tsdb_script.proofs.meaning.cells.Goals as goal
 
-pub returns-clause-names : goal.returns-clause-names
-returns-clause-names c =
-    let none : length c.loop-measurement.names.items ≡ 0 = omega (arith, c.in_default.ensures.cases) in
-    rw (c.reverse.ensures.items, map-reverse) (finished c.loop-measurement.names.items _ c.args.names.items none c.loop-measurement.invariant.names)
+pub returns-in_err-value-clause-bad : goal.returns-in_err-value-clause-bad
+returns-in_err-value-clause-bad c =
+    passed_on _ _ _ _ c.from_residual-in_err-value.ensures.1 c.in_err-value.ensures.bad
+    (λ kind bad. bad_at Scalar _ _ _ kind c.loop-operand-test.true c.operand-item.is c.loop-operand.invariant.good bad)
 
-pub returns-clause-literals : goal.returns-clause-literals
-returns-clause-literals c =
-    let none : length c.loop-measurement.literals.items ≡ 0 = omega (arith, c.in_default.ensures.cases, c.loop-measurement.invariant.paired) in
-    rw (c.reverse.ensures.items, map-reverse) (finished c.loop-measurement.literals.items _ c.args.literals.items none c.loop-measurement.invariant.literals)
-
-pub loop-measurement-preserved : goal.loop-measurement-preserved
-loop-measurement-preserved c = grind (arith, common_steps)
+pub loop-operand-preserved : goal.loop-operand-preserved
+loop-operand-preserved c = record {
+  names = grind (arith, common_steps);
+  values = each_next IsLiteral _ _ _ _ _ _ c.loop-operand-test.true c.operand-item.is c.loop-operand.invariant.values c.in_ok-value.ensures.found
+      (one_more_value _ _ _ c.in_ok-push.ensures.items);
+  good = good_next Scalar _ _ _ c.loop-operand-test.true c.operand-item.is c.loop-operand.invariant.good (c.in_ok-value.value, c.in_ok-value.ensures.found);
+  left = grind (arith, common_steps);
+}
