@@ -18,6 +18,8 @@ use crate::token::{Token, WordToken};
 use std::alloc::Global;
 use std::str;
 use tsdb_base::limits::{MAX_COMMANDS, MAX_LINE_BYTES, MAX_SCRIPT_BYTES, MAX_SESSIONS};
+use tsdb_model::Command;
+use tsdb_path::Path;
 
 /// A limit is passed.
 const PAST_LIMIT: LineFault = LineFault::Bad { kind: 9 };
@@ -79,8 +81,19 @@ fn read_command(
         return Err(NO_STATEMENT);
     }
     let syntax = statement(alloc, &mut tokens)?;
-    let command = command_of(alloc, &syntax)?;
+    let command = command_of(alloc, &syntax, last_device(script))?;
     Ok(Numbered { session, command })
+}
+
+/// The device of the last command, where that is an insert.
+fn last_device(script: &[Numbered]) -> Option<&Path> {
+    match script.last() {
+        Some(Numbered {
+            command: Command::Insert { device, .. },
+            ..
+        }) => Some(device),
+        _ => None,
+    }
 }
 
 /// Takes the session that the tokens begin with.

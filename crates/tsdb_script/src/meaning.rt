@@ -17,8 +17,8 @@ use crate::fault::LineFault;
 use crate::syntax::{Condition, Operand, Syntax, SyntaxColumn};
 use crate::token::WordToken;
 use crate::words::{
-    NO_PATH, data_type, device_path, encoding, literal, node, number, read_aggregate, room_of,
-    series_path,
+    NO_PATH, data_type, device_path, device_path_after, encoding, literal, node, number,
+    read_aggregate, room_of, series_path,
 };
 use std::alloc::Global;
 use std::collections::HashSet;
@@ -220,11 +220,12 @@ fn insert(
     names: &List<WordToken>,
     time: &WordToken,
     values: &List<Operand>,
+    before: Option<&Path>,
 ) -> Result<Command, LineFault>
     ensures found { IfOk result (Means (Syntax.Insert device.now names.now time.now values.now)) }
     ensures bad { IfErr result (FaultsWith (Objects (Syntax.Insert device.now names.now time.now values.now))) }
 {
-    let device = device_path(alloc, device)?;
+    let device = device_path_after(alloc, device, before)?;
     let names = measurements(alloc, &device, names.items())?;
     let time = number(time)?;
     if !are_paired(alloc, names.as_slice(), values.items())? {
@@ -277,8 +278,12 @@ fn select(
     })
 }
 
-/// The command that a statement says.
-pub fn command_of(alloc: Global, syntax: &Syntax) -> Result<Command, LineFault>
+/// The command that a statement says, behind an insert into a device or none.
+pub fn command_of(
+    alloc: Global,
+    syntax: &Syntax,
+    before: Option<&Path>,
+) -> Result<Command, LineFault>
     requires { HasNeededParts syntax.now }
     ensures found { IfOk result (Means syntax.now) }
     ensures good { IfOk result IsWellFormed }
@@ -295,7 +300,7 @@ pub fn command_of(alloc: Global, syntax: &Syntax) -> Result<Command, LineFault>
             names,
             time,
             values,
-        } => insert(alloc, device, names, time, values),
+        } => insert(alloc, device, names, time, values, before),
         Syntax::Delete { path, conditions } => delete(alloc, path, conditions),
         Syntax::Select {
             columns,

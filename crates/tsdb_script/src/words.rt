@@ -66,6 +66,21 @@ pub fn device_path(alloc: Global, word: &WordToken) -> Result<Path, LineFault>
     path_of(alloc, word, 2)
 }
 
+/// The path of a device, which is often that of an insert before.
+pub fn device_path_after(
+    alloc: Global,
+    word: &WordToken,
+    before: Option<&Path>,
+) -> Result<Path, LineFault>
+    ensures found { IfOk result (λ path. (path ≡ word.now) × IsGood (DevicePath word.now)) }
+    ensures bad { IfErr result (FaultsWith (IsBadWord (DevicePath word.now))) }
+{
+    match before {
+        Some(path) if path.bytes() == word.bytes() && path.nodes() >= 2 => Ok(path.copy()?),
+        _ => device_path(alloc, word),
+    }
+}
+
 /// The node that a word is.
 pub fn node(alloc: Global, word: &WordToken) -> Result<Name, LineFault>
     ensures found { IfOk result (λ name. (name ≡ word.now) × IsGood (Node word.now)) }
