@@ -7,7 +7,6 @@ ghost use Rattle.tsdb_script.specs.Tokens.{is_blank, is_mark, is_quote, is_word_
 
 use crate::fault::LineFault;
 use crate::token::{Quoted, Token, WordToken};
-use std::alloc::Global;
 use std::collections::VecDeque;
 use tsdb_base::limits::MAX_TEXT_BYTES;
 
@@ -29,20 +28,20 @@ pub const WORD_BYTES: [u8; 256] = [
     0, 0, 0, 0, 0, 0, 0, 0, 0, 0, 0, 0, 0, 0, 0, 0, 0, 0, 0, 0, 0, 0, 0, 0, 0, 0, 0, 0, 0, 0, 0, 0,
 ];
 
-/// The tokens of a line. A byte that begins no token is a fault of kind 3, a text that is not closed or too long one of
-/// kind 6, and the first from the left is found.
-pub fn tokens<'a>(alloc: Global, line: &'a [u8]) -> Result<VecDeque<Token<'a>>, LineFault>
-    ensures tokens { IfOk result (λ tokens. AreTokens line.now tokens.items) }
+/// Reads the tokens of a line, in place of those of another. A byte that begins no token is a fault of kind 3, a text that
+/// is not closed or too long one of kind 6, and the first from the left is found.
+pub fn read_tokens<'a>(line: &'a [u8], tokens: &mut VecDeque<Token<'a>>) -> Result<(), LineFault>
+    ensures tokens { IfOk result (λ _. AreTokens line.now tokens.new.items) }
     ensures bad { IfErr result (FaultsWith (HasNoTokens line.now)) }
 {
-    let mut tokens = VecDeque::with_capacity(alloc, 16)?;
+    tokens.clear();
     let mut rest = behind_blanks(line);
     while !rest.is_empty() {
         let (token, more) = first_token(rest)?;
         tokens.push_back(token)?;
         rest = behind_blanks(more);
     }
-    Ok(tokens)
+    Ok(())
 }
 
 fn is_blank(byte: u8) -> bool

@@ -9,7 +9,7 @@ ghost use Rattle.tsdb_script.specs.LineSteps.{script_line_at, AreDifferentOf, Ha
 ghost use Rattle.tsdb_script.specs.Steps.{FaultsWith};
 
 use crate::fault::LineFault;
-use crate::lexer::tokens;
+use crate::lexer::read_tokens;
 use crate::lines::{begins_with, content, is_skipped};
 use crate::meaning::command_of;
 use crate::numbered::Numbered;
@@ -31,13 +31,15 @@ const NO_SESSION: LineFault = LineFault::Bad { kind: 1 };
 const NO_STATEMENT: LineFault = LineFault::Bad { kind: 2 };
 
 /// The command of a line, where it is not skipped. The line ends so many bytes behind the beginning of the script.
-/// The commands before it are `script`, and their sessions, each once, are `sessions`.
-pub fn read_line(
+/// The commands before it are `script`, and their sessions, each once, are `sessions`. The list of tokens is that of the
+/// line before, which takes no memory again.
+pub fn read_line<'a>(
     alloc: Global,
-    line: &[u8],
+    line: &'a [u8],
     end: usize,
     script: &[Numbered],
     sessions: &[u16],
+    tokens: &mut Tokens<'a>,
 ) -> Result<Option<Numbered>, LineFault>
     requires { AreDifferentOf sessions.now (sessions_of script.now) }
     ensures command { IfOk result (λ said. IfSome said (IsCommand (script_line_at line.now script.now end))) }
@@ -53,17 +55,18 @@ pub fn read_line(
     if line.len() > MAX_LINE_BYTES {
         return Err(PAST_LIMIT);
     }
-    let numbered = read_command(alloc, line, end, script, sessions)?;
+    let numbered = read_command(alloc, line, end, script, sessions, tokens)?;
     Ok(Some(numbered))
 }
 
 /// The command of a line that is not skipped, and within its limits.
-fn read_command(
+fn read_command<'a>(
     alloc: Global,
-    line: &[u8],
+    line: &'a [u8],
     end: usize,
     script: &[Numbered],
     sessions: &[u16],
+    tokens: &mut Tokens<'a>,
 ) -> Result<Numbered, LineFault>
     requires says { is_skipped line.now ≡ false }
     requires line_bytes { length line.now ≤ max_line_bytes }
@@ -72,15 +75,15 @@ fn read_command(
     ensures command { IfOk result (IsCommand (script_line_at line.now script.now end)) }
     ensures bad { IfErr result (FaultsWith (IsBadLine (script_line_at line.now script.now end))) }
 {
-    let mut tokens = tokens(alloc, content(line))?;
-    let session = session(&mut tokens)?;
+    read_tokens(content(line), tokens)?;
+    let session = session(tokens)?;
     if !has_room(script, sessions, session) {
         return Err(PAST_LIMIT);
     }
-    if !begins_statement(&tokens) {
+    if !begins_statement(tokens) {
         return Err(NO_STATEMENT);
     }
-    let syntax = statement(alloc, &mut tokens)?;
+    let syntax = statement(alloc, tokens)?;
     let command = command_of(alloc, &syntax, last_device(script))?;
     Ok(Numbered { session, command })
 }

@@ -9,6 +9,7 @@ use crate::line::read_line;
 use crate::lines::first_line;
 use crate::numbered::Numbered;
 use std::alloc::Global;
+use std::collections::VecDeque;
 
 /// The commands of a script, in the order of its lines, all of them well formed. Where a line is bad, the first bad
 /// line and the kind of its fault:
@@ -29,13 +30,21 @@ pub fn read_script(alloc: Global, bytes: &[u8]) -> Result<Vec<Numbered>, ScriptF
 {
     let mut script = Vec::new(alloc);
     let mut sessions = Vec::new(alloc);
+    let mut tokens = VecDeque::new(alloc);
     let mut rest = bytes;
     let mut number: u32 = 0;
     while !rest.is_empty() {
         let (line, others) = first_line(rest);
         let end = bytes.len() - others.len();
         number += 1;
-        match read_line(alloc, line, end, script.as_slice(), sessions.as_slice()) {
+        match read_line(
+            alloc,
+            line,
+            end,
+            script.as_slice(),
+            sessions.as_slice(),
+            &mut tokens,
+        ) {
             Ok(Some(numbered)) => push(&mut script, &mut sessions, numbered)?,
             Ok(None) => {}
             Err(fault) => return Err(fault_at(number, fault)),

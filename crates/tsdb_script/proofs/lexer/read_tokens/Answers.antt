@@ -2,16 +2,16 @@ use Rattle.std.proofs.Common.{length, sym, ap, arith}
 use Rattle.std.proofs.lemmas.Bool.{eqb-false}
 use Rattle.std.proofs.lemmas.Result.{err_from_is_err_and}
 use Rattle.tsdb_script.proofs.LexLemmas.{after_blanks_is, after_blanks_solid, one_more_token, token_found, token_shorter, blanks_shorter, stuck_at}
-use Rattle.tsdb_script.proofs.lexer.tokens.Goals as goal
+use Rattle.tsdb_script.proofs.lexer.read_tokens.Goals as goal
 
 pub loop-rest-init : goal.loop-rest-init
 loop-rest-init c =
-    rw (c.in_ok-tokens.ensures.items, c.behind_blanks-rest.ensures)
+    rw (c.clear.ensures.items, c.behind_blanks-rest.ensures)
     (record { so_far = after_blanks_is c.args.line.now; solid = after_blanks_solid c.args.line.now })
 
 pub returns-in_err-token-clause-bad : goal.returns-in_err-token-clause-bad
 returns-in_err-token-clause-bad c =
-    let p = err_from_is_err_and c.from_residual-in_err-token.result c.from_residual-in_err-token.ensures.1 in
+    let p = err_from_is_err_and c.from_residual.result c.from_residual.ensures.1 in
     rw (p.1, p.2)
     (stuck_at c.args.line.now c.loop-rest.tokens.items c.loop-rest.rest.now _ c.loop-rest.invariant.so_far c.loop-rest.invariant.solid
     (omega (arith, eqb-false _ _ (sym c.loop-rest-test.ensures))) c.in_err-token.ensures.bad.0 c.in_err-token.ensures.bad.1)
