@@ -91,10 +91,12 @@ fn read_command<'a>(
 /// The device of the last command, where that is an insert.
 fn last_device(script: &[Numbered]) -> Option<&Path> {
     match script.last() {
-        Some(Numbered {
-            command: Command::Insert { device, .. },
-            ..
-        }) => Some(device),
+        Some(
+            Numbered {
+                command: Command::Insert { device, .. },
+                ..
+            },
+        ) => Some(device),
         _ => None,
     }
 }

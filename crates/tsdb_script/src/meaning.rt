@@ -125,11 +125,7 @@ fn are_paired(alloc: Global, names: &[Name], values: &[Operand]) -> Result<bool,
 }
 
 /// The cells of these names and values.
-fn cells(
-    alloc: Global,
-    mut names: Vec<Name>,
-    operands: &[Operand],
-) -> Result<Vec<Cell>, LineFault>
+fn cells(alloc: Global, mut names: Vec<Name>, operands: &[Operand]) -> Result<Vec<Cell>, LineFault>
     requires { length names.items ≡ length operands.now }
     ensures names { IfOk result (λ cells. map (λ cell. cell.measurement) cells.items ≡ names.items) }
     ensures values { IfOk result (λ cells. AllZip IsLiteral operands.now (map (λ cell. cell.value) cells.items)) }
