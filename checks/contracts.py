@@ -196,7 +196,7 @@ def contract_at(lines, at, indent):
     while not re.search(r"(;|[{}])$", lines[begin]) and not is_clause(lines[begin + 1]):
         begin += 1
     begin += 1
-    end, depth, ends = begin, 0, not is_clause(lines[begin])
+    end, depth, ends = begin, 0, begin == len(lines) or not is_clause(lines[begin])
     while not ends and (depth or not lines[end].startswith(" " * indent + "{")):
         more, ends = depth_in(lines[end])
         depth += more
