@@ -2,6 +2,7 @@
 //! Depends on tsdb_base, tsdb_path and tsdb_model.
 #![tactic(auto)]
 
+mod before;
 mod conditions;
 mod fault;
 mod form;

@@ -1,6 +1,6 @@
 //! Reads a line as a command of a session: the passes over it, in their order. Depends on `lines`, `lexer`, `parser`,
-//! `meaning`, `numbered` and `fault`.
-ghost use Rattle.std.specs.Prelude.{◌≡◌, ◌↔◌, ◌≤◌, ℕ, length, false, IsTrue, IfOk, IfErr, IfSome, IfNone};
+//! `meaning`, `before`, `numbered` and `fault`.
+ghost use Rattle.std.specs.Prelude.{◌≡◌, ◌↔◌, ◌≤◌, ℕ, All, length, false, IsTrue, IfOk, IfErr, IfSome, IfNone};
 ghost use Rattle.tsdb_model.specs.Commands.{IsWellFormed};
 ghost use Rattle.tsdb_base.specs.Limits.{max_commands, max_line_bytes, max_script_bytes};
 ghost use Rattle.tsdb_script.specs.Reading.{content_of, is_skipped, sessions_of, BeginsStatement, IsBadLine, IsCommand};
@@ -8,6 +8,7 @@ ghost use Rattle.tsdb_script.specs.Reading.{IsSession, IsSkipped};
 ghost use Rattle.tsdb_script.specs.LineSteps.{script_line_at, AreDifferentOf, HasNoSession, HasSessionRoom, HasSession};
 ghost use Rattle.tsdb_script.specs.Steps.{FaultsWith};
 
+use crate::before::last_insert;
 use crate::fault::LineFault;
 use crate::lexer::read_tokens;
 use crate::lines::{begins_with, content, is_skipped};
@@ -18,8 +19,6 @@ use crate::token::{Token, WordToken};
 use std::alloc::Global;
 use std::str;
 use tsdb_base::limits::{MAX_COMMANDS, MAX_LINE_BYTES, MAX_SCRIPT_BYTES, MAX_SESSIONS};
-use tsdb_model::Command;
-use tsdb_path::Path;
 
 /// A limit is passed.
 const PAST_LIMIT: LineFault = LineFault::Bad { kind: 9 };
@@ -41,7 +40,8 @@ pub fn read_line<'a>(
     sessions: &[u16],
     tokens: &mut Tokens<'a>,
 ) -> Result<Option<Numbered>, LineFault>
-    requires { AreDifferentOf sessions.now (sessions_of script.now) }
+    requires sessions { AreDifferentOf sessions.now (sessions_of script.now) }
+    requires good { All (λ numbered. IsWellFormed numbered.command) script.now }
     ensures command { IfOk result (λ said. IfSome said (IsCommand (script_line_at line.now script.now end))) }
     ensures skipped { IfOk result (λ said. IfNone said (IsSkipped (script_line_at line.now script.now end))) }
     ensures bad { IfErr result (FaultsWith (IsBadLine (script_line_at line.now script.now end))) }
@@ -72,6 +72,7 @@ fn read_command<'a>(
     requires line_bytes { length line.now ≤ max_line_bytes }
     requires script_bytes { end ≤ max_script_bytes }
     requires sessions { AreDifferentOf sessions.now (sessions_of script.now) }
+    requires good { All (λ numbered. IsWellFormed numbered.command) script.now }
     ensures command { IfOk result (IsCommand (script_line_at line.now script.now end)) }
     ensures bad { IfErr result (FaultsWith (IsBadLine (script_line_at line.now script.now end))) }
 {
@@ -84,21 +85,8 @@ fn read_command<'a>(
         return Err(NO_STATEMENT);
     }
     let syntax = statement(alloc, tokens)?;
-    let command = command_of(alloc, &syntax, last_device(script))?;
+    let command = command_of(alloc, &syntax, &last_insert(script))?;
     Ok(Numbered { session, command })
-}
-
-/// The device of the last command, where that is an insert.
-fn last_device(script: &[Numbered]) -> Option<&Path> {
-    match script.last() {
-        Some(
-            Numbered {
-                command: Command::Insert { device, .. },
-                ..
-            },
-        ) => Some(device),
-        _ => None,
-    }
 }
 
 /// Takes the session that the tokens begin with.

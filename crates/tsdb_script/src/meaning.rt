@@ -1,5 +1,5 @@
-//! What a statement means: its words from the left, and then the whole. Depends on `words`, `conditions`, `syntax` and
-//! `fault`.
+//! What a statement means: its words from the left, and then the whole. Depends on `words`, `conditions`, `syntax`,
+//! `before` and `fault`.
 ghost use Rattle.std.specs.Prelude.{◌≡◌, ◌≤◌, ◌↔◌, ◌∷◌, [], All, None, IsTrue, IfOk, IfErr, map, length};
 ghost use Rattle.std.specs.List.{AllByRecursion, AllZip, flat_map};
 ghost use Rattle.std.specs.Option.{IsSome};
@@ -12,6 +12,7 @@ ghost use Rattle.tsdb_script.specs.Meaning.{Means, Objects, aggregate_role, colu
 ghost use Rattle.tsdb_script.specs.Meaning.{DeviceOf, Measurement, Scalar};
 ghost use Rattle.tsdb_script.specs.Steps.{FaultsWith};
 
+use crate::before::{Before, are_named};
 use crate::conditions::range_of;
 use crate::fault::LineFault;
 use crate::syntax::{Condition, Operand, Syntax, SyntaxColumn};
@@ -99,10 +100,14 @@ fn items(alloc: Global, columns: &[SyntaxColumn]) -> Result<Vec<Item>, LineFault
 }
 
 /// Whether no name stands at two places.
-fn are_different(alloc: Global, names: &[Name]) -> Result<bool, Memory>
+fn are_different(alloc: Global, names: &[Name], before: &[Cell]) -> Result<bool, Memory>
+    requires { AreDifferent (map (λ cell. cell.measurement) before.now) }
     ensures { IfOk result (λ yes. IsTrue yes ↔ AreDifferent names.now) }
 {
     if names.len() < 2 {
+        return Ok(true);
+    }
+    if are_named(before, names) {
         return Ok(true);
     }
     let mut seen = HashSet::new(alloc);
@@ -115,13 +120,19 @@ fn are_different(alloc: Global, names: &[Name]) -> Result<bool, Memory>
 }
 
 /// Whether an insert has at most 1,000 names, all different, each with a value.
-fn are_paired(alloc: Global, names: &[Name], values: &[Operand]) -> Result<bool, Memory>
+fn are_paired(
+    alloc: Global,
+    names: &[Name],
+    values: &[Operand],
+    before: &[Cell],
+) -> Result<bool, Memory>
+    requires { AreDifferent (map (λ cell. cell.measurement) before.now) }
     ensures { IfOk result (λ yes. IsTrue yes ↔ ArePaired names.now values.now) }
 {
     if names.len() > MAX_NAMES || names.len() != values.len() {
         return Ok(false);
     }
-    are_different(alloc, names)
+    are_different(alloc, names, before)
 }
 
 /// The cells of these names and values.
@@ -216,15 +227,16 @@ fn insert(
     names: &List<WordToken>,
     time: &WordToken,
     values: &List<Operand>,
-    before: Option<&Path>,
+    before: &Before,
 ) -> Result<Command, LineFault>
+    requires { AreDifferent (map (λ cell. cell.measurement) before.now.cells.now) }
     ensures found { IfOk result (Means (Syntax.Insert device.now names.now time.now values.now)) }
     ensures bad { IfErr result (FaultsWith (Objects (Syntax.Insert device.now names.now time.now values.now))) }
 {
-    let device = device_path_after(alloc, device, before)?;
+    let device = device_path_after(alloc, device, before.device)?;
     let names = measurements(alloc, &device, names.items())?;
     let time = number(time)?;
-    if !are_paired(alloc, names.as_slice(), values.items())? {
+    if !are_paired(alloc, names.as_slice(), values.items(), before.cells)? {
         // A bad value is found before the statement as a whole is.
         check_values(alloc, values.items())?;
         return Err(UNBALANCED);
@@ -274,13 +286,14 @@ fn select(
     })
 }
 
-/// The command that a statement says, behind an insert into a device or none.
+/// The command that a statement says, behind an insert or none.
 pub fn command_of(
     alloc: Global,
     syntax: &Syntax,
-    before: Option<&Path>,
+    before: &Before,
 ) -> Result<Command, LineFault>
-    requires { HasNeededParts syntax.now }
+    requires parts { HasNeededParts syntax.now }
+    requires before { AreDifferent (map (λ cell. cell.measurement) before.now.cells.now) }
     ensures found { IfOk result (Means syntax.now) }
     ensures good { IfOk result IsWellFormed }
     ensures bad { IfErr result (FaultsWith (Objects syntax.now)) }

@@ -57,8 +57,8 @@ returns-then-not-begins_statement-clause-command c = search rules
 pub returns-in_err-syntax-clause-command : goal.returns-in_err-syntax-clause-command
 returns-in_err-syntax-clause-command c = search rules
 
-pub command_of-requires : goal.command_of-requires
-command_of-requires c = search rules
+pub command_of-requires-clause-parts : goal.command_of-requires-clause-parts
+command_of-requires-clause-parts c = search rules
 
 pub returns-in_err-command-clause-command : goal.returns-in_err-command-clause-command
 returns-in_err-command-clause-command c = search rules

@@ -40,6 +40,9 @@ read_command-requires-clause-script_bytes c = search rules
 pub read_command-requires-clause-sessions : goal.read_command-requires-clause-sessions
 read_command-requires-clause-sessions c = search rules
 
+pub read_command-requires-clause-good : goal.read_command-requires-clause-good
+read_command-requires-clause-good c = search rules
+
 pub returns-in_err-numbered-clause-command : goal.returns-in_err-numbered-clause-command
 returns-in_err-numbered-clause-command c = search rules
 

@@ -38,8 +38,12 @@ overflow_sub-end c = grind (arith, common_steps)
 pub overflow_add-number : goal.overflow_add-number
 overflow_add-number c = search rules
 
-pub read_line-requires : goal.read_line-requires
-read_line-requires c = search rules
+pub read_line-requires-clause-sessions : goal.read_line-requires-clause-sessions
+read_line-requires-clause-sessions c = search rules
+
+pub read_line-requires-clause-good : goal.read_line-requires-clause-good
+read_line-requires-clause-good c =
+    rw c.as_slice.ensures.value (well_formed_lines c.loop-rest.invariant.front c.loop-rest.script.items c.loop-rest.invariant.gives)
 
 pub push-requires-clause-sessions : goal.push-requires-clause-sessions
 push-requires-clause-sessions c = search rules
