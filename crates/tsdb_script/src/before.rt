@@ -19,10 +19,12 @@ pub fn last_insert(script: &[Numbered]) -> Before<'_>
     ensures { AreDifferent (map (λ cell. cell.measurement) result.cells.now) }
 {
     match script.last() {
-        Some(Numbered {
-            command: Command::Insert { device, row },
-            ..
-        }) => Before {
+        Some(
+            Numbered {
+                command: Command::Insert { device, row },
+                ..
+            },
+        ) => Before {
             device: Some(device),
             cells: row.cells.items(),
         },

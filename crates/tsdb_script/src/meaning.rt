@@ -287,11 +287,7 @@ fn select(
 }
 
 /// The command that a statement says, behind an insert or none.
-pub fn command_of(
-    alloc: Global,
-    syntax: &Syntax,
-    before: &Before,
-) -> Result<Command, LineFault>
+pub fn command_of(alloc: Global, syntax: &Syntax, before: &Before) -> Result<Command, LineFault>
     requires parts { HasNeededParts syntax.now }
     requires before { AreDifferent (map (λ cell. cell.measurement) before.now.cells.now) }
     ensures found { IfOk result (Means syntax.now) }
