@@ -2,12 +2,13 @@
 use Rattle.std.proofs.Common.{◌≡◌, List, [], ◌∷◌, map, ap, refl, sym, subst, ◌∙◌}
 use Rattle.std.specs.List.{AllByRecursion as Each}
 use Rattle.std.specs.Prelude.{IsSome}
-use Rattle.tsdb_base.proofs.Lists.{each_both}
+use Rattle.tsdb_base.proofs.Lists.{each_both, each_weaker}
 use Rattle.tsdb_compactions.specs.Jobs.{input_file}
 use Rattle.tsdb_compactions.specs.Outputs.{IsInputRead, IsToldAs, TellsInputs, TellsTruth, winner}
 use Rattle.tsdb_compactions.specs.declared.job.Input.{Input}
 use Rattle.tsdb_compactions.specs.declared.job.Job.{Job}
 use Rattle.tsdb_outside.specs.Files.{NamedFile}
+use Rattle.tsdb_state.proofs.ReplayLemmas.Stores.{one_told}
 use Rattle.tsdb_state.specs.Layers.{value_in}
 use Rattle.tsdb_state.specs.Places.{PointPlace}
 use Rattle.tsdb_state.specs.State.{ToldContents}
@@ -48,3 +49,22 @@ module _ {F S R P : Type 0} (told later : ToldContents) where
 
     pub inputs_stay : TellsInputs name told job → TellsInputs name later job
     inputs_stay tells = record { truth = truth_stays tells.truth; all = tells.all }
+
+  module _ (name : R → NamedFile) (job : Job F S R P) where
+    right_tells : (input : Input F S R P) → IsInputRead name later input → IsSome (name input.right).bytes
+    right_tells input read = subst IsSome (sym read.there) refl
+
+    told_again : (input : Input F S R P) → (IsSome (name input.right).bytes → IsInputRead name told input)
+        → IsInputRead name later input → IsToldAs told later input
+    told_again input before read = one_told (λ number. (name input.right).bytes) later told (input_file input) read
+        (before (right_tells input read))
+
+    -- The bytes of a file tell its points. So where all inputs are read, each of them is told as it was.
+    pub inputs_last : TellsTruth name told job → Each (IsInputRead name later) job.inputs → TellsInputs name later job
+    inputs_last truth read = inputs_stay name job
+        (each_both (λ (input : Input F S R P). IsSome (name input.right).bytes → IsInputRead name told input)
+        (IsInputRead name later) (IsToldAs told later) told_again job.inputs truth.read read) (record {
+      truth = truth;
+      all = each_weaker (IsInputRead name later) (λ (input : Input F S R P). IsSome (name input.right).bytes)
+          right_tells job.inputs read;
+    })

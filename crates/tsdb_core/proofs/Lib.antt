@@ -12,6 +12,7 @@ pub mod LoansInputs
 pub mod LoansJobs
 pub mod LoansOut
 pub mod LoansRights
+pub mod LoansTold
 pub mod Oldest
 pub mod Opened
 pub mod Out

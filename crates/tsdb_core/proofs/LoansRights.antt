@@ -164,6 +164,14 @@ of_lent P (rights ∷ lent) all = (
       (among_right rights (all_lent lent) right among))),
 )
 
+-- the rights of each job and pin are among all
+pub lent_of : (mine : List LentRight) (lent : List (List LentRight)) → Among mine lent
+    → Each (λ right. Among right (all_lent lent)) mine
+lent_of mine lent among =
+    let P : LentRight → Type 0 = λ right. Among right (all_lent lent) in
+    each_among (λ rights. Each P rights) lent mine
+    (of_lent P lent (each_from_among P (all_lent lent) (λ right is. is))) among
+
 -- what holds of all rights holds of those of each job and pin
 pub named_of : (files : KeptFiles) (mine : List LentRight) (lent : List (List LentRight)) → Among mine lent
     → AreRightsKept files (all_lent lent) → Each (IsNamedIn files) mine

@@ -3,6 +3,7 @@
 //! tsdb_pin.
 ghost use Rattle.std.specs.List.{AllByRecursion as Each};
 ghost use Rattle.std.specs.Prelude.{[], List, Option};
+ghost use Rattle.tsdb_tasks.specs.CompactionsOutputs.{TellsInputs, TellsTruth};
 ghost use Rattle.tsdb_tasks.specs.Jobs.{IsCompactionOf};
 ghost use Rattle.tsdb_core.specs.Compactions.{AreOnInputs, IsHandedOut, IsJobOut, job_rights};
 ghost use Rattle.tsdb_core.specs.Core.{IsSeen, KeepsJobs, files_of, logged_of};
@@ -18,7 +19,7 @@ ghost use Rattle.tsdb_model.specs.State as plain;
 ghost use Rattle.tsdb_outside.specs.Disk.{Image};
 ghost use Rattle.tsdb_state.specs.Order.{all_files};
 ghost use Rattle.tsdb_state.specs.State as state;
-ghost use Rattle.tsdb_state.specs.State.{Compaction, EngineState};
+ghost use Rattle.tsdb_state.specs.State.{Compaction, EngineState, ToldContents};
 ghost use Rattle.tsdb_state.specs.StoredEngine.{IsKeptWhole, LeadsTo, LeavesOneOf};
 ghost use Rattle.tsdb_state.specs.Stores.{IsStateOf};
 
@@ -70,6 +71,17 @@ pub fn a_kept_compaction_is_out<J: Journal, F: Files>(_core: &Core<J, F>, _job: 
         (lent : List (List LentRight)) → IsHandedOut _job.now → IsCompactionOf _job.now compaction
         → IsWithOne compaction others compactions → Among (job_rights F.Right.file _job.now) lent
         → KeepsLoans _core.now flushes compactions lent → IsJobOut F.Right.file _core.now _job.now }
+{}
+
+/// The truth of a job lasts: while its rights are kept, whatever came since its beginning, each state that the core
+/// shows tells of its inputs what was told then, and its rights tell their bytes. So it can be committed with what is
+/// told now.
+pub fn a_kept_compaction_tells<J: Journal, F: Files>(_core: &Core<J, F>, _job: &Job<F>)
+    ensures { (outside : Outside) (engine : EngineState) (flushes : List state.FlushState)
+        (compactions : List Compaction) (lent : List (List LentRight)) (begun : ToldContents)
+        → IsSeen _core.now outside engine → KeepsLoans _core.now flushes compactions lent
+        → Among (job_rights F.Right.file _job.now) lent → TellsTruth F.Right.file begun _job.now
+        → TellsInputs F.Right.file outside.told _job.now }
 {}
 
 /// A pin has the rights that it gives back; where they are kept it can be given back.

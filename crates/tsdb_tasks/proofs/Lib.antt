@@ -25,6 +25,7 @@ pub mod OutputEnds
 pub mod OutputsBuilt
 pub use Rattle.tsdb_compactions.proofs.Planned
 pub use Rattle.tsdb_compactions.proofs.Outputs
+pub use Rattle.tsdb_compactions.proofs.Staying
 pub use Rattle.tsdb_pin.proofs.Changing
 pub use Rattle.tsdb_pin.proofs.Gathered
 pub use Rattle.tsdb_pin.proofs.Pinned

@@ -50,7 +50,7 @@ one_content tree a b is_a is_b = same_content a b (λ place. alike (get a place)
     (λ value has. (is_a place value).1 ((is_b place value).0 has)))
 
 -- the points of a file that is there are told by its bytes
-one_told : (files : BytesByNumber) (a b : ToldContents) (file : File) → IsWhole files a file → IsWhole files b file
+pub one_told : (files : BytesByNumber) (a b : ToldContents) (file : File) → IsWhole files a file → IsWhole files b file
     → a file.number ≡ b file.number
 one_told files a b file one other =
     let there : Some one.bytes ≡ Some other.bytes = sym one.there ∙ other.there in
