@@ -101,6 +101,13 @@ impl<J: Journal, F: Files> Core<J, F> {
         }
     }
 
+    /// The number that the next file gets.
+    pub fn next_file(&self) -> u64
+        ensures { result ≡ next_of self.now }
+    {
+        self.next_file
+    }
+
     /// What is kept of the files of a list, in its order.
     pub fn entries(&self, space: Space) -> &[FileEntry]
         ensures { result.now ≡ entries_in space (files_of self.now) }
