@@ -28,6 +28,7 @@ pub mod RowMoments
 pub mod Seen
 pub mod Taking
 pub mod Worlds
+pub mod Crossing
 pub use Rattle.tsdb_tasks.proofs.Coming
 pub use Rattle.tsdb_tasks.proofs.Stored
 pub use Rattle.tsdb_fileset.proofs.Swept

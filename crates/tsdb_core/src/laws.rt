@@ -1,6 +1,6 @@
-//! The laws. A function here does nothing; its contract says a law. What a core keeps for jobs and pins that are out,
-//! it keeps until they end, so that their ends can be called. Depends on `engine`, tsdb_compactions, tsdb_flush and
-//! tsdb_pin.
+//! The laws. A function here does nothing; its contract says a law, or the bounds of what it calls. What a core keeps
+//! for jobs and pins that are out, it keeps until they end, so that their ends can be called. Depends on `engine`,
+//! tsdb_compactions, tsdb_flush and tsdb_pin.
 ghost use Rattle.std.specs.List.{AllByRecursion as Each};
 ghost use Rattle.std.specs.Prelude.{[], List, Option};
 ghost use Rattle.tsdb_tasks.specs.CompactionsOutputs.{TellsInputs, TellsTruth};
@@ -24,7 +24,7 @@ ghost use Rattle.tsdb_state.specs.StoredEngine.{IsKeptWhole, LeadsTo, LeavesOneO
 ghost use Rattle.tsdb_state.specs.Stores.{IsStateOf};
 
 use crate::engine::Core;
-use tsdb_fileset::FlushJob;
+use tsdb_fileset::{Built, FlushJob, Flushed};
 use tsdb_outside::{Files, Journal};
 use tsdb_tasks::{Job, Pin};
 
@@ -91,3 +91,23 @@ pub fn a_kept_pin_is_held<J: Journal, F: Files>(_core: &Core<J, F>, _pin: &Pin<F
         → Among (pin_rights F.Right.file _pin.now) lent → KeepsLoans _core.now flushes compactions lent
         → AreColumnsHeld F.Right.file (files_of _core.now) _pin.now.columns }
 {}
+
+/// The value may go to another thread.
+fn crosses<T: Send>(_value: &T) {}
+
+/// A core, and all that it hands out and takes back, may go to another thread.
+pub fn a_core_crosses<J: Journal, F: Files>(
+    _core: &Core<J, F>,
+    _flush: &FlushJob,
+    _files: &Flushed<F>,
+    _output: &Built<F>,
+    _job: &Job<F>,
+    _pin: &Pin<F>,
+) {
+    crosses(_core);
+    crosses(_flush);
+    crosses(_files);
+    crosses(_output);
+    crosses(_job);
+    crosses(_pin);
+}

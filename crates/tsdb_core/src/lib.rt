@@ -22,7 +22,7 @@ mod rows;
 pub use commit::{Commit, CoreFault};
 pub use engine::Core;
 pub use laws::{
-    a_job_is_of_a_compaction, a_kept_compaction_is_out, a_kept_compaction_tells,
+    a_core_crosses, a_job_is_of_a_compaction, a_kept_compaction_is_out, a_kept_compaction_tells,
     a_kept_flush_is_out, a_kept_pin_is_held, listed_files_are_kept, nothing_is_lent,
     nothing_lent_is_unread,
 };

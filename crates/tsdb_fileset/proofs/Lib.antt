@@ -13,6 +13,7 @@ pub mod Joining
 pub mod Spans
 pub mod Telling
 pub mod StoredPlaces
+pub mod Crossing
 pub use Rattle.tsdb_flush.proofs.Types
 pub use Rattle.tsdb_flush.proofs.Emptiness
 pub use Rattle.tsdb_flush.proofs.RowCells
@@ -20,3 +21,4 @@ pub use Rattle.tsdb_flush.proofs.MemoryNumbers
 pub use Rattle.tsdb_flush.proofs.RowLemmas
 pub use Rattle.tsdb_flush.proofs.LayerLemmas
 pub use Rattle.tsdb_flush.proofs.States
+pub use Rattle.tsdb_flush.proofs.Crossing as FlushCrossing

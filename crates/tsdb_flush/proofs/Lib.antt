@@ -11,6 +11,7 @@ pub mod Sorting
 pub mod TakenParts
 pub mod Jobs
 pub mod States
+pub mod Crossing
 pub use Rattle.tsdb_memory.proofs.Counts
 pub use Rattle.tsdb_memory.proofs.Frozen
 pub use Rattle.tsdb_memory.proofs.Borns

@@ -4,3 +4,4 @@ pub mod RunLemmas
 pub mod IndexLemmas
 pub mod ModelLemmas
 pub mod OnlyLemmas
+pub mod Crossing

@@ -17,5 +17,6 @@ pub mod Typing
 pub mod RowLemmas
 pub mod LogLemmas
 pub mod Following
+pub mod Crossing
 pub use Rattle.tsdb_state.proofs.LayerLemmas
 pub use Rattle.tsdb_state.proofs.ImageLemmas

@@ -5,3 +5,4 @@ pub mod Asked
 pub mod Gathered
 pub mod Stated
 pub mod Pinned
+pub mod Crossing

@@ -29,3 +29,5 @@ pub use Rattle.tsdb_compactions.proofs.Staying
 pub use Rattle.tsdb_pin.proofs.Changing
 pub use Rattle.tsdb_pin.proofs.Gathered
 pub use Rattle.tsdb_pin.proofs.Pinned
+pub use Rattle.tsdb_compactions.proofs.Crossing as JobCrossing
+pub use Rattle.tsdb_pin.proofs.Crossing as PinCrossing
