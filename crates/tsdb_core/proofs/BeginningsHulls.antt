@@ -64,4 +64,4 @@ module _ {J F S R P : Type 0} {means : disk.Ghosts J} {counts : counted.Ghosts J
   hulls_in_order core kept outside engine seen =
       let stored = seen.sound.stored in
       let of = rise outside.told outside.known stored.named engine core.files stored.order seen.files kept in
-      record { sequence = of Sequence; unsequence = of Unsequence }
+      record { sequence = λ may. of Sequence; unsequence = λ may. of Unsequence }

@@ -1,6 +1,6 @@
 -- What the calls of a core that begin a compaction leave.
-use Rattle.std.specs.Prelude.{◌≡◌, ◌⊎◌, ℕ, ◌+◌, ◌<◌, ◌≤◌, Bool, true, false, List, ◌∷◌, map, Option, None, Some, Result}
-use Rattle.std.specs.Prelude.{slice_range}
+use Rattle.std.specs.Prelude.{◌≡◌, ◌⊎◌, ℕ, ◌+◌, ◌<◌, ◌≤◌, ◌==◌, ◌&&◌, Bool, true, false, not, List, ◌∷◌, map, Option}
+use Rattle.std.specs.Prelude.{None, Some, Result, length, slice_range}
 use Rattle.std.specs.List.{filter}
 use Rattle.std.specs.Option.{option_map}
 use Rattle.std.specs.declared.result.Result.TheVariants.{Ok, Err}
@@ -95,10 +95,14 @@ module _ {J F S R P : Type 0} {means : disk.Ghosts J} {counts : counted.Ghosts J
   abbrev pub ArePlanned : Space → Core J F S R P means counts → InputRuns → Type 0
   ArePlanned space core runs = IsInnerRuns space core runs ⊎ ((space ≡ Sequence) × IsCrossRuns core runs)
 
-  -- what is kept of each listed file has its hulls in order
+  -- a cross plan can be: there is a late file, and no job has claimed the sequence list
+  abbrev pub may_cross : Core J F S R P means counts → Bool
+  may_cross core = not (length (files_of core).unsequence == 0) && not (is_sequence_claimed core)
+
+  -- where a cross plan can be, what is kept of each listed file has its hulls in order
   pub record HaveHulls (core : Core J F S R P means counts) : Type 0 where
-    pub sequence : HaveRisingHulls (files_of core).sequence
-    pub unsequence : HaveRisingHulls (files_of core).unsequence
+    pub sequence : may_cross core ≡ true → HaveRisingHulls (files_of core).sequence
+    pub unsequence : may_cross core ≡ true → HaveRisingHulls (files_of core).unsequence
 
   -- The job is for an output of the space, and has the files of the runs, the stamp, the marks of their series and their
   -- schemas as memory has them, and the next number.

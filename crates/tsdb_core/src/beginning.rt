@@ -26,7 +26,7 @@ const MAX_RECORD_INPUTS: usize = 100_000_000;
 
 impl<J: Journal, F: Files> Core<J, F> {
     ghost use Rattle.tsdb_core.specs.Beginnings.{ArePlanned, HaveHulls, IsBegun, IsBegunOrNot, IsCrossRuns};
-    ghost use Rattle.tsdb_core.specs.Beginnings.{IsInnerRuns, IsNotBegun};
+    ghost use Rattle.tsdb_core.specs.Beginnings.{IsInnerRuns, IsNotBegun, may_cross};
     ghost use Rattle.tsdb_core.specs.Core.{IsSeen, files_of, next_of};
     ghost use Rattle.tsdb_core.specs.Worlds.{CoreKeepsWorld};
     ghost use Rattle.tsdb_fileset.specs.Files.{AreKept};
@@ -50,8 +50,8 @@ impl<J: Journal, F: Files> Core<J, F> {
     /// The job of the first late files with the sequence files that they meet: the cross plan of the lists. There is
     /// none while a job has claimed the sequence list. All memory that the job's end needs is taken.
     ///
-    /// Where the hulls that are kept of a listed file are not in order it answers `Memory`. In each state that the core
-    /// shows they are.
+    /// Hulls are compared where no job has claimed the sequence list and there is a late file. Where those of a listed
+    /// file are not in order it answers `Memory`. In each state that the core shows they are.
     pub fn begin_cross(&mut self) -> Result<Option<Job<F>>, CoreFault>
         ensures answer { HaveHulls self.old → IsBeginAnswer (IsCrossRuns self.old) (next_of self.old) result }
         ensures begun { IsBegunOrNot F.Right.file Sequence (IsCrossRuns self.old) self.old self.new result }
@@ -115,13 +115,22 @@ impl<J: Journal, F: Files> Core<J, F> {
         }
     }
 
-    /// Whether what is kept of each listed file has its hulls in order.
+    /// Whether a cross plan can be: there is a late file, and no job has claimed the sequence list.
+    fn may_cross(&self) -> bool
+        ensures may { result ≡ may_cross self.now }
+        ensures kept { AreKept (files_of self.now) }
+    {
+        !self.files.entries(Space::Unsequence).is_empty() && !self.sequence_claimed
+    }
+
+    /// Whether what is kept of each listed file has its hulls in order, where a cross plan can be.
     fn has_hulls(&self) -> bool
         ensures order { IsTrue result ↔ HaveHulls self.now }
         ensures kept { AreKept (files_of self.now) }
     {
-        have_rising_hulls(self.files.entries(Space::Sequence))
-            && have_rising_hulls(self.files.entries(Space::Unsequence))
+        !self.may_cross()
+            || have_rising_hulls(self.files.entries(Space::Sequence))
+                && have_rising_hulls(self.files.entries(Space::Unsequence))
     }
 
     /// The files of the cross plan, where no job has claimed the sequence list.
@@ -130,7 +139,7 @@ impl<J: Journal, F: Files> Core<J, F> {
         ensures found { IfSome result (IsCrossRuns self.now) }
         ensures none { IfNone result ((runs : RunsOf) → ¬ IsCrossRuns self.now runs) }
     {
-        if self.sequence_claimed {
+        if !self.may_cross() {
             return None;
         }
         match cross(
