@@ -1,12 +1,15 @@
 -- No field's bytes begin those of another field of its kind.
-use Rattle.std.proofs.Common.{◌≡◌, ℕ, ◌<◌, ◌^◌, List, ◌++◌, refl, sym, ap, ◌∙◌, append_assoc}
-use Rattle.std.specs.Int.{w16, w32, w64, from_be_bytes}
+use Rattle.std.proofs.Common.{◌≡◌, ℕ, ◌<◌, ◌^◌, List, ◌++◌, refl, sym, ap, ◌∙◌, append_assoc, arith}
+use Rattle.std.specs.Prelude.{ℤ, ◌/◌, ◌%◌, FitsSigned}
+use Rattle.std.specs.Int.{w16, w32, w64, w128, from_be_bytes, cast_signed, cast_unsigned}
+use Rattle.std.proofs.lemmas.Int.{to_z-of_z, ints}
 use Rattle.std.proofs.lemmas.Nat.{from_be_bytes-to_be_bytes_2, from_be_bytes-to_be_bytes_4, from_be_bytes-to_be_bytes_8}
 use Rattle.tsdb_base.specs.declared.value.DataType.{DataType}
 use Rattle.tsdb_base.specs.declared.value.DataType.TheVariants.{Boolean, Int32, Int64, Text}
 use Rattle.tsdb_base.specs.declared.value.Encoding.{Encoding}
 use Rattle.tsdb_base.specs.declared.value.Encoding.TheVariants.{Plain, Dictionary, Rle, Ts2diff}
 use Rattle.tsdb_base.specs.Fields.{number16, number32, number64, type_field, encoding_field, pair_field, IsPair}
+use Rattle.tsdb_base.specs.Plain.{plain_i128}
 use Rattle.tsdb_base.specs.PlainLaws.{same_front}
 
 pub number16-prefix_free : (a b : ℕ) (x y : List ℕ) → a < 2 ^ 16 → b < 2 ^ 16 → number16 a ++ x ≡ number16 b ++ y
@@ -88,3 +91,18 @@ pair_field-prefix_free first second IsFirst IsSecond free_first free_second (a, 
     let same_first : a ≡ b = heads.0 in
     let same_second : c ≡ d = tails.0 in
     (cc, tails.1)
+
+pub plain_i128-prefix_free : (a b : ℤ) (x y : List ℕ) → FitsSigned w128 a → FitsSigned w128 b
+    → plain_i128 a ++ x ≡ plain_i128 b ++ y → (a ≡ b) × (x ≡ y)
+plain_i128-prefix_free a b x y va vb e =
+    let below_a : cast_unsigned w128 a < 2 ^ 128 = omega (arith, ints) in
+    let below_b : cast_unsigned w128 b < 2 ^ 128 = omega (arith, ints) in
+    let small : ℕ → Type 0 = λ n. n < 2 ^ 64 in
+    let same = pair_field-prefix_free number64 number64 small small number64-prefix_free number64-prefix_free
+    (cast_unsigned w128 a / 2 ^ 64, cast_unsigned w128 a % 2 ^ 64)
+    (cast_unsigned w128 b / 2 ^ 64, cast_unsigned w128 b % 2 ^ 64) x y
+    (omega (arith, below_a), omega arith) (omega (arith, below_b), omega arith) e in
+    let high : cast_unsigned w128 a / 2 ^ 64 ≡ cast_unsigned w128 b / 2 ^ 64 = ap (λ (p : ℕ × ℕ). p.0) same.0 in
+    let low : cast_unsigned w128 a % 2 ^ 64 ≡ cast_unsigned w128 b % 2 ^ 64 = ap (λ (p : ℕ × ℕ). p.1) same.0 in
+    let number : cast_unsigned w128 a ≡ cast_unsigned w128 b = omega (arith, high, low) in
+    (sym (to_z-of_z w128 a va) ∙ ap (cast_signed w128) number ∙ to_z-of_z w128 b vb, same.1)

@@ -1,6 +1,6 @@
 -- The bytes of one value by itself, as the encodings, the index and the log write it.
-use Rattle.std.specs.Prelude.{◌≡◌, ℕ, ℤ, Bool, true, false, ◌≤◌, List, [], ◌∷◌, ◌++◌, length, All}
-use Rattle.std.specs.Int.{w16, w32, w64, to_be_bytes, cast_unsigned}
+use Rattle.std.specs.Prelude.{◌≡◌, ℕ, ℤ, Bool, true, false, ◌≤◌, ◌/◌, ◌%◌, ◌^◌, List, [], ◌∷◌, ◌++◌, length, All}
+use Rattle.std.specs.Int.{w16, w32, w64, w128, to_be_bytes, cast_unsigned}
 use Rattle.tsdb_base.specs.Limits.{max_text_bytes}
 
 -- one byte, 0 or 1
@@ -15,6 +15,11 @@ plain_i32 number = to_be_bytes w32 (cast_unsigned w32 number)
 -- eight bytes, the highest first
 abbrev pub plain_i64 : ℤ → List ℕ
 plain_i64 number = to_be_bytes w64 (cast_unsigned w64 number)
+
+-- sixteen bytes, the highest first: the higher eight, and the lower
+abbrev pub plain_i128 : ℤ → List ℕ
+plain_i128 number =
+    to_be_bytes w64 (cast_unsigned w128 number / 2 ^ 64) ++ to_be_bytes w64 (cast_unsigned w128 number % 2 ^ 64)
 
 -- two bytes of length, the higher first, and the text's bytes
 abbrev pub plain_text : List ℕ → List ℕ

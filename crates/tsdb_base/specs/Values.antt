@@ -1,7 +1,9 @@
--- The type of a value, what its bytes can hold, and which encodings suit a type.
+-- The type of a value, what its bytes can hold, which encodings suit a type, and which aggregates need numbers.
 use Rattle.std.specs.Prelude.{◌≡◌, Bool, true, false, FitsSigned}
 use Rattle.std.specs.Int.{w32, w64}
 use Rattle.tsdb_base.specs.Plain.{IsText}
+use Rattle.tsdb_base.specs.declared.answers.Aggregate.{Aggregate}
+use Rattle.tsdb_base.specs.declared.answers.Aggregate.TheVariants.{MinValue, MaxValue, Sum}
 use Rattle.tsdb_base.specs.declared.value.DataType.{DataType}
 use Rattle.tsdb_base.specs.declared.value.DataType.TheVariants.{Boolean, Int32, Int64, Text as TextType}
 use Rattle.tsdb_base.specs.declared.value.Encoding.{Encoding}
@@ -39,3 +41,10 @@ is_suitable Int32 Ts2diff = true
 is_suitable Int64 Ts2diff = true
 is_suitable TextType Dictionary = true
 is_suitable t encoding = false
+
+-- only numbers have a least and a greatest value, and a sum
+abbrev pub needs_numbers : Aggregate → Bool
+needs_numbers MinValue = true
+needs_numbers MaxValue = true
+needs_numbers Sum = true
+needs_numbers aggregate = false

@@ -1,4 +1,8 @@
-//! What a select computes, and what a command answers where it returns no lines.
+//! What a select computes, and what a command answers where it returns no lines. Depends on `value`.
+ghost use Rattle.std.specs.Prelude.{◌≡◌};
+ghost use Rattle.tsdb_base.specs.Values as values;
+
+use crate::value::Value;
 
 /// What a select computes over the points of a series.
 #[derive(Clone, Copy, Debug, PartialEq, Eq)]
@@ -10,6 +14,26 @@ pub enum Aggregate {
     MaxValue,
     MinTime,
     MaxTime,
+    Sum,
+}
+
+impl Aggregate {
+    /// Whether only numbers have it.
+    pub fn needs_numbers(self) -> bool
+        ensures { result ≡ values.needs_numbers self }
+    {
+        matches!(
+            self,
+            Aggregate::MinValue | Aggregate::MaxValue | Aggregate::Sum
+        )
+    }
+}
+
+/// What an aggregate comes to. A sum of 64-bit values has 128 bits.
+#[derive(Debug, PartialEq, Eq, Drop)]
+pub enum Figure {
+    Value(Value),
+    Sum(i128),
 }
 
 /// What a command answers where it returns no lines.

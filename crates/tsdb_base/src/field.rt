@@ -1,9 +1,12 @@
-//! Unsigned numbers, types and encodings by themselves as bytes, as the fields of a file's index and of the log's
+//! Unsigned numbers, sums, types and encodings by themselves as bytes, as the fields of a file's index and of the log's
 //! records are. Depends on `plain` and `value`.
-ghost use Rattle.std.specs.Prelude.{◌≡◌, ◌<◌, ◌^◌, [], ◌∷◌};
+ghost use Rattle.std.specs.Int.{w128, cast_signed, cast_unsigned};
+ghost use Rattle.std.specs.Prelude.{◌≡◌, ◌+◌, ◌*◌, ◌/◌, ◌%◌, ◌<◌, ◌^◌, [], ◌∷◌, FitsSigned};
 ghost use Rattle.tsdb_base.specs.Fields.{number16, number32, number64, type_field, encoding_field, pair_field, IsPair};
 ghost use Rattle.tsdb_base.specs.FieldLaws.{number16-prefix_free, number32-prefix_free, number64-prefix_free};
 ghost use Rattle.tsdb_base.specs.FieldLaws.{type_field-prefix_free, encoding_field-prefix_free, pair_field-prefix_free};
+ghost use Rattle.tsdb_base.specs.FieldLaws.{plain_i128-prefix_free};
+ghost use Rattle.tsdb_base.specs.Plain.{plain_i128};
 
 use crate::fault::{DecodeFault, Memory};
 use crate::plain::PlainValue;
@@ -165,5 +168,41 @@ impl<A: PlainValue, B: PlainValue> PlainValue for (A, B) {
         let (first, bytes) = A::take(alloc, bytes)?;
         let (second, bytes) = B::take(alloc, bytes)?;
         Ok(((first, second), bytes))
+    }
+}
+
+/// What one is worth in the higher eight of sixteen bytes.
+const HALF: u128 = 0x1_0000_0000_0000_0000;
+
+/// The higher and the lower eight bytes of a number of sixteen.
+fn halves(number: i128) -> (u64, u64)
+    ensures high { result.0 ≡ cast_unsigned w128 number / 2 ^ 64 }
+    ensures low { result.1 ≡ cast_unsigned w128 number % 2 ^ 64 }
+{
+    let bits = number.cast_unsigned();
+    ((bits / HALF) as u64, (bits % HALF) as u64)
+}
+
+/// The number of sixteen bytes with these halves.
+fn joined(high: u64, low: u64) -> i128
+    ensures { result ≡ cast_signed w128 (high * 2 ^ 64 + low) }
+{
+    (u128::from(high) * HALF + u128::from(low)).cast_signed()
+}
+
+impl PlainValue for i128 {
+    ghost spelling = { plain_i128 };
+
+    ghost is_value = { FitsSigned w128 };
+
+    ghost prefix_free = { plain_i128-prefix_free };
+
+    fn put(&self, into: &mut Vec<u8>) -> Result<(), Memory> {
+        halves(*self).put(into)
+    }
+
+    fn take(alloc: Global, bytes: &[u8]) -> Result<(i128, &[u8]), DecodeFault> {
+        let ((high, low), rest) = <(u64, u64)>::take(alloc, bytes)?;
+        Ok((joined(high, low), rest))
     }
 }

@@ -15,7 +15,7 @@ mod steps;
 mod text;
 mod value;
 
-pub use answers::{Aggregate, Answer};
+pub use answers::{Aggregate, Answer, Figure};
 pub use fault::{DecodeFault, Memory};
 pub use field::{encoding_byte, type_byte};
 pub use ids::{FileNumber, SeriesId, Space, Stamp};

@@ -46,7 +46,7 @@ pub struct Range {
 }
 
 /// What is kept of a list of points of one type in the order of their times. `least` and
-/// `greatest` are there exactly for numbers.
+/// `greatest` are there exactly for numbers. `sum` is there for numbers alone, and may be missing.
 #[derive(Debug, PartialEq, Eq, Drop)]
 pub struct Stats {
     pub count: u64,
@@ -56,6 +56,7 @@ pub struct Stats {
     pub last: Value,
     pub least: Option<Value>,
     pub greatest: Option<Value>,
+    pub sum: Option<i128>,
 }
 
 impl Stats {
@@ -71,6 +72,7 @@ impl Stats {
             last: self.last.copy()?,
             least: copy_option(&self.least)?,
             greatest: copy_option(&self.greatest)?,
+            sum: self.sum,
         })
     }
 }
