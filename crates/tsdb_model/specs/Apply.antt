@@ -4,7 +4,7 @@ use Rattle.std.specs.Prelude.{Some, map, if◌then◌else◌}
 use Rattle.std.specs.List.{list_all, list_any}
 use Rattle.std.specs.FinMap.{get, contains_key, insert}
 use Rattle.tsdb_base.specs.declared.answers.Aggregate.{Aggregate}
-use Rattle.tsdb_base.specs.declared.answers.Aggregate.TheVariants.{MinValue, MaxValue}
+use Rattle.tsdb_base.specs.declared.answers.Figure.{Figure}
 use Rattle.tsdb_base.specs.declared.answers.Answer.{Answer}
 use Rattle.tsdb_base.specs.declared.answers.Answer.TheVariants.{Done, NoPath, WrongType, Exists}
 use Rattle.tsdb_base.specs.declared.point.Range.{Range}
@@ -12,6 +12,7 @@ use Rattle.tsdb_base.specs.declared.value.DataType.{DataType}
 use Rattle.tsdb_base.specs.declared.value.DataType.TheVariants.{Boolean, Int32, Int64, Text}
 use Rattle.tsdb_base.specs.declared.value.Value.{Value}
 use Rattle.tsdb_base.specs.declared.value.Value.TheVariants as value
+use Rattle.tsdb_base.specs.Values.{needs_numbers}
 use Rattle.tsdb_model.specs.declared.command.Cell.{Cell}
 use Rattle.tsdb_model.specs.declared.command.Command.{Command}
 use Rattle.tsdb_model.specs.declared.command.Command.TheVariants.{Create, Insert, Delete, Select}
@@ -78,11 +79,11 @@ columns_of world device items range =
     map (λ item. within range (points_of_series (series_of world device item.measurement))) items
 
 -- the aggregate that an item asks for, over the points in the range
-abbrev pub item_value : Option Aggregate → PointMap → Option Value
+abbrev pub item_value : Option Aggregate → PointMap → Option Figure
 item_value None points = None
 item_value (Some aggregate) points = aggregate_of aggregate (in_order points)
 
-abbrev pub item_values : World → List ℕ → List Item → Range → List (Option Value)
+abbrev pub item_values : World → List ℕ → List Item → Range → List (Option Figure)
 item_values world device items range =
     map (λ item. item_value item.aggregate (within range (points_of_series (series_of world device item.measurement)))) items
 
@@ -92,10 +93,9 @@ is_unordered Boolean = true
 is_unordered Text = true
 is_unordered data_type = false
 
--- the least or the greatest value is asked of a series that has no numbers
+-- an aggregate that only numbers have is asked of a series that has none
 abbrev pub is_unfit : Option Aggregate → Option Series → Bool
-is_unfit (Some MinValue) (Some series) = is_unordered series.data_type
-is_unfit (Some MaxValue) (Some series) = is_unordered series.data_type
+is_unfit (Some aggregate) (Some series) = needs_numbers aggregate && is_unordered series.data_type
 is_unfit aggregate series = false
 
 abbrev pub any_unfit : World → List ℕ → List Item → Bool

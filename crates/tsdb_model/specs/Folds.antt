@@ -1,12 +1,14 @@
 -- What a select computes from points: the rows of several series, and the aggregates of one.
-use Rattle.std.specs.Prelude.{◌-◌, ℤ, pos, Bool, false, int_lt, List, Option, None, Some, map, length, flat_map}
+use Rattle.std.specs.Prelude.{◌-◌, ℤ, pos, ◌+ℤ◌, Bool, false, int_lt, List, Option, None, Some, map, length, flat_map}
 use Rattle.std.specs.Prelude.{slice_get, option_map, if◌then◌else◌}
 use Rattle.std.specs.Ordering.{int_cmp}
 use Rattle.std.specs.List.{filter_map, reduce}
 use Rattle.std.specs.FinMap.{entries, get, keys, from_entries, retain_keys}
 use Rattle.tsdb_base.specs.declared.answers.Aggregate.{Aggregate}
 use Rattle.tsdb_base.specs.declared.answers.Aggregate.TheVariants.{Count, FirstValue, LastValue, MinValue, MaxValue}
-use Rattle.tsdb_base.specs.declared.answers.Aggregate.TheVariants.{MinTime, MaxTime}
+use Rattle.tsdb_base.specs.declared.answers.Aggregate.TheVariants.{MinTime, MaxTime, Sum}
+use Rattle.tsdb_base.specs.declared.answers.Figure.{Figure}
+use Rattle.tsdb_base.specs.declared.answers.Figure.TheVariants as figure
 use Rattle.tsdb_base.specs.declared.point.Point.{Point}
 use Rattle.tsdb_base.specs.declared.point.Range.{Range}
 use Rattle.tsdb_base.specs.declared.value.Value.{Value}
@@ -63,13 +65,23 @@ lesser_value a b = if is_less b a then b else a
 abbrev pub greater : Value → Value → Value
 greater a b = if is_less a b then b else a
 
--- the aggregate of points in order of time: over no points 0 for a count, and else none. Count and times are whole
--- numbers of 64 bits. The least and the greatest value are among those that are numbers
-abbrev pub aggregate_of : Aggregate → List Point → Option Value
-aggregate_of Count points = Some (value.I64 (pos (length points)))
-aggregate_of FirstValue points = option_map (λ point. point.value) (slice_get points 0)
-aggregate_of LastValue points = option_map (λ point. point.value) (slice_get points (length points - 1))
-aggregate_of MinValue points = reduce lesser_value (numbers points)
-aggregate_of MaxValue points = reduce greater (numbers points)
-aggregate_of MinTime points = option_map (λ point. value.I64 point.time) (slice_get points 0)
-aggregate_of MaxTime points = option_map (λ point. value.I64 point.time) (slice_get points (length points - 1))
+-- what the points' values that are numbers are together, however large; none where none is a number
+abbrev pub sum_of : List Point → Option ℤ
+sum_of points = reduce (λ a b. a +ℤ b) (filter_map (λ point. as_number point.value) points)
+
+-- an aggregate that is a value, of points in order of time: over no points 0 for a count, and else none. Count and times
+-- are whole numbers of 64 bits. The least and the greatest value are among those that are numbers. A sum is no value
+abbrev pub value_of_points : Aggregate → List Point → Option Value
+value_of_points Count points = Some (value.I64 (pos (length points)))
+value_of_points FirstValue points = option_map (λ point. point.value) (slice_get points 0)
+value_of_points LastValue points = option_map (λ point. point.value) (slice_get points (length points - 1))
+value_of_points MinValue points = reduce lesser_value (numbers points)
+value_of_points MaxValue points = reduce greater (numbers points)
+value_of_points MinTime points = option_map (λ point. value.I64 point.time) (slice_get points 0)
+value_of_points MaxTime points = option_map (λ point. value.I64 point.time) (slice_get points (length points - 1))
+value_of_points Sum points = None
+
+-- the aggregate of points in order of time: their sum, or one that is a value
+abbrev pub aggregate_of : Aggregate → List Point → Option Figure
+aggregate_of Sum points = option_map figure.Sum (sum_of points)
+aggregate_of aggregate points = option_map figure.Value (value_of_points aggregate points)

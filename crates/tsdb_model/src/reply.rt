@@ -1,6 +1,6 @@
 //! Replies: what a command returns.
 
-use tsdb_base::{Answer, FileNumber, List, Space, Stamp, Time, Value};
+use tsdb_base::{Answer, Figure, FileNumber, List, Space, Stamp, Time, Value};
 
 /// A row of a select: a time, and the value of each item at that time, if it has one.
 #[derive(Drop)]
@@ -38,7 +38,7 @@ pub enum Reply {
     /// The rows of a select without aggregates, in order of time.
     Lines(List<Line>),
     /// The aggregates of a select, one for each item. An aggregate over no points is `None`, but 0 for a count.
-    Values(List<Option<Value>>),
+    Values(List<Option<Figure>>),
     /// The listing of the store.
     Files(Listing),
 }
