@@ -1,6 +1,6 @@
 -- The statistics of two lists, one behind the other.
 use Rattle.std.proofs.Common.{◌≡◌, ℕ, suc, ◌+◌, ◌-◌, Bool, true, false, List, [], ◌∷◌, ◌++◌, length, Option, Some, refl, sym, ap, ◌∙◌, cond, arith}
-use Rattle.std.specs.Prelude.{ℤ, slice_get, option_map, option_and_then, int_lt}
+use Rattle.std.specs.Prelude.{ℤ, None, slice_get, option_map, option_and_then, int_lt, IfSome}
 use Rattle.std.specs.List.{cons_option, fold, reduce, AllByRecursion}
 use Rattle.std.proofs.lemmas.Int.{ints}
 use Rattle.std.proofs.lemmas.List.{length-append}
@@ -10,9 +10,10 @@ use Rattle.tsdb_base.specs.declared.point.Point.{Point}
 use Rattle.tsdb_base.specs.declared.point.Stats.{Stats}
 use Rattle.tsdb_base.specs.declared.value.Value.{Value}
 use Rattle.tsdb_base.specs.declared.value.Value.TheVariants as value
-use Rattle.tsdb_model.specs.Folds.{is_less, lesser_value, greater, as_number, numbers}
-use Rattle.tsdb_stats.specs.Statistics.{AreStatsOf}
+use Rattle.tsdb_model.specs.Folds.{is_less, lesser_value, greater, as_number, numbers, sum_of}
+use Rattle.tsdb_stats.specs.Statistics.{AreStatsOf, IsJoinedSum}
 use Rattle.tsdb_stats.specs.Steps.{join_options, number_in}
+use Rattle.tsdb_stats.proofs.Sums.{sum-append}
 
 -- ---- numbers
 
@@ -141,13 +142,20 @@ last-append read before (p ∷ behind) y e =
     let own : length (p ∷ behind) - 1 ≡ length behind = omega arith in
     rw (place, slice_get-behind before (p ∷ behind) (length behind)) (rw own at e)
 
+-- the sum of both, where it is there
+joined-sum : (before behind : List Point) (a b c : Option ℤ) → IfSome a (λ x. sum_of before ≡ Some x) → IfSome b (λ x. sum_of behind ≡ Some x) → IsJoinedSum a b c → IfSome c (λ x. sum_of (before ++ behind) ≡ Some x)
+joined-sum before behind None b c is_a is_b is_c = rw is_c tt
+joined-sum before behind (Some a) None c is_a is_b is_c = rw is_c tt
+joined-sum before behind (Some a) (Some b) None is_a is_b is_c = tt
+joined-sum before behind (Some a) (Some b) (Some c) is_a is_b is_c = sum-append before behind a b is_a is_b ∙ ap Some (sym is_c.1)
+
 -- the statistics of both lists
 pub stats-append : (before behind : List Point) (l r s : Stats) → AreStatsOf before l → AreStatsOf behind r
     → s.count ≡ l.count + r.count → s.start ≡ l.start → s.end ≡ r.end → s.first ≡ l.first → s.last ≡ r.last
     → s.least ≡ join_options lesser_value (option_and_then number_in l.least) (option_and_then number_in r.least)
     → s.greatest ≡ join_options greater (option_and_then number_in l.greatest) (option_and_then number_in r.greatest)
-    → AreStatsOf (before ++ behind) s
-stats-append before behind l r s p q count start end first last least greatest = record {
+    → IsJoinedSum l.sum r.sum s.sum → AreStatsOf (before ++ behind) s
+stats-append before behind l r s p q count start end first last least greatest sum = record {
   count = omega (arith, count, p.count, q.count, length-append before behind);
   start = rw start (first-append (λ point. value.I64 point.time) before behind (value.I64 l.start) p.start);
   end = rw end (last-append (λ point. value.I64 point.time) before behind (value.I64 r.end) q.end);
@@ -155,4 +163,5 @@ stats-append before behind l r s p q count start end first last least greatest =
   last = rw last (last-append (λ point. point.value) before behind r.last q.last);
   least = chosen-append is_less lesser-choice before behind l.least r.least s.least p.least q.least least;
   greatest = chosen-append (λ a b. is_less b a) greater-choice before behind l.greatest r.greatest s.greatest p.greatest q.greatest greatest;
+  sum = joined-sum before behind l.sum r.sum s.sum p.sum q.sum sum;
 }

@@ -1,5 +1,5 @@
--- How the least and the greatest are found, value by value. No public clause speaks of these.
-use Rattle.std.specs.Prelude.{Option, None, Some}
+-- How the least, the greatest and the sum are found, value by value. No public clause speaks of these.
+use Rattle.std.specs.Prelude.{ℕ, ◌*◌, ◌^◌, ℤ, pos, neg_ℤ, ◌+ℤ◌, ◌≤ℤ◌, Option, None, Some, IfSome}
 use Rattle.tsdb_base.specs.declared.value.Value.{Value}
 use Rattle.tsdb_base.specs.declared.value.Value.TheVariants as value
 use Rattle.tsdb_model.specs.Folds.{if_number, as_number}
@@ -20,3 +20,14 @@ join_options f (Some a) (Some b) = Some (f a b)
 abbrev pub as_value : Number → Value
 as_value (number.I32 n) = value.I32 n
 as_value (number.I64 n) = value.I64 n
+
+-- two numbers together
+abbrev pub plus : ℤ → ℤ → ℤ
+plus a b = a +ℤ b
+
+-- no more than so many numbers of 64 bits can come to
+abbrev pub IsWithinCount : ℕ → ℤ → Type 0
+IsWithinCount count sum = (neg_ℤ (pos (count * 2 ^ 63)) ≤ℤ sum) × (sum ≤ℤ pos (count * 2 ^ 63))
+
+abbrev pub IsSumWithin : ℕ → Option ℤ → Type 0
+IsSumWithin count sum = IfSome sum (IsWithinCount count)

@@ -4,6 +4,7 @@
 
 mod extreme;
 mod statistics;
+mod sum;
 
-pub use statistics::{join, stats_of};
+pub use statistics::{join, join_whole, stats_of};
 pub use tsdb_model::{Name, Path};

@@ -1,12 +1,14 @@
-//! The statistics of points. Depends on `extreme`.
+//! The statistics of points. Depends on `extreme` and `sum`.
 ghost use Rattle.std.specs.Prelude.{◌≡◌, ◌≢◌, ◌+◌, ◌<◌, ◌^◌, List, ◌++◌, All, IfOk, IsOk, length};
-ghost use Rattle.std.specs.Prelude.{option_and_then, option_map};
+ghost use Rattle.std.specs.Prelude.{is_some, option_and_then, option_map};
 ghost use Rattle.tsdb_base.specs.declared.point.Point.{Point};
 ghost use Rattle.tsdb_base.specs.Values.{type_of};
-ghost use Rattle.tsdb_stats.specs.Statistics.{AreStatsOf};
+ghost use Rattle.tsdb_model.specs.Folds.{sum_of as sum_in};
+ghost use Rattle.tsdb_stats.specs.Statistics.{AreStatsOf, IsJoinedSum};
 ghost use Rattle.tsdb_stats.specs.Steps.{as_value, number_in};
 
 use crate::extreme::{Number, greater_of, greatest_of, least_of, lesser_of};
+use crate::sum::{join_sums, sum_of};
 use tsdb_base::{DataType, Memory, Point, Stats, Value};
 
 /// The number as a value, if there is one.
@@ -21,6 +23,7 @@ fn value_of(number: Option<Number>) -> Option<Value>
 pub fn stats_of(points: &[Point]) -> Result<Stats, Memory>
     requires { 0 < length points.now }
     ensures found { IfOk result (λ stats. AreStatsOf points.now stats) }
+    ensures sum { IfOk result (λ stats. stats.sum ≡ sum_in points.now) }
     ensures fixed { All (λ point. type_of point.value ≢ DataType.Text) points.now → IsOk result }
 {
     let first = &points[0];
@@ -33,6 +36,7 @@ pub fn stats_of(points: &[Point]) -> Result<Stats, Memory>
         last: last.value.copy()?,
         least: value_of(least_of(points)),
         greatest: value_of(greatest_of(points)),
+        sum: sum_of(points),
     })
 }
 
@@ -49,6 +53,7 @@ pub fn join(left: &Stats, right: &Stats) -> Result<Stats, Memory>
     requires { left.now.count + right.now.count < 2 ^ 64 }
     ensures found { IfOk result (λ stats. (before behind : List Point) →
         AreStatsOf before left.now → AreStatsOf behind right.now → AreStatsOf (before ++ behind) stats) }
+    ensures sum { IfOk result (λ stats. IsJoinedSum left.now.sum right.now.sum stats.sum) }
     ensures fixed { type_of left.now.first ≢ DataType.Text → type_of right.now.last ≢ DataType.Text → IsOk result }
 {
     let least = lesser_of(number(&left.least), number(&right.least));
@@ -61,5 +66,23 @@ pub fn join(left: &Stats, right: &Stats) -> Result<Stats, Memory>
         last: right.last.copy()?,
         least: value_of(least),
         greatest: value_of(greatest),
+        sum: join_sums(left.sum, right.sum),
     })
+}
+
+/// The statistics of both, as `join` gives them, with a sum exactly where the first have one. A count of 2^64 points is
+/// out of memory; so is a sum that the second lack, or that 128 bits do not hold.
+pub fn join_whole(left: &Stats, right: &Stats) -> Result<Stats, Memory>
+    ensures found { IfOk result (λ stats. (before behind : List Point) →
+        AreStatsOf before left.now → AreStatsOf behind right.now → AreStatsOf (before ++ behind) stats) }
+    ensures sum { IfOk result (λ stats. is_some stats.sum ≡ is_some left.now.sum) }
+{
+    if left.count.checked_add(right.count).is_none() {
+        return Err(Memory);
+    }
+    let stats = join(left, right)?;
+    if stats.sum.is_some() != left.sum.is_some() {
+        return Err(Memory);
+    }
+    Ok(stats)
 }
