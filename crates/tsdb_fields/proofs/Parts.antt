@@ -1,12 +1,13 @@
 -- Where a part of a field is missing, the field is.
-use Rattle.std.proofs.Common.{◌≡◌, ℕ, List, ◌++◌, Err, sym, ◌∙◌, append_assoc}
-use Rattle.std.specs.Prelude.{ℤ, ◌<◌, ◌^◌, Option, FitsSigned}
-use Rattle.std.specs.Int.{w64}
+use Rattle.std.proofs.Common.{◌≡◌, ℕ, Bool, true, List, ◌++◌, Err, refl, sym, ap, ◌∙◌, append_assoc}
+use Rattle.std.specs.Prelude.{ℤ, ◌<◌, ◌^◌, ◌&&◌, Option, None, Some, FitsSigned}
+use Rattle.std.specs.Int.{w64, w128}
+use Rattle.std.proofs.lemmas.Bool.{false≢true}
 use Rattle.tsdb_base.specs.declared.value.DataType.{DataType}
 use Rattle.tsdb_base.specs.declared.value.Value.{Value}
 use Rattle.tsdb_base.specs.Fields.{number64, value_field, pair_field, IsPair}
-use Rattle.tsdb_base.specs.FieldLaws.{number64-prefix_free, pair_field-prefix_free}
-use Rattle.tsdb_base.specs.Plain.{plain_i64, BeginsWithNone}
+use Rattle.tsdb_base.specs.FieldLaws.{number64-prefix_free, pair_field-prefix_free, plain_i128-prefix_free}
+use Rattle.tsdb_base.specs.Plain.{plain_i64, plain_i128, BeginsWithNone}
 use Rattle.tsdb_base.specs.PlainLaws.{plain_i64-prefix_free}
 use Rattle.tsdb_base.proofs.PlainLists.{IsPrefixFree}
 use Rattle.tsdb_base.specs.Values.{IsValueOf}
@@ -14,7 +15,7 @@ use Rattle.tsdb_fields.specs.declared.fault.FieldFault.{FieldFault}
 use Rattle.tsdb_fields.specs.declared.fault.FieldFault.TheVariants.{Bad, Memory}
 use Rattle.tsdb_fields.specs.declared.rest.Rest.{Rest}
 use Rattle.tsdb_fields.specs.Reading.{Reads, ReadsParts}
-use Rattle.tsdb_fields.specs.Statistics.{optional_field, stats_field, IsExtremeOf, IsStatsOf}
+use Rattle.tsdb_fields.specs.Statistics.{optional_field, optional_sum, stats_field, is_numeric, IsExtremeOf, IsStatsOf, IsSumIf}
 use Rattle.tsdb_fields.proofs.Laws.{value_field-prefix_free}
 
 -- the first of two is missing
@@ -70,22 +71,56 @@ extremes = pair_field optional_field optional_field
 abbrev pub AreExtremes : DataType → Option Value × Option Value → Type 0
 AreExtremes t = IsPair (IsExtremeOf t) (IsExtremeOf t)
 
+optional_field-prefix_free : (t : DataType) → IsPrefixFree optional_field (IsExtremeOf t)
+optional_field-prefix_free t None None x y is_a is_b e = (refl, e)
+optional_field-prefix_free t None (Some b) x y is_a is_b e = let u = is_b.0 in absurd cc
+optional_field-prefix_free t (Some a) None x y is_a is_b e = let u = is_a.0 in absurd cc
+optional_field-prefix_free t (Some a) (Some b) x y is_a is_b e = let same = value_field-prefix_free t a b x y is_a.1 is_b.1 e in (ap (λ v. Some v) same.0, same.1)
+
+pub extremes-prefix_free : (t : DataType) → IsPrefixFree extremes (AreExtremes t)
+extremes-prefix_free t = pair_field-prefix_free optional_field optional_field (IsExtremeOf t) (IsExtremeOf t) (optional_field-prefix_free t) (optional_field-prefix_free t)
+
+-- what only numbers have: the least and the greatest, and a sum or none
+abbrev pub numbers : (Option Value × Option Value) × Option ℤ → List ℕ
+numbers = pair_field extremes optional_sum
+
+abbrev pub AreNumbers : Bool → DataType → (Option Value × Option Value) × Option ℤ → Type 0
+AreNumbers s t = IsPair (AreExtremes t) (IsSumIf (s && is_numeric t))
+
+optional_sum-prefix_free : (there : Bool) → IsPrefixFree optional_sum (IsSumIf there)
+optional_sum-prefix_free there None None x y is_a is_b e = (refl, e)
+optional_sum-prefix_free there None (Some b) x y is_a is_b e = let u = is_b.0 in absurd cc
+optional_sum-prefix_free there (Some a) None x y is_a is_b e = let u = is_a.0 in absurd cc
+optional_sum-prefix_free there (Some a) (Some b) x y is_a is_b e = let same = plain_i128-prefix_free a b x y is_a.1 is_b.1 e in (ap (λ v. Some v) same.0, same.1)
+
+pub numbers-prefix_free : (s : Bool) (t : DataType) → IsPrefixFree numbers (AreNumbers s t)
+numbers-prefix_free s t = pair_field-prefix_free extremes optional_sum (AreExtremes t) (IsSumIf (s && is_numeric t)) (extremes-prefix_free t) (optional_sum-prefix_free (s && is_numeric t))
+
+-- where a sum is to be there and is none, there is no sum or none
+pub no_sum : (there : Bool) (old : Rest) (fault : FieldFault) → there ≡ true → Reads {B = ℤ} plain_i128 (FitsSigned w128) old (λ sum. sum) (Err fault) → Reads {B = Option ℤ} optional_sum (IsSumIf there) old (λ sum. sum) (Err fault)
+no_sum there old (Bad at) is reads = record { place = reads.place; none = none_of old.bytes.now reads.none }
+  where
+    none_of : (bytes : List ℕ) → BeginsWithNone plain_i128 (FitsSigned w128) bytes → BeginsWithNone optional_sum (IsSumIf there) bytes
+    none_of bytes none None behind lacks e = false≢true (sym lacks ∙ is)
+    none_of bytes none (Some sum) behind has e = none sum behind has.1 e
+no_sum there old Memory is reads = tt
+
 -- no such parts, no such statistics
-no_stats : (t : DataType) (bytes : List ℕ) → BeginsWithNone (pair_field times (pair_field ends extremes)) (IsPair AreTimes (IsPair (AreEnds t) (AreExtremes t))) bytes → BeginsWithNone stats_field (IsStatsOf t) bytes
-no_stats t bytes none = λ stats behind is e.
-    none ((stats.count, (stats.start, stats.end)), ((stats.first, stats.last), (stats.least, stats.greatest))) behind
-    ((is.count, (is.start, is.end)), ((is.first, is.last), (is.least, is.greatest))) e
+no_stats : (s : Bool) (t : DataType) (bytes : List ℕ) → BeginsWithNone (pair_field times (pair_field ends numbers)) (IsPair AreTimes (IsPair (AreEnds t) (AreNumbers s t))) bytes → BeginsWithNone stats_field (IsStatsOf s t) bytes
+no_stats s t bytes none = λ stats behind is e.
+    none ((stats.count, (stats.start, stats.end)), ((stats.first, stats.last), ((stats.least, stats.greatest), stats.sum))) behind
+    ((is.count, (is.start, is.end)), ((is.first, is.last), ((is.least, is.greatest), is.sum))) e
 
-pub no_times : (t : DataType) (bytes : List ℕ) → BeginsWithNone times AreTimes bytes → BeginsWithNone stats_field (IsStatsOf t) bytes
-no_times t bytes none = no_stats t bytes (no_first times (pair_field ends extremes) AreTimes (IsPair (AreEnds t) (AreExtremes t)) bytes none)
+pub no_times : (s : Bool) (t : DataType) (bytes : List ℕ) → BeginsWithNone times AreTimes bytes → BeginsWithNone stats_field (IsStatsOf s t) bytes
+no_times s t bytes none = no_stats s t bytes (no_first times (pair_field ends numbers) AreTimes (IsPair (AreEnds t) (AreNumbers s t)) bytes none)
 
-pub no_ends : (t : DataType) (a : ℕ × (ℤ × ℤ)) (bytes middle : List ℕ) → AreTimes a → bytes ≡ times a ++ middle → BeginsWithNone ends (AreEnds t) middle → BeginsWithNone stats_field (IsStatsOf t) bytes
-no_ends t a bytes middle is found none = no_stats t bytes
-    (no_second times (pair_field ends extremes) AreTimes (IsPair (AreEnds t) (AreExtremes t)) times-prefix_free a bytes middle is found
-    (no_first ends extremes (AreEnds t) (AreExtremes t) middle none))
+pub no_ends : (s : Bool) (t : DataType) (a : ℕ × (ℤ × ℤ)) (bytes middle : List ℕ) → AreTimes a → bytes ≡ times a ++ middle → BeginsWithNone ends (AreEnds t) middle → BeginsWithNone stats_field (IsStatsOf s t) bytes
+no_ends s t a bytes middle is found none = no_stats s t bytes
+    (no_second times (pair_field ends numbers) AreTimes (IsPair (AreEnds t) (AreNumbers s t)) times-prefix_free a bytes middle is found
+    (no_first ends numbers (AreEnds t) (AreNumbers s t) middle none))
 
-pub no_extremes : (t : DataType) (a : ℕ × (ℤ × ℤ)) (b : Value × Value) (bytes middle behind : List ℕ) → AreTimes a → bytes ≡ times a ++ middle → AreEnds t b → middle ≡ ends b ++ behind
-    → BeginsWithNone extremes (AreExtremes t) behind → BeginsWithNone stats_field (IsStatsOf t) bytes
-no_extremes t a b bytes middle behind is found is_ends found_ends none = no_stats t bytes
-    (no_second times (pair_field ends extremes) AreTimes (IsPair (AreEnds t) (AreExtremes t)) times-prefix_free a bytes middle is found
-    (no_second ends extremes (AreEnds t) (AreExtremes t) (ends-prefix_free t) b middle behind is_ends found_ends none))
+pub no_numbers : (s : Bool) (t : DataType) (a : ℕ × (ℤ × ℤ)) (b : Value × Value) (bytes middle behind : List ℕ) → AreTimes a → bytes ≡ times a ++ middle → AreEnds t b → middle ≡ ends b ++ behind
+    → BeginsWithNone numbers (AreNumbers s t) behind → BeginsWithNone stats_field (IsStatsOf s t) bytes
+no_numbers s t a b bytes middle behind is found is_ends found_ends none = no_stats s t bytes
+    (no_second times (pair_field ends numbers) AreTimes (IsPair (AreEnds t) (AreNumbers s t)) times-prefix_free a bytes middle is found
+    (no_second ends numbers (AreEnds t) (AreNumbers s t) (ends-prefix_free t) b middle behind is_ends found_ends none))
