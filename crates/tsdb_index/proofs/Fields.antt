@@ -1,6 +1,6 @@
 -- Fields that follow one another: where one of them is missing, the whole is.
-use Rattle.std.proofs.Common.{◌≡◌, ℕ, ◌<◌, List, [], ◌∷◌, ◌++◌, length, Err, refl, sym, ap, subst, ◌∙◌, append_assoc, arith}
-use Rattle.std.specs.Prelude.{ℤ, Option, None, Some}
+use Rattle.std.proofs.Common.{◌≡◌, ℕ, ◌<◌, List, [], ◌∷◌, ◌++◌, length, Err, sym, ap, subst, ◌∙◌, append_assoc, arith}
+use Rattle.std.specs.Prelude.{ℤ, Bool, Option}
 use Rattle.std.specs.List.{flat_map}
 use Rattle.std.proofs.lemmas.List.{append-nil}
 use Rattle.tsdb_base.specs.declared.point.Stats.{Stats}
@@ -16,33 +16,23 @@ use Rattle.tsdb_fields.specs.declared.fault.FieldFault.{FieldFault}
 use Rattle.tsdb_fields.specs.declared.fault.FieldFault.TheVariants.{Bad, Memory}
 use Rattle.tsdb_fields.specs.declared.rest.Rest.{Rest}
 use Rattle.tsdb_fields.specs.Reading.{ReadsParts}
-use Rattle.tsdb_fields.specs.Statistics.{optional_field, stats_field, IsExtremeOf, IsStatsOf}
+use Rattle.tsdb_fields.specs.Statistics.{stats_field, IsStatsOf}
 use Rattle.tsdb_index.specs.Faults.{ReadsWhole}
 use Rattle.tsdb_index.specs.Steps.{IsCountedList}
-use Rattle.tsdb_fields.proofs.Laws.{value_field-prefix_free}
-use Rattle.tsdb_fields.proofs.Parts.{times, AreTimes, ends, AreEnds, extremes, AreExtremes, times-prefix_free, ends-prefix_free}
+use Rattle.tsdb_fields.proofs.Parts.{times, AreTimes, ends, AreEnds, numbers, AreNumbers, times-prefix_free, ends-prefix_free, numbers-prefix_free}
 
 -- ---- no field's bytes begin those of another
 
-optional_field-prefix_free : (data_type : DataType) → IsPrefixFree optional_field (IsExtremeOf data_type)
-optional_field-prefix_free t None None x y is_a is_b e = (refl, e)
-optional_field-prefix_free t None (Some b) x y is_a is_b e = let u = is_b.0 in absurd cc
-optional_field-prefix_free t (Some a) None x y is_a is_b e = let u = is_a.0 in absurd cc
-optional_field-prefix_free t (Some a) (Some b) x y is_a is_b e = let same = value_field-prefix_free t a b x y is_a.1 is_b.1 e in (ap (λ v. Some v) same.0, same.1)
+abbrev made : ℕ × (ℤ × ℤ) → Value × Value → (Option Value × Option Value) × Option ℤ → Stats
+made a b c = record { count = a.0; start = a.1.0; end = a.1.1; first = b.0; last = b.1; least = c.0.0; greatest = c.0.1; sum = c.1 }
 
-extremes-prefix_free : (t : DataType) → IsPrefixFree extremes (AreExtremes t)
-extremes-prefix_free t = pair_field-prefix_free optional_field optional_field (IsExtremeOf t) (IsExtremeOf t) (optional_field-prefix_free t) (optional_field-prefix_free t)
-
-abbrev made : ℕ × (ℤ × ℤ) → Value × Value → Option Value × Option Value → Stats
-made a b c = record { count = a.0; start = a.1.0; end = a.1.1; first = b.0; last = b.1; least = c.0; greatest = c.1 }
-
-pub stats_field-prefix_free : (t : DataType) → IsPrefixFree stats_field (IsStatsOf t)
-stats_field-prefix_free t a b x y is_a is_b e =
-    let same = pair_field-prefix_free times (pair_field ends extremes) AreTimes (IsPair (AreEnds t) (AreExtremes t)) times-prefix_free
-    (pair_field-prefix_free ends extremes (AreEnds t) (AreExtremes t) (ends-prefix_free t) (extremes-prefix_free t))
-    ((a.count, (a.start, a.end)), ((a.first, a.last), (a.least, a.greatest))) ((b.count, (b.start, b.end)), ((b.first, b.last), (b.least, b.greatest))) x y
-    ((is_a.count, (is_a.start, is_a.end)), ((is_a.first, is_a.last), (is_a.least, is_a.greatest)))
-    ((is_b.count, (is_b.start, is_b.end)), ((is_b.first, is_b.last), (is_b.least, is_b.greatest))) e in
+pub stats_field-prefix_free : (s : Bool) (t : DataType) → IsPrefixFree stats_field (IsStatsOf s t)
+stats_field-prefix_free s t a b x y is_a is_b e =
+    let same = pair_field-prefix_free times (pair_field ends numbers) AreTimes (IsPair (AreEnds t) (AreNumbers s t)) times-prefix_free
+    (pair_field-prefix_free ends numbers (AreEnds t) (AreNumbers s t) (ends-prefix_free t) (numbers-prefix_free s t))
+    ((a.count, (a.start, a.end)), ((a.first, a.last), ((a.least, a.greatest), a.sum))) ((b.count, (b.start, b.end)), ((b.first, b.last), ((b.least, b.greatest), b.sum))) x y
+    ((is_a.count, (is_a.start, is_a.end)), ((is_a.first, is_a.last), ((is_a.least, is_a.greatest), is_a.sum)))
+    ((is_b.count, (is_b.start, is_b.end)), ((is_b.first, is_b.last), ((is_b.least, is_b.greatest), is_b.sum))) e in
     (ap (λ parts. made parts.0 parts.1.0 parts.1.1) same.0, same.1)
 
 short_path : (path : List ℕ) → IsPath path → IsText path

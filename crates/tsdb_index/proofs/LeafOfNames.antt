@@ -21,7 +21,7 @@ abbrev Leaf : Type 0
 Leaf = List IndexEntry
 
 -- the leaf at one of the pointers, and those before and behind it
-pub record IsAmong (root base : ℕ) (pointer : Pointer) (behind : List Pointer) (bytes : List ℕ) (leaves : List Leaf) : Type 0 where
+pub record IsAmong (version root base : ℕ) (pointer : Pointer) (behind : List Pointer) (bytes : List ℕ) (leaves : List Leaf) : Type 0 where
   pub front : List Leaf
   pub leaf : Leaf
   pub back : List Leaf
@@ -29,9 +29,9 @@ pub record IsAmong (root base : ℕ) (pointer : Pointer) (behind : List Pointer)
   pub from : base ≤ pointer.place
   pub to : pointer.place ≤ leaf_end root behind
   pub end : leaf_end root behind ≤ root
-  pub is : IsLeaf pointer behind (take (leaf_end root behind - pointer.place) (drop (pointer.place - base) bytes)) leaf
+  pub is : IsLeaf version pointer behind (take (leaf_end root behind - pointer.place) (drop (pointer.place - base) bytes)) leaf
   pub rest : List ℕ
-  pub back-are : AreLeavesAt root behind rest back
+  pub back-are : AreLeavesAt version root behind rest back
 
 first_place : (root : ℕ) (ps : List Pointer) (pointer : Pointer) (behind : List Pointer) → BeginAt (leaf_end root (ps ++ pointer ∷ behind)) (ps ++ pointer ∷ behind)
 first_place root [] pointer behind = refl
@@ -42,10 +42,10 @@ end_inside : (root : ℕ) (behind : List Pointer) (left : ℕ) → AreSpread roo
 end_inside root [] left spread = omega arith
 end_inside root (p ∷ ps) left spread = let whole = spread.0 in omega (arith, whole)
 
-pub among : (root base : ℕ) (before : List Pointer) (pointer : Pointer) (behind : List Pointer) (bytes : List ℕ) (leaves : List Leaf) → BeginAt base (before ++ pointer ∷ behind) → AreSpread root (before ++ pointer ∷ behind) (length bytes)
-    → AreLeavesAt root (before ++ pointer ∷ behind) bytes leaves → IsAmong root base pointer behind bytes leaves
-among root base [] pointer behind bytes [] begin spread are = absurd are
-among root base [] pointer behind bytes (leaf ∷ leaves) begin spread are =
+pub among : (version root base : ℕ) (before : List Pointer) (pointer : Pointer) (behind : List Pointer) (bytes : List ℕ) (leaves : List Leaf) → BeginAt base (before ++ pointer ∷ behind) → AreSpread root (before ++ pointer ∷ behind) (length bytes)
+    → AreLeavesAt version root (before ++ pointer ∷ behind) bytes leaves → IsAmong version root base pointer behind bytes leaves
+among version root base [] pointer behind bytes [] begin spread are = absurd are
+among version root base [] pointer behind bytes (leaf ∷ leaves) begin spread are =
     let none : 0 ≡ pointer.place - base = omega (arith, begin) in
     record {
       front = [];
@@ -55,13 +55,13 @@ among root base [] pointer behind bytes (leaf ∷ leaves) begin spread are =
       from = omega (arith, begin);
       to = spread.1;
       end = end_inside root behind (length bytes - (leaf_end root behind - pointer.place)) spread.2;
-      is = subst (λ (n : ℕ). IsLeaf pointer behind (take (leaf_end root behind - pointer.place) (drop n bytes)) leaf) none are.0;
+      is = subst (λ (n : ℕ). IsLeaf version pointer behind (take (leaf_end root behind - pointer.place) (drop n bytes)) leaf) none are.0;
       rest = drop (leaf_end root behind - pointer.place) bytes;
       back-are = are.1;
     }
-among root base (p ∷ ps) pointer behind bytes [] begin spread are = absurd are
-among root base (p ∷ ps) pointer behind bytes (leaf ∷ leaves) begin spread are =
-    let rest = among root (leaf_end root (ps ++ pointer ∷ behind)) ps pointer behind (drop (leaf_end root (ps ++ pointer ∷ behind) - p.place) bytes) leaves (first_place root ps pointer behind)
+among version root base (p ∷ ps) pointer behind bytes [] begin spread are = absurd are
+among version root base (p ∷ ps) pointer behind bytes (leaf ∷ leaves) begin spread are =
+    let rest = among version root (leaf_end root (ps ++ pointer ∷ behind)) ps pointer behind (drop (leaf_end root (ps ++ pointer ∷ behind) - p.place) bytes) leaves (first_place root ps pointer behind)
     (subst (λ (n : ℕ). AreSpread root (ps ++ pointer ∷ behind) n) (sym (length-drop (leaf_end root (ps ++ pointer ∷ behind) - p.place) bytes)) spread.2) are.1 in
     let low = spread.1 in
     let high = rest.from in
@@ -77,7 +77,7 @@ among root base (p ∷ ps) pointer behind bytes (leaf ∷ leaves) begin spread a
       from = omega (arith, low, high, first);
       to = rest.to;
       end = rest.end;
-      is = subst (λ (b : List ℕ). IsLeaf pointer behind (take (leaf_end root behind - pointer.place) b) rest.leaf) apart rest.is;
+      is = subst (λ (b : List ℕ). IsLeaf version pointer behind (take (leaf_end root behind - pointer.place) b) rest.leaf) apart rest.is;
       rest = rest.rest;
       back-are = rest.back-are;
     }
@@ -117,13 +117,13 @@ behind_first names pointer first others same less order =
     later (n ∷ ns) each = (before_trans names (names_of first) n (subst (λ (m : Names). AreNamesBefore names m) (sym same) less) each.0, later ns each.1)
 
 -- leaves that begin behind names have only entries behind them
-pub leaves_behind : (names : Names) (root : ℕ) (ps : List Pointer) (bytes : List ℕ) (leaves : List Leaf) → All (AreNamesBefore names) (next_names ps) → AreLeavesAt root ps bytes leaves → AreInOrder AreNamesBefore (map names_of (all_of leaves))
+pub leaves_behind : (version : ℕ) (names : Names) (root : ℕ) (ps : List Pointer) (bytes : List ℕ) (leaves : List Leaf) → All (AreNamesBefore names) (next_names ps) → AreLeavesAt version root ps bytes leaves → AreInOrder AreNamesBefore (map names_of (all_of leaves))
     → All (λ e. AreNamesBefore names (names_of e)) (all_of leaves)
-leaves_behind names root [] bytes [] to are order = All-from_recursion (λ (e : IndexEntry). AreNamesBefore names (names_of e)) [] tt
-leaves_behind names root [] bytes (leaf ∷ leaves) to are order = absurd are
-leaves_behind names root (p ∷ ps) bytes [] to are order = absurd are
-leaves_behind names root (p ∷ ps) bytes ([] ∷ leaves) to are order = absurd are.0.begin
-leaves_behind names root (p ∷ ps) bytes ((first ∷ others) ∷ leaves) to are order =
+leaves_behind version names root [] bytes [] to are order = All-from_recursion (λ (e : IndexEntry). AreNamesBefore names (names_of e)) [] tt
+leaves_behind version names root [] bytes (leaf ∷ leaves) to are order = absurd are
+leaves_behind version names root (p ∷ ps) bytes [] to are order = absurd are
+leaves_behind version names root (p ∷ ps) bytes ([] ∷ leaves) to are order = absurd are.0.begin
+leaves_behind version names root (p ∷ ps) bytes ((first ∷ others) ∷ leaves) to are order =
     behind_first names p first (others ++ all_of leaves) are.0.begin (All-head (AreNamesBefore names) (pointer_names p) [] to) order
 
 -- ---- what one leaf has is what all have
@@ -143,16 +143,16 @@ back_order front leaf back order =
     let rest : AreInOrder AreNamesBefore (map names_of leaf ++ map names_of back) = subst (λ (ns : List Names). AreInOrder AreNamesBefore ns) (map-append names_of leaf back) (order_back AreNamesBefore (map names_of front) (map names_of (leaf ++ back)) whole) in
     order_back AreNamesBefore (map names_of leaf) (map names_of back) rest
 
-pub leaf_decides : (names : Names) (root base : ℕ) (pointer : Pointer) (behind : List Pointer) (bytes : List ℕ) (leaves : List Leaf) (entries leaf : List IndexEntry) (found : Option IndexEntry) → (AreNamesBefore names (pointer_names pointer) → ⊥) → All (AreNamesBefore names) (next_names behind)
-    → IsAmong root base pointer behind bytes leaves → entries ≡ all_of leaves → AreInOrder AreNamesBefore (map names_of entries) → IsLeaf pointer behind (take (leaf_end root behind - pointer.place) (drop (pointer.place - base) bytes)) leaf → IsEntryFor names leaf found → IsEntryFor names entries found
-leaf_decides names root base pointer behind bytes leaves entries leaf found from to a all order is has =
-    let one : leaf ≡ a.leaf = leaf_same pointer behind (take (leaf_end root behind - pointer.place) (drop (pointer.place - base) bytes)) leaf a.leaf is a.is in
+pub leaf_decides : (version : ℕ) (names : Names) (root base : ℕ) (pointer : Pointer) (behind : List Pointer) (bytes : List ℕ) (leaves : List Leaf) (entries leaf : List IndexEntry) (found : Option IndexEntry) → (AreNamesBefore names (pointer_names pointer) → ⊥) → All (AreNamesBefore names) (next_names behind)
+    → IsAmong version root base pointer behind bytes leaves → entries ≡ all_of leaves → AreInOrder AreNamesBefore (map names_of entries) → IsLeaf version pointer behind (take (leaf_end root behind - pointer.place) (drop (pointer.place - base) bytes)) leaf → IsEntryFor names leaf found → IsEntryFor names entries found
+leaf_decides version names root base pointer behind bytes leaves entries leaf found from to a all order is has =
+    let one : leaf ≡ a.leaf = leaf_same version pointer behind (take (leaf_end root behind - pointer.place) (drop (pointer.place - base) bytes)) leaf a.leaf is a.is in
     let parts : entries ≡ all_of a.front ++ (a.leaf ++ all_of a.back) = all ∙ ap all_of a.split ∙ flat_map-append (λ (l : Leaf). l) a.front (a.leaf ∷ a.back) in
     let ordered : AreInOrder AreNamesBefore (map names_of (all_of a.front ++ (a.leaf ++ all_of a.back))) = subst (λ (es : List IndexEntry). AreInOrder AreNamesBefore (map names_of es)) parts order in
     subst (λ (es : List IndexEntry). IsEntryFor names es found) (sym parts)
     (decide found (all_of a.front) a.leaf (all_of a.back) (subst (λ (l : Leaf). IsEntryFor names l found) one has)
     (front_before pointer (all_of a.front) (all_of a.back) a.leaf a.is.begin ordered)
-    (leaves_behind names root behind a.rest a.back to a.back-are (back_order (all_of a.front) a.leaf (all_of a.back) ordered)))
+    (leaves_behind version names root behind a.rest a.back to a.back-are (back_order (all_of a.front) a.leaf (all_of a.back) ordered)))
   where
     decide : (o : Option IndexEntry) (front here back : List IndexEntry) → IsEntryFor names here o → All (λ e. AreNamesBefore (names_of e) (pointer_names pointer)) front → All (λ e. AreNamesBefore names (names_of e)) back → IsEntryFor names (front ++ (here ++ back)) o
     decide (Some e) front here back has before later = (Contains-append_right front (here ++ back) e (Contains-append_left here back e has.0), has.1)
@@ -166,9 +166,9 @@ leaf_decides names root base pointer behind bytes leaves entries leaf found from
         (Contains-append_cases front (here ++ back) e there)
 
 -- where all leaves begin behind the names, no entry has them
-pub none_decides : (names : Names) (root : ℕ) (ps : List Pointer) (bytes : List ℕ) (leaves : List Leaf) (entries : List IndexEntry) → AreBehind names ps → AreLeavesAt root ps bytes leaves → entries ≡ all_of leaves → AreInOrder AreNamesBefore (map names_of entries) → IsEntryFor names entries None
-none_decides names root ps bytes leaves entries behind are all order = λ e there same.
-    let each = leaves_behind names root ps bytes leaves (next ps behind) are (subst (λ (es : List IndexEntry). AreInOrder AreNamesBefore (map names_of es)) all order) in
+pub none_decides : (version : ℕ) (names : Names) (root : ℕ) (ps : List Pointer) (bytes : List ℕ) (leaves : List Leaf) (entries : List IndexEntry) → AreBehind names ps → AreLeavesAt version root ps bytes leaves → entries ≡ all_of leaves → AreInOrder AreNamesBefore (map names_of entries) → IsEntryFor names entries None
+none_decides version names root ps bytes leaves entries behind are all order = λ e there same.
+    let each = leaves_behind version names root ps bytes leaves (next ps behind) are (subst (λ (es : List IndexEntry). AreInOrder AreNamesBefore (map names_of es)) all order) in
     let less : AreNamesBefore names (names_of e) = All-contains (λ (x : IndexEntry). AreNamesBefore names (names_of x)) (all_of leaves) e each (subst (λ (es : List IndexEntry). Contains es e) all there) in
     not_itself names (subst (λ (n : Names). AreNamesBefore names n) same less)
   where

@@ -22,14 +22,14 @@ Leaf = List IndexEntry
 tail_same : (n : ℕ) (xs ys : List ℕ) → n ∷ xs ≡ n ∷ ys → xs ≡ ys
 tail_same n xs ys same = cc
 
-leaf_same : (l m : Leaf) (x y : List ℕ) → length l < 2 ^ 16 → length m < 2 ^ 16 → AllByRecursion IsEntry l → AllByRecursion IsEntry m → leaf_field l ++ x ≡ leaf_field m ++ y → (l ≡ m) × (x ≡ y)
-leaf_same l m x y small_l small_m is_l is_m same =
+leaf_same : (version : ℕ) (l m : Leaf) (x y : List ℕ) → length l < 2 ^ 16 → length m < 2 ^ 16 → AllByRecursion (IsEntry version) l → AllByRecursion (IsEntry version) m → leaf_field l ++ x ≡ leaf_field m ++ y → (l ≡ m) × (x ≡ y)
+leaf_same version l m x y small_l small_m is_l is_m same =
     let parted : number16 (length l) ++ (flat_map entry_field l ++ x) ≡ number16 (length m) ++ (flat_map entry_field m ++ y) =
     sym (append_assoc (number16 (length l)) (flat_map entry_field l) x)
     ∙ tail_same 73 ((number16 (length l) ++ flat_map entry_field l) ++ x) ((number16 (length m) ++ flat_map entry_field m) ++ y) same
     ∙ append_assoc (number16 (length m)) (flat_map entry_field m) y in
     let counts = number16-prefix_free (length l) (length m) (flat_map entry_field l ++ x) (flat_map entry_field m ++ y) small_l small_m parted in
-    same_values entry_field IsEntry entry-prefix_free l m x y counts.0 (All-from_recursion IsEntry l is_l) (All-from_recursion IsEntry m is_m) counts.1
+    same_values entry_field (IsEntry version) (entry-prefix_free version) l m x y counts.0 (All-from_recursion (IsEntry version) l is_l) (All-from_recursion (IsEntry version) m is_m) counts.1
 
 abbrev IsSmall : Leaf → Type 0
 IsSmall leaf = length leaf < 2 ^ 16
@@ -39,17 +39,17 @@ leaves_are_small [] sizes = absurd sizes
 leaves_are_small (leaf ∷ []) sizes = (let few = sizes.1 in omega (arith, few), tt)
 leaves_are_small (leaf ∷ next ∷ leaves) sizes = (let full = sizes.0 in omega (arith, full), leaves_are_small (next ∷ leaves) sizes.1)
 
-leaves_same : (ls ms : List Leaf) → AllByRecursion IsSmall ls → AllByRecursion IsSmall ms → AllByRecursion IsEntry (all_of ls) → AllByRecursion IsEntry (all_of ms) → flat_map leaf_field ls ≡ flat_map leaf_field ms → all_of ls ≡ all_of ms
-leaves_same [] [] small_l small_m is_l is_m same = refl
-leaves_same [] (m ∷ ms) small_l small_m is_l is_m same = absurd cc
-leaves_same (l ∷ ls) [] small_l small_m is_l is_m same = absurd cc
-leaves_same (l ∷ ls) (m ∷ ms) small_l small_m is_l is_m same =
-    let first = leaf_same l m (flat_map leaf_field ls) (flat_map leaf_field ms) small_l.0 small_m.0 (every_left IsEntry l (all_of ls) is_l) (every_left IsEntry m (all_of ms) is_m) same in
-    let others = leaves_same ls ms small_l.1 small_m.1 (every_right IsEntry l (all_of ls) is_l) (every_right IsEntry m (all_of ms) is_m) first.1 in
+leaves_same : (version : ℕ) (ls ms : List Leaf) → AllByRecursion IsSmall ls → AllByRecursion IsSmall ms → AllByRecursion (IsEntry version) (all_of ls) → AllByRecursion (IsEntry version) (all_of ms) → flat_map leaf_field ls ≡ flat_map leaf_field ms → all_of ls ≡ all_of ms
+leaves_same version [] [] small_l small_m is_l is_m same = refl
+leaves_same version [] (m ∷ ms) small_l small_m is_l is_m same = absurd cc
+leaves_same version (l ∷ ls) [] small_l small_m is_l is_m same = absurd cc
+leaves_same version (l ∷ ls) (m ∷ ms) small_l small_m is_l is_m same =
+    let first = leaf_same version l m (flat_map leaf_field ls) (flat_map leaf_field ms) small_l.0 small_m.0 (every_left (IsEntry version) l (all_of ls) is_l) (every_left (IsEntry version) m (all_of ms) is_m) same in
+    let others = leaves_same version ls ms small_l.1 small_m.1 (every_right (IsEntry version) l (all_of ls) is_l) (every_right (IsEntry version) m (all_of ms) is_m) first.1 in
     ap (λ leaf. leaf ++ all_of ls) first.0 ∙ ap (λ entries. m ++ entries) others
 
-pub one_index : (place root : ℕ) (bytes : List ℕ) (xs ys : List IndexEntry) → All IsEntry xs → All IsEntry ys → IsIndexSpelling place root xs bytes → IsIndexSpelling place root ys bytes → xs ≡ ys
-one_index place root bytes xs ys good_x good_y in_x in_y =
+pub one_index : (version place root : ℕ) (bytes : List ℕ) (xs ys : List IndexEntry) → All (IsEntry version) xs → All (IsEntry version) ys → IsIndexSpelling place root xs bytes → IsIndexSpelling place root ys bytes → xs ≡ ys
+one_index version place root bytes xs ys good_x good_y in_x in_y =
     let ls = in_x.leaves in
     let ms = in_y.leaves in
     let at_x = in_x.root_place in
@@ -58,9 +58,9 @@ one_index place root bytes xs ys good_x good_y in_x in_y =
     let same = same_front (flat_map leaf_field ls) (flat_map leaf_field ms) (root_field place ls) (root_field place ms) len (sym in_x.bytes_are ∙ in_y.bytes_are) in
     let all_x = in_x.stand.all in
     let all_y = in_y.stand.all in
-    let is_x : AllByRecursion IsEntry (all_of in_x.leaves) = rw all_x (recursion_from_All IsEntry xs good_x) in
-    let is_y : AllByRecursion IsEntry (all_of in_y.leaves) = rw all_y (recursion_from_All IsEntry ys good_y) in
-    sym all_x ∙ leaves_same ls ms (leaves_are_small ls in_x.stand.sizes) (leaves_are_small ms in_y.stand.sizes) is_x is_y same.0 ∙ all_y
+    let is_x : AllByRecursion (IsEntry version) (all_of in_x.leaves) = rw all_x (recursion_from_All (IsEntry version) xs good_x) in
+    let is_y : AllByRecursion (IsEntry version) (all_of in_y.leaves) = rw all_y (recursion_from_All (IsEntry version) ys good_y) in
+    sym all_x ∙ leaves_same version ls ms (leaves_are_small ls in_x.stand.sizes) (leaves_are_small ms in_y.stand.sizes) is_x is_y same.0 ∙ all_y
 
 -- ---- from entries to bytes
 

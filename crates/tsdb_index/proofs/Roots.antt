@@ -1,5 +1,5 @@
 -- A root and a leaf, from their items.
-use Rattle.std.proofs.Common.{◌≡◌, ℕ, ◌<◌, ◌^◌, List, [], ◌∷◌, ◌++◌, length, map, refl, sym, subst, ◌∙◌, arith}
+use Rattle.std.proofs.Common.{◌≡◌, ℕ, ◌<◌, ◌^◌, List, [], ◌∷◌, ◌++◌, length, map, sym, subst, ◌∙◌, arith}
 use Rattle.std.specs.Prelude.{All}
 use Rattle.std.specs.List.{flat_map}
 use Rattle.std.proofs.lemmas.List.{append-nil}
@@ -49,22 +49,22 @@ size_small : (behind : List Pointer) (n : ℕ) → IsLeafSize behind n → n < 2
 size_small [] n size = let few = size.1 in omega (arith, few)
 size_small (p ∷ ps) n size = omega (arith, size)
 
-pub leaf_counted : (pointer : Pointer) (behind : List Pointer) (bytes : List ℕ) (es : List IndexEntry) → IsLeaf pointer behind bytes es → IsCountedList 73 number16 (2 ^ 16) entry_field IsEntry bytes es
-leaf_counted pointer behind bytes es is = record { few = size_small behind (length es) is.size; good = is.good; bytes_are = is.bytes_are }
+pub leaf_counted : (version : ℕ) (pointer : Pointer) (behind : List Pointer) (bytes : List ℕ) (es : List IndexEntry) → IsLeaf version pointer behind bytes es → IsCountedList 73 number16 (2 ^ 16) entry_field (IsEntry version) bytes es
+leaf_counted version pointer behind bytes es is = record { few = size_small behind (length es) is.size; good = is.good; bytes_are = is.bytes_are }
 
 -- two leaves with the same bytes have the same entries
-entries_same : (bytes : List ℕ) (xs ys : List IndexEntry) → IsCountedList 73 number16 (2 ^ 16) entry_field IsEntry bytes xs → IsCountedList 73 number16 (2 ^ 16) entry_field IsEntry bytes ys → xs ≡ ys
-entries_same bytes xs ys is_x is_y =
+entries_same : (version : ℕ) (bytes : List ℕ) (xs ys : List IndexEntry) → IsCountedList 73 number16 (2 ^ 16) entry_field (IsEntry version) bytes xs → IsCountedList 73 number16 (2 ^ 16) entry_field (IsEntry version) bytes ys → xs ≡ ys
+entries_same version bytes xs ys is_x is_y =
     let parted : number16 (length xs) ++ flat_map entry_field xs ≡ number16 (length ys) ++ flat_map entry_field ys = tail_same 73 (number16 (length xs) ++ flat_map entry_field xs) (number16 (length ys) ++ flat_map entry_field ys) (sym is_x.bytes_are ∙ is_y.bytes_are) in
     let counts = number16-prefix_free (length xs) (length ys) (flat_map entry_field xs) (flat_map entry_field ys) is_x.few is_y.few parted in
-    (same_values entry_field IsEntry entry-prefix_free xs ys [] [] counts.0 is_x.good is_y.good (append-nil (flat_map entry_field xs) ∙ counts.1 ∙ sym (append-nil (flat_map entry_field ys)))).0
+    (same_values entry_field (IsEntry version) (entry-prefix_free version) xs ys [] [] counts.0 is_x.good is_y.good (append-nil (flat_map entry_field xs) ∙ counts.1 ∙ sym (append-nil (flat_map entry_field ys)))).0
 
-pub leaf_same : (pointer : Pointer) (behind : List Pointer) (bytes : List ℕ) (xs ys : List IndexEntry) → IsLeaf pointer behind bytes xs → IsLeaf pointer behind bytes ys → xs ≡ ys
-leaf_same pointer behind bytes xs ys is_x is_y = entries_same bytes xs ys (leaf_counted pointer behind bytes xs is_x) (leaf_counted pointer behind bytes ys is_y)
+pub leaf_same : (version : ℕ) (pointer : Pointer) (behind : List Pointer) (bytes : List ℕ) (xs ys : List IndexEntry) → IsLeaf version pointer behind bytes xs → IsLeaf version pointer behind bytes ys → xs ≡ ys
+leaf_same version pointer behind bytes xs ys is_x is_y = entries_same version bytes xs ys (leaf_counted version pointer behind bytes xs is_x) (leaf_counted version pointer behind bytes ys is_y)
 
-pub leaf_none : (pointer : Pointer) (behind : List Pointer) (bytes : List ℕ) (es : List IndexEntry) → IsCountedList 73 number16 (2 ^ 16) entry_field IsEntry bytes es → (AreLeaf pointer behind es → ⊥) → (it : List IndexEntry) → IsLeaf pointer behind bytes it → ⊥
-leaf_none pointer behind bytes es counted none it is =
-    none (subst (λ entries. AreLeaf pointer behind entries) (entries_same bytes it es (leaf_counted pointer behind bytes it is) counted) (is.size, is.begin, is.rising))
+pub leaf_none : (version : ℕ) (pointer : Pointer) (behind : List Pointer) (bytes : List ℕ) (es : List IndexEntry) → IsCountedList 73 number16 (2 ^ 16) entry_field (IsEntry version) bytes es → (AreLeaf pointer behind es → ⊥) → (it : List IndexEntry) → IsLeaf version pointer behind bytes it → ⊥
+leaf_none version pointer behind bytes es counted none it is =
+    none (subst (λ entries. AreLeaf pointer behind entries) (entries_same version bytes it es (leaf_counted version pointer behind bytes it is) counted) (is.size, is.begin, is.rising))
 
-pub leaf_is : (pointer : Pointer) (behind : List Pointer) (bytes : List ℕ) (es : List IndexEntry) → IsCountedList 73 number16 (2 ^ 16) entry_field IsEntry bytes es → AreLeaf pointer behind es → IsLeaf pointer behind bytes es
-leaf_is pointer behind bytes es counted are = record { size = are.0; good = counted.good; begin = are.1; rising = are.2; bytes_are = counted.bytes_are }
+pub leaf_is : (version : ℕ) (pointer : Pointer) (behind : List Pointer) (bytes : List ℕ) (es : List IndexEntry) → IsCountedList 73 number16 (2 ^ 16) entry_field (IsEntry version) bytes es → AreLeaf pointer behind es → IsLeaf version pointer behind bytes es
+leaf_is version pointer behind bytes es counted are = record { size = are.0; good = counted.good; begin = are.1; rising = are.2; bytes_are = counted.bytes_are }

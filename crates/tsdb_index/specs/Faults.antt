@@ -10,18 +10,19 @@ use Rattle.tsdb_index.specs.Parts.{IsFirstBadIndexPart}
 use Rattle.tsdb_index.specs.Spelling.{IsIndexSpelling}
 
 -- these are the entries of the index that the bytes are
-pub record IsIndexRead (place root : ℕ) (bytes : List ℕ) (entries : List IndexEntry) : Type 0 where
-  pub index : IsIndex entries
+pub record IsIndexRead (version place root : ℕ) (bytes : List ℕ) (entries : List IndexEntry) : Type 0 where
+  pub index : IsIndex version entries
   pub spelling : IsIndexSpelling place root entries bytes
 
 -- no index is written so
-abbrev pub IsNone : ℕ → ℕ → List ℕ → Type 0
-IsNone place root bytes = (entries : List IndexEntry) → IsIndexRead place root bytes entries → ⊥
+abbrev pub IsNone : ℕ → ℕ → ℕ → List ℕ → Type 0
+IsNone version place root bytes = (entries : List IndexEntry) → IsIndexRead version place root bytes entries → ⊥
 
 -- no index is written so, and its first bad part begins at this place
-abbrev pub IsIndexFault : ℕ → ℕ → List ℕ → IndexFault → Type 0
-IsIndexFault place root bytes (Bad at) = IsNone place root bytes × IsFirstBadIndexPart place root bytes at
-IsIndexFault place root bytes Memory = Unit {0}
+abbrev pub IsIndexFault : ℕ → ℕ → ℕ → List ℕ → IndexFault → Type 0
+IsIndexFault version place root bytes (Bad at) =
+    IsNone version place root bytes × IsFirstBadIndexPart version place root bytes at
+IsIndexFault version place root bytes Memory = Unit {0}
 
 -- all of the bytes are these things, or they are none, unless memory runs out
 abbrev pub ReadsWhole : {A B : Type 0} → (A → Type 0) → (B → A) → Result B FieldFault → Type 0

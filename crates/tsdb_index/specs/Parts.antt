@@ -59,10 +59,10 @@ BeginWith pointer [] = ⊥
 BeginWith pointer (first ∷ others) = names_of first ≡ pointer_names pointer
 
 -- these bytes are a leaf of these entries, as the pointer at it and the pointers behind it say
-pub record IsLeaf (pointer : Pointer) (behind : List Pointer) (bytes : List ℕ) (entries : List IndexEntry)
+pub record IsLeaf (version : ℕ) (pointer : Pointer) (behind : List Pointer) (bytes : List ℕ) (entries : List IndexEntry)
     : Type 0 where
   pub size : IsLeafSize behind (length entries)
-  pub good : All IsEntry entries
+  pub good : All (IsEntry version) entries
   pub begin : BeginWith pointer entries
   pub rising : AreInOrder AreNamesBefore (map names_of entries ++ next_names behind)
   pub bytes_are : bytes ≡ leaf_field entries
@@ -73,27 +73,28 @@ leaf_end root [] = root
 leaf_end root (next ∷ others) = next.place
 
 -- these bytes, of which the first pointer points at the first and which end at the root, are these leaves
-abbrev pub AreLeavesAt : ℕ → List Pointer → List ℕ → List (List IndexEntry) → Type 0
-AreLeavesAt root [] bytes [] = bytes ≡ []
-AreLeavesAt root [] bytes (leaf ∷ leaves) = ⊥
-AreLeavesAt root (pointer ∷ behind) bytes [] = ⊥
-AreLeavesAt root (pointer ∷ behind) bytes (leaf ∷ leaves) =
-    IsLeaf pointer behind (take (leaf_end root behind - pointer.place) bytes) leaf
-    × AreLeavesAt root behind (drop (leaf_end root behind - pointer.place) bytes) leaves
+abbrev pub AreLeavesAt : ℕ → ℕ → List Pointer → List ℕ → List (List IndexEntry) → Type 0
+AreLeavesAt version root [] bytes [] = bytes ≡ []
+AreLeavesAt version root [] bytes (leaf ∷ leaves) = ⊥
+AreLeavesAt version root (pointer ∷ behind) bytes [] = ⊥
+AreLeavesAt version root (pointer ∷ behind) bytes (leaf ∷ leaves) =
+    IsLeaf version pointer behind (take (leaf_end root behind - pointer.place) bytes) leaf
+    × AreLeavesAt version root behind (drop (leaf_end root behind - pointer.place) bytes) leaves
 
 -- the first pointer at which no leaf stands points at this place
-abbrev pub IsFirstBadLeaf : ℕ → List Pointer → List ℕ → ℕ → Type 0
-IsFirstBadLeaf root [] bytes at = ⊥
-IsFirstBadLeaf root (pointer ∷ behind) bytes at =
+abbrev pub IsFirstBadLeaf : ℕ → ℕ → List Pointer → List ℕ → ℕ → Type 0
+IsFirstBadLeaf version root [] bytes at = ⊥
+IsFirstBadLeaf version root (pointer ∷ behind) bytes at =
     ((at ≡ pointer.place)
     × ((entries : List IndexEntry)
-    → IsLeaf pointer behind (take (leaf_end root behind - pointer.place) bytes) entries → ⊥))
-    ⊎ (((entries : List IndexEntry) × IsLeaf pointer behind (take (leaf_end root behind - pointer.place) bytes) entries)
-    × IsFirstBadLeaf root behind (drop (leaf_end root behind - pointer.place) bytes) at)
+    → IsLeaf version pointer behind (take (leaf_end root behind - pointer.place) bytes) entries → ⊥))
+    ⊎ (((entries : List IndexEntry)
+    × IsLeaf version pointer behind (take (leaf_end root behind - pointer.place) bytes) entries)
+    × IsFirstBadLeaf version root behind (drop (leaf_end root behind - pointer.place) bytes) at)
 
 -- no root stands at the root's place, which is this one; or one does, and this is the place of the first bad leaf
-abbrev pub IsFirstBadIndexPart : ℕ → ℕ → List ℕ → ℕ → Type 0
-IsFirstBadIndexPart place root bytes at =
+abbrev pub IsFirstBadIndexPart : ℕ → ℕ → ℕ → List ℕ → ℕ → Type 0
+IsFirstBadIndexPart version place root bytes at =
     ((at ≡ root) × ((pointers : List Pointer) → IsRoot place root (drop (root - place) bytes) pointers → ⊥))
     ⊎ ((pointers : List Pointer) × IsRoot place root (drop (root - place) bytes) pointers
-    × IsFirstBadLeaf root pointers (take (root - place) bytes) at)
+    × IsFirstBadLeaf version root pointers (take (root - place) bytes) at)

@@ -58,12 +58,13 @@ AreSpread root (pointer ∷ behind) left =
     × AreSpread root behind (left - (leaf_end root behind - pointer.place))
 
 -- the entries of the leaves that these bytes are, or the place of the first bad leaf
-abbrev pub ReadsLeaves : {B : Type 0} → ℕ → List Pointer → List ℕ → (B → List IndexEntry) → Result B IndexFault → Type 0
-ReadsLeaves root pointers bytes view (Ok found) =
-    (leaves : List (List IndexEntry)) × AreLeavesAt root pointers bytes leaves
+abbrev pub ReadsLeaves : {B : Type 0} → ℕ → ℕ → List Pointer → List ℕ → (B → List IndexEntry) → Result B IndexFault
+    → Type 0
+ReadsLeaves version root pointers bytes view (Ok found) =
+    (leaves : List (List IndexEntry)) × AreLeavesAt version root pointers bytes leaves
     × (view found ≡ flat_map (λ leaf. leaf) leaves)
-ReadsLeaves root pointers bytes view (Err (fault.Bad at)) = IsFirstBadLeaf root pointers bytes at
-ReadsLeaves root pointers bytes view (Err fault.Memory) = Unit {0}
+ReadsLeaves version root pointers bytes view (Err (fault.Bad at)) = IsFirstBadLeaf version root pointers bytes at
+ReadsLeaves version root pointers bytes view (Err fault.Memory) = Unit {0}
 
 -- the pointer at this place is the last one whose names do not come behind these
 pub record IsLastFor (names : List ℕ × List ℕ) (pointers : List Pointer) (at : ℕ) : Type 0 where

@@ -30,9 +30,10 @@ pub struct Index {
     pub entries: List<IndexEntry>,
 }
 
-/// What is read of a file besides its points: its length in bytes and its index.
+/// What is read of a file besides its points: its length in bytes, its version and its index.
 #[derive(PartialEq, Eq, Drop)]
 pub struct FileMeta {
     pub size: u64,
+    pub version: u8,
     pub index: Index,
 }

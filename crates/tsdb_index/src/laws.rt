@@ -4,9 +4,10 @@ ghost use Rattle.tsdb_index.specs.declared.index.IndexEntry.{IndexEntry as Entry
 ghost use Rattle.tsdb_index.specs.Entries.{IsEntry};
 ghost use Rattle.tsdb_index.specs.Spelling.{IsIndexSpelling, RootBegins};
 
-/// Two indexes with the same bytes at the same place have the same entries.
+/// Two indexes of one version with the same bytes at the same place have the same entries.
 pub fn one_index()
-    ensures { (place root : ℕ) (bytes : List ℕ) (xs ys : List Entry) → All IsEntry xs → All IsEntry ys →
+    ensures { (version place root : ℕ) (bytes : List ℕ) (xs ys : List Entry) →
+        All (IsEntry version) xs → All (IsEntry version) ys →
         IsIndexSpelling place root xs bytes → IsIndexSpelling place root ys bytes → xs ≡ ys }
 {}
 

@@ -19,6 +19,7 @@ pub mod marks;
 mod order;
 mod pointer;
 mod reading;
+mod version;
 mod writing;
 
 pub use fault::IndexFault;
@@ -28,4 +29,5 @@ pub use laws::{one_index, one_spelling, root_begins};
 pub use order::are_root;
 pub use pointer::Pointer;
 pub use reading::{end_of, pointers_in, read_index, read_leaf, read_leaves};
+pub use version::has_sums;
 pub use writing::{write_index, write_leaves_and_root};

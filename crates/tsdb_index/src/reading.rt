@@ -1,29 +1,45 @@
-//! Reading an index: the root first, and then the leaf at each of its pointers. Depends on `index`, `pointer`, `order`
-//! and `fault`.
+//! Reading an index: the root first, and then the leaf at each of its pointers. Depends on `index`, `pointer`, `order`,
+//! `version` and `fault`.
 ghost use Rattle.std.specs.Prelude.{◌≡◌, ℕ, ◌+◌, ◌<◌, ◌≤◌, ◌^◌, ◌∷◌, List, length, IfOk, IfErr, MatchOption};
 ghost use Rattle.tsdb_index.specs.declared.marks.TheConstants.{LEAF, ROOT};
 ghost use Rattle.tsdb_base.specs.Fields.{number16, number32};
-ghost use Rattle.tsdb_fields.specs.Reading.{LacksPart};
+ghost use Rattle.tsdb_fields.specs.Reading.{LacksPart, Reads};
+ghost use Rattle.tsdb_fields.specs.Statistics.{stats_field, IsStatsOf};
 ghost use Rattle.tsdb_index.specs.Entries.{IsEntry, IsPageOf};
 ghost use Rattle.tsdb_index.specs.Faults.{IsIndexFault, IsIndexRead, ReadsWhole};
 ghost use Rattle.tsdb_index.specs.Parts.{IsLeaf, IsPointer, IsRoot, leaf_end, pointer_bytes};
 ghost use Rattle.tsdb_index.specs.Spelling.{page_entry_field, entry_field};
 ghost use Rattle.tsdb_index.specs.Steps.{AreSpread, IsCountedList, ReadsLeaves};
+ghost use Rattle.tsdb_index.specs.Versions.{has_sums as sums};
 
 use crate::fault::IndexFault;
 use crate::index::{Index, IndexEntry, PageEntry};
 use crate::marks::{LEAF, ROOT};
 use crate::order::{are_leaf, are_root};
 use crate::pointer::Pointer;
+use crate::version::has_sums;
 use std::alloc::Global;
-use tsdb_base::{DataType, List, suits};
+use tsdb_base::{DataType, List, Stats, suits};
 use tsdb_fields::{
     FieldFault, FieldReader, Rest, read_field, read_fields, read_name, read_path, read_stats,
 };
 
-/// Reads what the index says of a page, in a chunk of this type.
+/// Reads statistics of values of this type, as the index of a version has them.
+fn read_stats_in<'a>(
+    alloc: Global,
+    version: u8,
+    data_type: DataType,
+    rest: Rest<'a>,
+) -> Result<(Stats, Rest<'a>), FieldFault>
+    ensures exact { Reads stats_field (IsStatsOf (sums version) data_type) rest.entry (λ stats. stats) result }
+{
+    read_stats(alloc, data_type, has_sums(version), rest)
+}
+
+/// Reads what the index of a version says of a page, in a chunk of this type.
 #[derive(Clone, Copy)]
 struct PageReader {
+    version: u8,
     data_type: DataType,
 }
 
@@ -32,28 +48,31 @@ impl FieldReader for PageReader {
 
     ghost spelling = { page_entry_field };
 
-    ghost is_field = { λ reader. IsPageOf reader.data_type };
+    ghost is_field = { λ reader. IsPageOf reader.version reader.data_type };
 
-    ghost is_bad = { λ reader. LacksPart page_entry_field (IsPageOf reader.data_type) };
+    ghost is_bad = { λ reader. LacksPart page_entry_field (IsPageOf reader.version reader.data_type) };
 
     fn read<'a>(&self, alloc: Global, rest: Rest<'a>) -> Result<(PageEntry, Rest<'a>), FieldFault> {
         let (place, behind) = read_field(alloc, rest)?;
-        let (stats, behind) = read_stats(alloc, self.data_type, behind)?;
+        let (stats, behind) = read_stats_in(alloc, self.version, self.data_type, behind)?;
         Ok((PageEntry { place, stats }, behind))
     }
 }
 
+/// Reads what the index of a version says of a chunk.
 #[derive(Clone, Copy)]
-struct EntryReader;
+struct EntryReader {
+    version: u8,
+}
 
 impl FieldReader for EntryReader {
     type Field = IndexEntry;
 
     ghost spelling = { entry_field };
 
-    ghost is_field = { λ _. IsEntry };
+    ghost is_field = { λ reader. IsEntry reader.version };
 
-    ghost is_bad = { λ _. LacksPart entry_field IsEntry };
+    ghost is_bad = { λ reader. LacksPart entry_field (IsEntry reader.version) };
 
     fn read<'a>(
         &self,
@@ -66,9 +85,12 @@ impl FieldReader for EntryReader {
         if !suits(data_type, encoding) {
             return Err(FieldFault::Bad { at: rest.at });
         }
-        let (stats, behind) = read_stats(alloc, data_type, behind)?;
+        let (stats, behind) = read_stats_in(alloc, self.version, data_type, behind)?;
         let (count, behind) = read_field::<u32>(alloc, behind)?;
-        let reader = PageReader { data_type };
+        let reader = PageReader {
+            version: self.version,
+            data_type,
+        };
         let (pages, behind) = read_fields(&reader, alloc, count as u64, behind)?;
         let entry = IndexEntry {
             device,
@@ -128,8 +150,8 @@ fn fields_behind(mark: u8, bytes: &[u8]) -> Option<Rest<'_>>
 }
 
 /// The entries of the leaf that all of these bytes are, of any number. A fault has no place of its own.
-fn entries_in(alloc: Global, bytes: &[u8]) -> Result<Vec<IndexEntry>, FieldFault>
-    ensures { ReadsWhole (IsCountedList LEAF number16 (2 ^ 16) entry_field IsEntry bytes.now)
+fn entries_in(alloc: Global, bytes: &[u8], version: u8) -> Result<Vec<IndexEntry>, FieldFault>
+    ensures { ReadsWhole (IsCountedList LEAF number16 (2 ^ 16) entry_field (IsEntry version) bytes.now)
         (λ entries. entries.items) result }
 {
     let bad = FieldFault::Bad { at: 0 };
@@ -137,7 +159,8 @@ fn entries_in(alloc: Global, bytes: &[u8]) -> Result<Vec<IndexEntry>, FieldFault
         return Err(bad);
     };
     let (count, rest) = read_field::<u16>(alloc, rest)?;
-    let (entries, rest) = read_fields(&EntryReader, alloc, count as u64, rest)?;
+    let reader = EntryReader { version };
+    let (entries, rest) = read_fields(&reader, alloc, count as u64, rest)?;
     if !rest.bytes.is_empty() {
         return Err(bad);
     }
@@ -177,12 +200,13 @@ fn read_root(alloc: Global, bytes: &[u8], place: u64, root: u64) -> Result<Vec<P
 pub fn read_leaf(
     alloc: Global,
     bytes: &[u8],
+    version: u8,
     pointer: &Pointer,
     behind: &[Pointer],
 ) -> Result<Vec<IndexEntry>, FieldFault>
-    ensures { ReadsWhole (IsLeaf pointer.now behind.now bytes.now) (λ entries. entries.items) result }
+    ensures { ReadsWhole (IsLeaf version pointer.now behind.now bytes.now) (λ entries. entries.items) result }
 {
-    let entries = entries_in(alloc, bytes)?;
+    let entries = entries_in(alloc, bytes, version)?;
     if !are_leaf(&entries, pointer, behind) {
         return Err(FieldFault::Bad { at: 0 });
     }
@@ -203,11 +227,12 @@ pub fn end_of(behind: &[Pointer], root: u64) -> u64
 pub fn read_leaves(
     alloc: Global,
     bytes: &[u8],
+    version: u8,
     pointers: &[Pointer],
     root: u64,
 ) -> Result<Vec<IndexEntry>, IndexFault>
     requires { AreSpread root pointers.now (length bytes.now) }
-    ensures { ReadsLeaves root pointers.now bytes.now (λ entries. entries.items) result }
+    ensures { ReadsLeaves version root pointers.now bytes.now (λ entries. entries.items) result }
 {
     let mut entries = Vec::new(alloc);
     let mut rest = pointers;
@@ -215,7 +240,7 @@ pub fn read_leaves(
     'leaves: while let [pointer, behind @ ..] = rest {
         let end = end_of(behind, root);
         let (leaf, others) = left.split_at((end - pointer.place) as usize);
-        match read_leaf(alloc, leaf, pointer, behind) {
+        match read_leaf(alloc, leaf, version, pointer, behind) {
             Ok(mut more) => entries.append(&mut more)?,
             Err(fault) => return Err(IndexFault::of_part(fault, pointer.place)),
         }
@@ -225,20 +250,27 @@ pub fn read_leaves(
     Ok(entries)
 }
 
-/// Reads the index that is all of these bytes. The first of them stands at `place`, the first of the root at `root`.
-pub fn read_index(alloc: Global, bytes: &[u8], place: u64, root: u64) -> Result<Index, IndexFault>
+/// Reads the index of a version that is all of these bytes. The first of them stands at `place`, the first of the root
+/// at `root`.
+pub fn read_index(
+    alloc: Global,
+    bytes: &[u8],
+    place: u64,
+    root: u64,
+    version: u8,
+) -> Result<Index, IndexFault>
     requires room { place + length bytes.now < 2 ^ 64 }
     requires from { place ≤ root }
     requires to { root ≤ place + length bytes.now }
-    ensures found { IfOk result (λ index. IsIndexRead place root bytes.now index.entries) }
-    ensures bad { IfErr result (IsIndexFault place root bytes.now) }
+    ensures found { IfOk result (λ index. IsIndexRead version place root bytes.now index.entries) }
+    ensures bad { IfErr result (IsIndexFault version place root bytes.now) }
 {
     let (leaves, root_bytes) = bytes.split_at((root - place) as usize);
     let pointers = match read_root(alloc, root_bytes, place, root) {
         Ok(pointers) => pointers,
         Err(fault) => return Err(IndexFault::of_part(fault, root)),
     };
-    let entries = read_leaves(alloc, leaves, &pointers, root)?;
+    let entries = read_leaves(alloc, leaves, version, &pointers, root)?;
     Ok(Index {
         entries: List::of(entries),
     })
