@@ -229,18 +229,18 @@ index_first place root entries bytes rest is =
     subst (λ l. Begins 73 (l ++ rest)) (sym is.bytes_are) (begins_append 73 (flat_map index.leaf_field is.leaves ++ index.root_field place is.leaves) rest (leaf_first is.leaves (index.root_field place is.leaves) is.stand.sizes))
 
 -- a file's bytes: the groups behind the head, and what follows them
-pub file_apart : (tree : Tree) (bytes : List ℕ) (is : IsFile tree bytes) → bytes ≡ head ++ (flat_map group_field tree.groups ++ (is.index_bytes ++ (number64 is.root ++ magic)))
+pub file_apart : (tree : Tree) (bytes : List ℕ) (is : IsFile tree bytes) → bytes ≡ head is.version ++ (flat_map group_field tree.groups ++ (is.index_bytes ++ (number64 is.root ++ magic)))
 file_apart tree bytes is =
     let groups = flat_map group_field tree.groups in
-    is.bytes_are ∙ append_assoc (head ++ groups ++ is.index_bytes) (number64 is.root) magic ∙ append_assoc (head ++ groups) is.index_bytes (number64 is.root ++ magic)
-    ∙ append_assoc head groups (is.index_bytes ++ (number64 is.root ++ magic))
+    is.bytes_are ∙ append_assoc (head is.version ++ groups ++ is.index_bytes) (number64 is.root) magic ∙ append_assoc (head is.version ++ groups) is.index_bytes (number64 is.root ++ magic)
+    ∙ append_assoc (head is.version) groups (is.index_bytes ++ (number64 is.root ++ magic))
 
 pub one_tree : (a b : Tree) (bytes : List ℕ) → IsTree a → IsMade a → IsTree b → IsMade b → IsFile a bytes → IsFile b bytes → a ≡ b
 one_tree a b bytes tree_a made_a tree_b made_b file_a file_b =
     let rest_a = file_a.index_bytes ++ (number64 file_a.root ++ magic) in
     let rest_b = file_b.index_bytes ++ (number64 file_b.root ++ magic) in
-    let fronts = same_front head head (flat_map group_field a.groups ++ rest_a) (flat_map group_field b.groups ++ rest_b) refl (sym (file_apart a bytes file_a) ∙ file_apart b bytes file_b) in
+    let fronts = same_front (head file_a.version) (head file_b.version) (flat_map group_field a.groups ++ rest_a) (flat_map group_field b.groups ++ rest_b) refl (sym (file_apart a bytes file_a) ∙ file_apart b bytes file_b) in
     let made : List Group → Tree = λ groups. record { groups = groups } in
     ap made (marked_same group_field IsWholeGroup 71 EndsGroups groups_marked a.groups b.groups rest_a rest_b (groups_of_tree a tree_a made_a) (groups_of_tree b tree_b made_b)
-    (index_first (length (data_field a)) file_a.root file_a.entries file_a.index_bytes (number64 file_a.root ++ magic) file_a.index_is)
-    (index_first (length (data_field b)) file_b.root file_b.entries file_b.index_bytes (number64 file_b.root ++ magic) file_b.index_is) fronts.1).0
+    (index_first (length (data_field file_a.version a)) file_a.root file_a.entries file_a.index_bytes (number64 file_a.root ++ magic) file_a.index_is)
+    (index_first (length (data_field file_b.version b)) file_b.root file_b.entries file_b.index_bytes (number64 file_b.root ++ magic) file_b.index_is) fronts.1).0

@@ -13,7 +13,7 @@ use Rattle.tsdb_pages.specs.declared.tree.Page.{Page}
 use Rattle.tsdb_pages.specs.declared.tree.Chunk.{Chunk}
 use Rattle.tsdb_pages.specs.declared.tree.Group.{Group}
 use Rattle.tsdb_pages.specs.declared.tree.Tree.{Tree}
-use Rattle.tsdb_pages.specs.File.{AreEntries, AreEntriesIn, AreEntriesOf, ArePageEntries, IsChunkEntry, IsFile, chunk_field, chunk_head, data_field, group_field, group_head, head, magic, page_field}
+use Rattle.tsdb_pages.specs.File.{AreEntries, AreEntriesIn, AreEntriesOf, ArePageEntries, IsChunkEntry, IsFile, chunk_field, chunk_head, data_field, group_field, group_head, head, head_length, magic, page_field}
 use Rattle.tsdb_pages.specs.Places.{HasEnds, HasPlaces, IsPageAt, StandsAt}
 use Rattle.tsdb_pages.proofs.Entries.{count_pages}
 use Rattle.tsdb_pages.proofs.OneFile.{all_of}
@@ -124,30 +124,30 @@ groups_stand tree place (g ∷ gs) (l ∷ ls) bytes has say s =
 -- ---- files
 
 -- a file's bytes: head and groups, index, and the tail
-file_parted : (tree : Tree) (bytes : List ℕ) (file : IsFile tree bytes) → bytes ≡ data_field tree ++ (file.index_bytes ++ (number64 file.root ++ magic))
+file_parted : (tree : Tree) (bytes : List ℕ) (file : IsFile tree bytes) → bytes ≡ data_field file.version tree ++ (file.index_bytes ++ (number64 file.root ++ magic))
 file_parted tree bytes file =
-    file.bytes_are ∙ append_assoc (data_field tree ++ file.index_bytes) (number64 file.root) magic ∙ append_assoc (data_field tree) file.index_bytes (number64 file.root ++ magic)
+    file.bytes_are ∙ append_assoc (data_field file.version tree ++ file.index_bytes) (number64 file.root) magic ∙ append_assoc (data_field file.version tree) file.index_bytes (number64 file.root ++ magic)
 
-data_stands : (tree : Tree) (bytes : List ℕ) (file : IsFile tree bytes) → StandsAt 0 (data_field tree) bytes
-data_stands tree bytes file = stands_in 0 bytes [] (data_field tree) (file.index_bytes ++ (number64 file.root ++ magic)) (file_parted tree bytes file) refl
+data_stands : (tree : Tree) (bytes : List ℕ) (file : IsFile tree bytes) → StandsAt 0 (data_field file.version tree) bytes
+data_stands tree bytes file = stands_in 0 bytes [] (data_field file.version tree) (file.index_bytes ++ (number64 file.root ++ magic)) (file_parted tree bytes file) refl
 
 pub entries_stand : (tree : Tree) (bytes : List ℕ) (entries : List IndexEntry) → IsFile tree bytes → AreEntriesIn tree entries → All (HasPlaces tree bytes) entries
 entries_stand tree bytes entries file say =
     subst (λ (es : List IndexEntry). All (HasPlaces tree bytes) es) say.all
-    (groups_stand tree (length head) tree.groups say.by_group bytes (λ g in_tree. in_tree) say.say
-    (stands_second 0 head (flat_map group_field tree.groups) bytes (data_stands tree bytes file)))
+    (groups_stand tree head_length tree.groups say.by_group bytes (λ g in_tree. in_tree) say.say
+    (stands_second 0 (head file.version) (flat_map group_field tree.groups) bytes (data_stands tree bytes file)))
 
-pub file_ends : (tree : Tree) (bytes : List ℕ) (file : IsFile tree bytes) → HasEnds tree bytes file.entries file.root file.index_bytes
+pub file_ends : (tree : Tree) (bytes : List ℕ) (file : IsFile tree bytes) → HasEnds file.version tree bytes file.entries file.root file.index_bytes
 file_ends tree bytes file =
-    let front_bytes = data_field tree in
+    let front_bytes = data_field file.version tree in
     let tail = number64 file.root ++ magic in
     let is = file_parted tree bytes file in
     let whole = ap length is ∙ length-append front_bytes (file.index_bytes ++ tail) in
     let rest = length-append file.index_bytes (number64 file.root ++ magic) in
-    let front : length (data_field tree ++ file.index_bytes) ≡ length bytes - 14 = let n = length-append front_bytes file.index_bytes in omega (arith, whole, rest, n) in
+    let front : length (data_field file.version tree ++ file.index_bytes) ≡ length bytes - 14 = let n = length-append front_bytes file.index_bytes in omega (arith, whole, rest, n) in
     record {
       size = omega (arith, whole, rest);
-      head = stands_first 0 head (flat_map group_field tree.groups) bytes (data_stands tree bytes file);
+      head = stands_first 0 (head file.version) (flat_map group_field tree.groups) bytes (data_stands tree bytes file);
       data_stands = data_stands tree bytes file;
       index_stands = stands_in (length front_bytes) bytes front_bytes file.index_bytes tail is refl;
       index_is = file.index_is;

@@ -1,8 +1,8 @@
 -- The statistics of points of one type are statistics of that type.
-use Rattle.std.proofs.Common.{◌≡◌, ◌-◌, ◌<◌, ◌^◌, Bool, true, false, List, [], ◌∷◌, length, get_or, Option, Some, cond, refl, sym, ap, ◌∙◌, subst, arith}
-use Rattle.std.specs.Prelude.{All, FitsSigned, option_map, slice_get}
+use Rattle.std.proofs.Common.{◌≡◌, ℕ, ◌-◌, ◌<◌, ◌^◌, Bool, true, false, List, [], ◌∷◌, length, get_or, Option, Some, cond, refl, sym, ap, ◌∙◌, subst, arith}
+use Rattle.std.specs.Prelude.{ℤ, ◌+ℤ◌, ◌&&◌, None, All, FitsSigned, IfSome, is_some, option_map, slice_get}
 use Rattle.std.specs.Int.{w64}
-use Rattle.std.specs.List.{cons_option, fold, reduce, AllByRecursion}
+use Rattle.std.specs.List.{cons_option, filter_map, fold, reduce, AllByRecursion}
 use Rattle.std.proofs.lemmas.Bool.{false≢true}
 use Rattle.std.proofs.lemmas.Option.{slice_get-get_or}
 use Rattle.std.proofs.lemmas.List.Elements.{recursion_from_All}
@@ -12,10 +12,14 @@ use Rattle.tsdb_base.specs.declared.value.DataType.{DataType}
 use Rattle.tsdb_base.specs.declared.value.Value.{Value}
 use Rattle.tsdb_base.specs.declared.value.Value.TheVariants as value
 use Rattle.tsdb_base.specs.Values.{type_of, IsValue, IsValueOf}
-use Rattle.tsdb_stats.specs.Folds.{greater, if_number, is_less, lesser_value, as_number, numbers}
-use Rattle.tsdb_index.specs.Statistics.{IsExtremeOf, IsStatsOf, is_numeric}
+use Rattle.tsdb_stats.specs.Folds.{greater, if_number, is_less, lesser_value, as_number, numbers, sum_of}
+use Rattle.tsdb_index.specs.Statistics.{IsExtremeOf, IsStatsOf, IsSumIf, is_numeric}
+use Rattle.tsdb_index.specs.Versions.{has_sums}
 use Rattle.tsdb_stats.specs.Statistics.{AreStatsOf}
-use Rattle.tsdb_pages.specs.Pages.{IsInRange}
+use Rattle.tsdb_stats.proofs.Sums.{sum-fits}
+use Rattle.tsdb_pages.specs.File.{HasSum}
+use Rattle.tsdb_index.specs.declared.marks.TheConstants.{VERSION}
+use Rattle.tsdb_pages.specs.Pages.{ArePoints, IsInRange}
 
 of_type : (t : DataType) (p : Point) → type_of p.value ≡ t → IsInRange p → IsValueOf t p.value
 of_type t p typed range = record { typed = typed; fits = range.1 }
@@ -86,9 +90,14 @@ last_gives read points d y some is = same (sym (ap (option_map read) (slice_get-
     same : Some (read (get_or points (length points - 1) d)) ≡ Some y → read (get_or points (length points - 1) d) ≡ y
     same e = cc
 
-pub stats_of_type : (t : DataType) (points : List Point) (stats : Stats) → 0 < length points → length points < 2 ^ 64 → All (λ point. type_of point.value ≡ t) points → All IsInRange points → AreStatsOf points stats → IsStatsOf t stats
-stats_of_type t [] stats some few typed ranges are = absurd (omega (arith, some))
-stats_of_type t (p ∷ ps) stats some few typed ranges are =
+-- a sum that is there where it is to be
+sum_if : (there : Bool) (points : List Point) (sum : Option ℤ) → is_some sum ≡ there → IfSome sum (λ s. sum_of points ≡ Some s) → All (λ (point : Point). IsValue point.value) points → length points < 2 ^ 64 → IsSumIf there sum
+sum_if there points None is sums ranges few = sym is
+sum_if there points (Some s) is sums ranges few = (sym is, sum-fits points s ranges few sums)
+
+pub stats_of_type : (version : ℕ) (t : DataType) (points : List Point) (stats : Stats) → 0 < length points → length points < 2 ^ 64 → All (λ point. type_of point.value ≡ t) points → All IsInRange points → AreStatsOf points stats → HasSum version t stats → IsStatsOf (has_sums version) t stats
+stats_of_type version t [] stats some few typed ranges are has = absurd (omega (arith, some))
+stats_of_type version t (p ∷ ps) stats some few typed ranges are has =
     let points = p ∷ ps in
     let end = length (p ∷ ps) - 1 in
     let inside : length (p ∷ ps) - 1 < length (p ∷ ps) = omega (arith, some) in
@@ -107,4 +116,36 @@ stats_of_type t (p ∷ ps) stats some few typed ranges are =
       last = subst (IsValueOf t) (last_gives (λ (q : Point). q.value) points p stats.last some are.last) (of_type t last (typed end p inside) (ranges end p inside));
       least = subst (IsExtremeOf t) are.least (extreme lesser_value lesser-choice t points some each);
       greatest = subst (IsExtremeOf t) are.greatest (extreme greater greater-choice t points some each);
+      sum = sum_if (has_sums version && is_numeric t) points stats.sum has are.sum (λ k d lt. (ranges k d lt).1) few;
     }
+
+-- ---- the sum of a page's points
+
+some_number : (v : Value) (t : DataType) (xs : List ℤ) → type_of v ≡ t → is_numeric t ≡ true → is_some (reduce (λ a b. a +ℤ b) (cons_option (as_number v) xs)) ≡ true
+some_number (value.Bool b) t xs is e = absurd (false≢true (ap is_numeric is ∙ e))
+some_number (value.I32 n) t xs is e = refl
+some_number (value.I64 n) t xs is e = refl
+some_number (value.Text bytes) t xs is e = absurd (false≢true (ap is_numeric is ∙ e))
+
+no_number : (v : Value) (t : DataType) → type_of v ≡ t → is_numeric t ≡ false → as_number v ≡ None
+no_number (value.Bool b) t is e = refl
+no_number (value.I32 n) t is e = absurd (false≢true (sym e ∙ sym (ap is_numeric is)))
+no_number (value.I64 n) t is e = absurd (false≢true (sym e ∙ sym (ap is_numeric is)))
+no_number (value.Text bytes) t is e = refl
+
+no_sum : (t : DataType) (points : List Point) → AllByRecursion (λ (p : Point). type_of p.value ≡ t) points → is_numeric t ≡ false → sum_of points ≡ None
+no_sum t [] are e = refl
+no_sum t (p ∷ ps) are e = ap (λ (n : Option ℤ). reduce (λ a b. a +ℤ b) (cons_option n (filter_map (λ (q : Point). as_number q.value) ps))) (no_number p.value t are.0 e) ∙ no_sum t ps are.1 e
+
+-- points of a type have a sum exactly where they are numbers
+pub sum_there : (t : DataType) (points : List Point) → ArePoints t points → is_some (sum_of points) ≡ is_numeric t
+sum_there t [] are = let some = are.some in absurd (omega (arith, some))
+sum_there t (p ∷ ps) are =
+    let each = recursion_from_All (λ (q : Point). type_of q.value ≡ t) (p ∷ ps) are.typed in
+    elim (is_numeric t) as (λ (b : Bool). is_numeric t ≡ b → is_some (sum_of (p ∷ ps)) ≡ b) [
+      | true ↦ λ e. some_number p.value t (filter_map (λ (q : Point). as_number q.value) ps) each.0 e
+      | false ↦ λ e. ap is_some (no_sum t (p ∷ ps) each e)
+    ] refl
+
+pub has_sum : (t : DataType) (points : List Point) (stats : Stats) → ArePoints t points → stats.sum ≡ sum_of points → HasSum VERSION t stats
+has_sum t points stats are is = ap is_some is ∙ sum_there t points are

@@ -19,7 +19,9 @@ use Rattle.tsdb_index.specs.Entries.{AreInOrder, IsIndex, IsPageOf, names_of}
 use Rattle.tsdb_index.specs.Order.{AreNamesBefore}
 use Rattle.tsdb_index.specs.Entries as entries
 use Rattle.tsdb_index.specs.Faults.{IsIndexRead}
+use Rattle.tsdb_index.specs.Versions.{has_sums}
 use Rattle.tsdb_index.proofs.OneSpelling.{one_index}
+use Rattle.tsdb_index.proofs.Whole.{every_left, every_right}
 use Rattle.tsdb_index.proofs.Orders.{in_order}
 use Rattle.tsdb_pages.specs.declared.tree.Page.{Page}
 use Rattle.tsdb_pages.specs.declared.tree.Chunk.{Chunk}
@@ -27,29 +29,29 @@ use Rattle.tsdb_pages.specs.declared.tree.Group.{Group}
 use Rattle.tsdb_pages.specs.declared.tree.Tree.{Tree}
 use Rattle.tsdb_pages.specs.Pages.{ArePoints, IsInRange}
 use Rattle.tsdb_pages.specs.Trees.{IsGroup, IsMade, IsTree, chunks_of, page_points}
-use Rattle.tsdb_pages.specs.File.{AreEntries, AreEntriesIn, AreEntriesOf, ArePageEntries, IsChunkEntry, IsFile, chunk_field, chunk_head, data_field, group_field, group_head, head, page_field}
+use Rattle.tsdb_pages.specs.File.{AreEntries, AreEntriesIn, AreEntriesOf, ArePageEntries, HasSum, HasSums, IsChunkEntry, IsFile, chunk_field, chunk_head, data_field, group_field, group_head, head, head_length, page_field}
 use Rattle.tsdb_pages.proofs.Files.{groups_of_tree, IsWholeChunk, IsWholeGroup, of_each_page}
-use Rattle.tsdb_pages.proofs.OneFile.{all_of}
+use Rattle.tsdb_pages.proofs.OneFile.{all_of, HavePageSums, page_sums}
 use Rattle.tsdb_pages.proofs.Order.{pairs_append}
 use Rattle.tsdb_pages.proofs.Entries.{count_pages}
 use Rattle.tsdb_pages.proofs.Statistics.{stats_of_type}
 
 -- ---- pages
 
-pages_good : (t : DataType) (encoding : Encoding) (place : ℕ) (pages : List Page) (said : List PageEntry) → AllByRecursion (λ page. ArePoints t page.points) pages → AllByRecursion (λ page. All IsInRange page.points) pages
-    → place + length (flat_map (page_field encoding) pages) < 2 ^ 64 → ArePageEntries encoding place pages said → AllByRecursion (IsPageOf t) said
-pages_good t encoding place [] [] points ranges small say = tt
-pages_good t encoding place [] (s ∷ ss) points ranges small say = absurd say
-pages_good t encoding place (p ∷ ps) [] points ranges small say = absurd say
-pages_good t encoding place (p ∷ ps) (s ∷ ss) points ranges small say =
+pages_good : (version : ℕ) (t : DataType) (encoding : Encoding) (place : ℕ) (pages : List Page) (said : List PageEntry) → AllByRecursion (λ page. ArePoints t page.points) pages → AllByRecursion (λ page. All IsInRange page.points) pages
+    → place + length (flat_map (page_field encoding) pages) < 2 ^ 64 → ArePageEntries encoding place pages said → HavePageSums version t said → AllByRecursion (IsPageOf version t) said
+pages_good version t encoding place [] [] points ranges small say sums = tt
+pages_good version t encoding place [] (s ∷ ss) points ranges small say sums = absurd say
+pages_good version t encoding place (p ∷ ps) [] points ranges small say sums = absurd say
+pages_good version t encoding place (p ∷ ps) (s ∷ ss) points ranges small say sums =
     let n = length-append (page_field encoding p) (flat_map (page_field encoding) ps) in
     let at = say.0.place_is in
     let few = points.0.few in (
       record {
         place = omega (arith, at, n, small);
-        stats = stats_of_type t p.points s.stats points.0.some (omega (arith, few)) points.0.typed ranges.0 say.0.stats;
+        stats = stats_of_type version t p.points s.stats points.0.some (omega (arith, few)) points.0.typed ranges.0 say.0.stats sums.0;
       },
-      pages_good t encoding (place + length (page_field encoding p)) ps ss points.1 ranges.1 (omega (arith, n, small)) say.1,
+      pages_good version t encoding (place + length (page_field encoding p)) ps ss points.1 ranges.1 (omega (arith, n, small)) say.1 sums.1,
     )
 
 -- ---- the points of a chunk
@@ -72,8 +74,8 @@ points_typed t (p ∷ ps) are = All-append (λ (point : Point). type_of point.va
 
 -- ---- chunks
 
-entry_good : (device : List ℕ) (place : ℕ) (chunk : Chunk) (entry : IndexEntry) → IsPath device → IsWholeChunk chunk → place + length (chunk_field chunk) < 2 ^ 64 → IsChunkEntry device place chunk entry → entries.IsEntry entry
-entry_good device place chunk entry is_path is small say =
+entry_good : (version : ℕ) (device : List ℕ) (place : ℕ) (chunk : Chunk) (entry : IndexEntry) → IsPath device → IsWholeChunk chunk → place + length (chunk_field chunk) < 2 ^ 64 → IsChunkEntry device place chunk entry → HasSums version entry → entries.IsEntry version entry
+entry_good version device place chunk entry is_path is small say sums =
     let t : chunk.data_type ≡ entry.data_type = sym say.type_is in
     let each = recursion_from_All (λ (page : Page). ArePoints chunk.data_type page.points) chunk.pages is.0.pages in
     let count = count_pages chunk.encoding (place + length (chunk_head chunk)) chunk.pages entry.pages say.pages in
@@ -86,22 +88,24 @@ entry_good device place chunk entry is_path is small say =
       measurement = subst IsName (sym say.measurement_is) is.1.measurement;
       suits = ap (λ (x : DataType). is_suitable x entry.encoding) say.type_is ∙ ap (is_suitable chunk.data_type) say.encoding_is ∙ is.0.suits;
       place = omega (arith, at, small);
-      stats = subst (λ (x : DataType). IsStatsOf x entry.stats) t
-          (stats_of_type chunk.data_type (page_points chunk.pages) entry.stats (points_some chunk.data_type chunk.pages is.0.some each) (omega (arith, many, few)) (points_typed chunk.data_type chunk.pages each) is.1.points say.stats);
+      stats = subst (λ (x : DataType). IsStatsOf (has_sums version) x entry.stats) t
+          (stats_of_type version chunk.data_type (page_points chunk.pages) entry.stats (points_some chunk.data_type chunk.pages is.0.some each) (omega (arith, many, few)) (points_typed chunk.data_type chunk.pages each) is.1.points say.stats
+          (subst (λ (x : DataType). HasSum version x entry.stats) say.type_is sums.stats));
       few = omega (arith, count, few);
-      pages = subst (λ (x : DataType). All (IsPageOf x) entry.pages) t
-          (All-from_recursion (IsPageOf chunk.data_type) entry.pages
-          (pages_good chunk.data_type chunk.encoding (place + length (chunk_head chunk)) chunk.pages entry.pages each (of_each_page chunk.pages is.1.points) (omega (arith, n, small)) say.pages));
+      pages = subst (λ (x : DataType). All (IsPageOf version x) entry.pages) t
+          (All-from_recursion (IsPageOf version chunk.data_type) entry.pages
+          (pages_good version chunk.data_type chunk.encoding (place + length (chunk_head chunk)) chunk.pages entry.pages each (of_each_page chunk.pages is.1.points) (omega (arith, n, small)) say.pages
+          (page_sums version chunk.data_type entry say.type_is sums)));
     }
 
-entries_good : (device : List ℕ) (place : ℕ) (chunks : List Chunk) (es : List IndexEntry) → IsPath device → AllByRecursion IsWholeChunk chunks → place + length (flat_map chunk_field chunks) < 2 ^ 64 → AreEntries device place chunks es → AllByRecursion entries.IsEntry es
-entries_good device place [] [] is_path are small say = tt
-entries_good device place [] (e ∷ es) is_path are small say = absurd say
-entries_good device place (c ∷ cs) [] is_path are small say = absurd say
-entries_good device place (c ∷ cs) (e ∷ es) is_path are small say =
+entries_good : (version : ℕ) (device : List ℕ) (place : ℕ) (chunks : List Chunk) (es : List IndexEntry) → IsPath device → AllByRecursion IsWholeChunk chunks → place + length (flat_map chunk_field chunks) < 2 ^ 64 → AreEntries device place chunks es → AllByRecursion (HasSums version) es → AllByRecursion (entries.IsEntry version) es
+entries_good version device place [] [] is_path are small say sums = tt
+entries_good version device place [] (e ∷ es) is_path are small say sums = absurd say
+entries_good version device place (c ∷ cs) [] is_path are small say sums = absurd say
+entries_good version device place (c ∷ cs) (e ∷ es) is_path are small say sums =
     let n = length-append (chunk_field c) (flat_map chunk_field cs) in (
-      entry_good device place c e is_path are.0 (omega (arith, n, small)) say.0,
-      entries_good device (place + length (chunk_field c)) cs es is_path are.1 (omega (arith, n, small)) say.1,
+      entry_good version device place c e is_path are.0 (omega (arith, n, small)) say.0 sums.0,
+      entries_good version device (place + length (chunk_field c)) cs es is_path are.1 (omega (arith, n, small)) say.1 sums.1,
     )
 
 -- ---- groups
@@ -110,16 +114,16 @@ every_append : {A : Type 0} (P : A → Type 0) (xs ys : List A) → AllByRecursi
 every_append P [] ys are_x are_y = are_y
 every_append P (x ∷ xs) ys are_x are_y = (are_x.0, every_append P xs ys are_x.1 are_y)
 
-lists_good : (place : ℕ) (groups : List Group) (lists : List (List IndexEntry)) → AllByRecursion IsWholeGroup groups → place + length (flat_map group_field groups) < 2 ^ 64 → AreEntriesOf place groups lists → AllByRecursion entries.IsEntry (all_of lists)
-lists_good place [] [] are small say = tt
-lists_good place [] (l ∷ ls) are small say = absurd say
-lists_good place (g ∷ gs) [] are small say = absurd say
-lists_good place (g ∷ gs) (l ∷ ls) are small say =
+lists_good : (version place : ℕ) (groups : List Group) (lists : List (List IndexEntry)) → AllByRecursion IsWholeGroup groups → place + length (flat_map group_field groups) < 2 ^ 64 → AreEntriesOf place groups lists → AllByRecursion (HasSums version) (all_of lists) → AllByRecursion (entries.IsEntry version) (all_of lists)
+lists_good version place [] [] are small say sums = tt
+lists_good version place [] (l ∷ ls) are small say sums = absurd say
+lists_good version place (g ∷ gs) [] are small say sums = absurd say
+lists_good version place (g ∷ gs) (l ∷ ls) are small say sums =
     let n = length-append (group_field g) (flat_map group_field gs) in
     let m = length-append (group_head g) (flat_map chunk_field g.chunks) in
-    every_append entries.IsEntry l (all_of ls)
-    (entries_good g.device (place + length (group_head g)) g.chunks l are.0.0 are.0.1 (omega (arith, n, m, small)) say.0)
-    (lists_good (place + length (group_field g)) gs ls are.1 (omega (arith, n, small)) say.1)
+    every_append (entries.IsEntry version) l (all_of ls)
+    (entries_good version g.device (place + length (group_head g)) g.chunks l are.0.0 are.0.1 (omega (arith, n, m, small)) say.0 (every_left (HasSums version) l (all_of ls) sums))
+    (lists_good version (place + length (group_field g)) gs ls are.1 (omega (arith, n, small)) say.1 (every_right (HasSums version) l (all_of ls) sums))
 
 -- ---- the names of all chunks
 
@@ -218,28 +222,33 @@ some_chunks : (groups : List Group) → 0 < length groups → AllByRecursion IsG
 some_chunks [] some are = absurd (omega (arith, some))
 some_chunks (g ∷ gs) some are = let n = length-append g.chunks (chunks_of gs) in let here = are.0.some in omega (arith, n, here)
 
-pub entries_are_index : (tree : Tree) (es : List IndexEntry) → IsTree tree → IsMade tree → AreEntriesIn tree es → length (data_field tree) < 2 ^ 64 → IsIndex es
-entries_are_index tree es is made say small =
+pub entries_are_index : (version : ℕ) (tree : Tree) (es : List IndexEntry) → IsTree tree → IsMade tree → AreEntriesIn tree es → All (HasSums version) es → length (data_field version tree) < 2 ^ 64 → IsIndex version es
+entries_are_index version tree es is made say sums small =
     let groups = tree.groups in
     let each = recursion_from_All IsGroup groups is.groups in
-    let names = all_names (length head) groups say.by_group say.say in
+    let names = all_names head_length groups say.by_group say.say in
     let named : map names_of es ≡ names_in tree.groups = ap (map names_of) (sym say.all) ∙ names in
     let number : length es ≡ length (chunks_of tree.groups) = sym (length-map es names_of) ∙ ap length named ∙ one_name_a_chunk groups in
-    let size = length-append head (flat_map group_field groups) in
+    let size = length-append (head version) (flat_map group_field groups) in
     let some = some_chunks groups is.some each in
     let few = is.few in
     record {
       some = omega (arith, number, some);
       few = omega (arith, number, few);
-      good = subst (λ (l : List IndexEntry). All entries.IsEntry l) say.all
-          (All-from_recursion entries.IsEntry (all_of say.by_group) (lists_good (length head) groups say.by_group (groups_of_tree tree is made) (omega (arith, size, small)) say.say));
+      good = subst (λ (l : List IndexEntry). All (entries.IsEntry version) l) say.all
+          (All-from_recursion (entries.IsEntry version) (all_of say.by_group) (lists_good version head_length groups say.by_group (groups_of_tree tree is made) (omega (arith, size, small)) say.say
+          (recursion_from_All (HasSums version) (all_of say.by_group) (subst (λ (l : List IndexEntry). All (HasSums version) l) (sym say.all) sums))));
       rising = subst (λ (ns : List (List ℕ × List ℕ)). AreInOrder AreNamesBefore ns) (sym named)
           (in_order AreNamesBefore (names_in groups) (neighbours AreNamesBefore (names_in groups) (names_pair groups each is.rising)));
     }
 
 -- what is read of the index of a tree's file are the entries of the tree
-pub read_entries : (tree : Tree) (bytes : List ℕ) (es : List IndexEntry) → IsTree tree → IsMade tree → (file : IsFile tree bytes) → length (data_field tree) < 2 ^ 64
-    → IsIndexRead (length (data_field tree)) file.root file.index_bytes es → AreEntriesIn tree es
-read_entries tree bytes es is made file small read =
-    let mine = entries_are_index tree file.entries is made file.say small in
-    subst (AreEntriesIn tree) (one_index (length (data_field tree)) file.root file.index_bytes file.entries es mine.good read.index.good file.index_is read.spelling) file.say
+pub read_is : (tree : Tree) (bytes : List ℕ) (es : List IndexEntry) → IsTree tree → IsMade tree → (file : IsFile tree bytes) → length (data_field file.version tree) < 2 ^ 64
+    → IsIndexRead file.version (length (data_field file.version tree)) file.root file.index_bytes es → file.entries ≡ es
+read_is tree bytes es is made file small read =
+    let mine = entries_are_index file.version tree file.entries is made file.say file.sums small in
+    one_index file.version (length (data_field file.version tree)) file.root file.index_bytes file.entries es mine.good read.index.good file.index_is read.spelling
+
+pub read_entries : (tree : Tree) (bytes : List ℕ) (es : List IndexEntry) → IsTree tree → IsMade tree → (file : IsFile tree bytes) → length (data_field file.version tree) < 2 ^ 64
+    → IsIndexRead file.version (length (data_field file.version tree)) file.root file.index_bytes es → AreEntriesIn tree es
+read_entries tree bytes es is made file small read = subst (AreEntriesIn tree) (read_is tree bytes es is made file small read) file.say

@@ -1,15 +1,18 @@
--- The bytes of the file of a tree.
-use Rattle.std.specs.Prelude.{◌≡◌, ℕ, ◌+◌, List, [], ◌∷◌, ◌++◌, length, codes}
+-- The bytes of the file of a tree, in each version.
+use Rattle.std.specs.Prelude.{◌≡◌, ℕ, ◌+◌, ◌&&◌, List, [], ◌∷◌, ◌++◌, length, codes, get_or, is_some, All}
 use Rattle.std.specs.List.{flat_map}
 use Rattle.tsdb_base.specs.declared.point.Point.{Point}
+use Rattle.tsdb_base.specs.declared.point.Stats.{Stats}
 use Rattle.tsdb_base.specs.declared.value.DataType.{DataType}
 use Rattle.tsdb_base.specs.declared.value.Encoding.{Encoding}
 use Rattle.tsdb_base.specs.Fields.{number32, number64, type_field, encoding_field}
 use Rattle.tsdb_base.specs.Plain.{plain_text}
 use Rattle.tsdb_index.specs.declared.index.IndexEntry.{IndexEntry}
 use Rattle.tsdb_index.specs.declared.index.PageEntry.{PageEntry}
-use Rattle.tsdb_index.specs.declared.marks.TheConstants.{VERSION, GROUP, CHUNK, PAGE}
+use Rattle.tsdb_index.specs.declared.marks.TheConstants.{GROUP, CHUNK, PAGE}
 use Rattle.tsdb_index.specs.Spelling as index
+use Rattle.tsdb_index.specs.Statistics.{is_numeric}
+use Rattle.tsdb_index.specs.Versions.{IsVersion, has_sums}
 use Rattle.tsdb_stats.specs.Statistics.{AreStatsOf}
 use Rattle.tsdb_pages.specs.declared.tree.Page.{Page}
 use Rattle.tsdb_pages.specs.declared.tree.Chunk.{Chunk}
@@ -22,9 +25,17 @@ use Rattle.tsdb_pages.specs.Trees.{page_points}
 abbrev pub magic : List ℕ
 magic = codes "TsFile"
 
--- the head of a file: `TsFile` and the version, 0x51
-abbrev pub head : List ℕ
-head = magic ++ VERSION ∷ []
+-- the head of a file: `TsFile` and the version
+abbrev pub head : ℕ → List ℕ
+head version = magic ++ version ∷ []
+
+-- how many bytes it has
+abbrev pub head_length : ℕ
+head_length = length magic + 1
+
+-- the version that these bytes have, if they are a file
+abbrev pub version_in : List ℕ → ℕ
+version_in bytes = get_or bytes (length magic) 0
 
 -- a page of these points: its mark 0x50, and its body behind the body's length
 abbrev pub page_bytes : Encoding → List Point → List ℕ
@@ -60,8 +71,8 @@ abbrev pub group_field : Group → List ℕ
 group_field group = group_head group ++ flat_map chunk_field group.chunks
 
 -- head and groups
-abbrev pub data_field : Tree → List ℕ
-data_field tree = head ++ flat_map group_field tree.groups
+abbrev pub data_field : ℕ → Tree → List ℕ
+data_field version tree = head version ++ flat_map group_field tree.groups
 
 -- what the index says of a page that stands at this place
 pub record IsPageEntry (place : ℕ) (page : Page) (entry : PageEntry) : Type 0 where
@@ -107,13 +118,30 @@ AreEntriesOf place (group ∷ groups) (entries ∷ others) =
 pub record AreEntriesIn (tree : Tree) (entries : List IndexEntry) : Type 0 where
   pub by_group : List (List IndexEntry)
   pub all : flat_map (λ list. list) by_group ≡ entries
-  pub say : AreEntriesOf (length head) tree.groups by_group
+  pub say : AreEntriesOf head_length tree.groups by_group
 
--- these bytes are the file of the tree: head, groups, index, and behind it the place of the root and `TsFile`
+-- statistics of values of this type have a sum exactly where they are numbers and the version has sums
+abbrev pub HasSum : ℕ → DataType → Stats → Type 0
+HasSum version data_type stats = is_some stats.sum ≡ (has_sums version && is_numeric data_type)
+
+-- so do all that the entry of a chunk has
+pub record HasSums (version : ℕ) (entry : IndexEntry) : Type 0 where
+  pub stats : HasSum version entry.data_type entry.stats
+  pub pages : All (λ page. HasSum version entry.data_type page.stats) entry.pages
+
+-- these bytes are the file of the tree, in one of the versions: head, groups, index, and behind it the place of the root
+-- and `TsFile`
 pub record IsFile (tree : Tree) (bytes : List ℕ) : Type 0 where
+  pub version : ℕ
+  pub known : IsVersion version
   pub entries : List IndexEntry
   pub root : ℕ
   pub index_bytes : List ℕ
   pub say : AreEntriesIn tree entries
-  pub index_is : index.IsIndexSpelling (length (data_field tree)) root entries index_bytes
-  pub bytes_are : bytes ≡ data_field tree ++ index_bytes ++ number64 root ++ magic
+  pub sums : All (HasSums version) entries
+  pub index_is : index.IsIndexSpelling (length (data_field version tree)) root entries index_bytes
+  pub bytes_are : bytes ≡ data_field version tree ++ index_bytes ++ number64 root ++ magic
+
+-- they are its file in this version
+abbrev pub IsFileIn : ℕ → Tree → List ℕ → Type 0
+IsFileIn version tree bytes = IsFile tree bytes × (version_in bytes ≡ version)

@@ -1,6 +1,5 @@
 -- The bytes of a list of values of one type, in each encoding.
 use Rattle.std.specs.Prelude.{ℕ, ℤ, pos, List, [], map}
-use Rattle.tsdb_base.specs.declared.value.DataType.{DataType}
 use Rattle.tsdb_base.specs.declared.value.Encoding.{Encoding}
 use Rattle.tsdb_base.specs.declared.value.Encoding.TheVariants.{Plain, Dictionary, Rle, Ts2diff}
 use Rattle.tsdb_base.specs.declared.value.Value.{Value}

@@ -1,5 +1,5 @@
 -- The points of a page, and the bytes of its body.
-use Rattle.std.specs.Prelude.{◌≡◌, ℕ, ℤ, ◌<◌, ◌≤◌, ◌<ℤ◌, List, ◌++◌, length, map, All, AllPairs, FitsSigned}
+use Rattle.std.specs.Prelude.{◌≡◌, ℕ, ℤ, ◌<◌, ◌≤◌, List, ◌++◌, length, map, All, FitsSigned}
 use Rattle.std.specs.Int.{w64}
 use Rattle.tsdb_base.specs.Points.{IsRising}
 use Rattle.tsdb_base.specs.declared.point.Point.{Point}

@@ -36,11 +36,12 @@ pub record HasPlaces (tree : Tree) (bytes : List ℕ) (entry : IndexEntry) : Typ
       → IsPageAt chunk.encoding bytes (get_or chunk.pages k page) (get_or entry.pages k said)
 
 -- the head stands first, the tail last, and before it the index: its leaves from the end of the groups up to the root
-pub record HasEnds (tree : Tree) (bytes : List ℕ) (entries : List IndexEntry) (root : ℕ) (index : List ℕ) : Type 0 where
-  pub size : length bytes ≡ length (data_field tree) + length index + 14
-  pub head : StandsAt 0 head bytes
-  pub data_stands : StandsAt 0 (data_field tree) bytes
-  pub index_stands : StandsAt (length (data_field tree)) index bytes
-  pub index_is : IsIndexSpelling (length (data_field tree)) root entries index
-  pub begins : RootBegins (length (data_field tree)) root entries index
+pub record HasEnds (version : ℕ) (tree : Tree) (bytes : List ℕ) (entries : List IndexEntry) (root : ℕ) (index : List ℕ)
+    : Type 0 where
+  pub size : length bytes ≡ length (data_field version tree) + length index + 14
+  pub head : StandsAt 0 (head version) bytes
+  pub data_stands : StandsAt 0 (data_field version tree) bytes
+  pub index_stands : StandsAt (length (data_field version tree)) index bytes
+  pub index_is : IsIndexSpelling (length (data_field version tree)) root entries index
+  pub begins : RootBegins (length (data_field version tree)) root entries index
   pub tail : drop (length bytes - 14) bytes ≡ number64 root ++ magic

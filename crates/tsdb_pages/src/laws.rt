@@ -8,7 +8,7 @@ ghost use Rattle.tsdb_index.specs.declared.index.IndexEntry.{IndexEntry};
 ghost use Rattle.tsdb_index.specs.Entries.{IsIndex};
 ghost use Rattle.tsdb_index.specs.Faults.{IsIndexRead};
 ghost use Rattle.tsdb_pages.specs.declared.tree.Tree.{Tree};
-ghost use Rattle.tsdb_pages.specs.File.{AreEntriesIn, IsFile, data_field};
+ghost use Rattle.tsdb_pages.specs.File.{AreEntriesIn, HasSums, IsFile, IsFileIn, data_field, version_in};
 ghost use Rattle.tsdb_pages.specs.Pages.{ArePoints, IsInRange, body};
 ghost use Rattle.tsdb_pages.specs.Places.{HasEnds, HasPlaces};
 ghost use Rattle.tsdb_pages.specs.Reading.{IsBody};
@@ -28,12 +28,17 @@ pub fn body_is_short()
         length (body encoding points) < 2 ^ 32 }
 {}
 
-/// A tree has one file.
+/// A tree has one file in each version.
 pub fn one_file()
-    ensures { (tree : Tree) (x y : List ℕ) → IsFile tree x → IsFile tree y → x ≡ y }
+    ensures { (version : ℕ) (tree : Tree) (x y : List ℕ) → IsFileIn version tree x → IsFileIn version tree y → x ≡ y }
 {}
 
-/// Two trees with the same file are equal.
+/// A file says its version.
+pub fn one_version()
+    ensures { (tree : Tree) (bytes : List ℕ) (file : IsFile tree bytes) → version_in bytes ≡ file.version }
+{}
+
+/// Two trees with the same file, in whatever version, are equal.
 pub fn one_tree()
     ensures { (a b : Tree) (bytes : List ℕ) → IsTree a → IsMade a → IsTree b → IsMade b →
         IsFile a bytes → IsFile b bytes → a ≡ b }
@@ -48,18 +53,19 @@ pub fn entries_stand()
 /// The tail of a tree's file says where the root stands, and the root where the first leaf does.
 pub fn file_ends()
     ensures { (tree : Tree) (bytes : List ℕ) (file : IsFile tree bytes) →
-        HasEnds tree bytes file.entries file.root file.index_bytes }
+        HasEnds file.version tree bytes file.entries file.root file.index_bytes }
 {}
 
-/// The entries of a tree are those of an index.
+/// The entries of a tree, with the sums of a version, are those of an index.
 pub fn entries_are_index()
-    ensures { (tree : Tree) (entries : List IndexEntry) → IsTree tree → IsMade tree → AreEntriesIn tree entries →
-        length (data_field tree) < 2 ^ 64 → IsIndex entries }
+    ensures { (version : ℕ) (tree : Tree) (entries : List IndexEntry) → IsTree tree → IsMade tree →
+        AreEntriesIn tree entries → All (HasSums version) entries →
+        length (data_field version tree) < 2 ^ 64 → IsIndex version entries }
 {}
 
 /// What is read of the index of a tree's file are the tree's entries.
 pub fn read_entries()
     ensures { (tree : Tree) (bytes : List ℕ) (entries : List IndexEntry) → IsTree tree → IsMade tree →
-        (file : IsFile tree bytes) → length (data_field tree) < 2 ^ 64 →
-        IsIndexRead (length (data_field tree)) file.root file.index_bytes entries → AreEntriesIn tree entries }
+        (file : IsFile tree bytes) → length (data_field file.version tree) < 2 ^ 64 →
+        IsIndexRead file.version (length (data_field file.version tree)) file.root file.index_bytes entries → AreEntriesIn tree entries }
 {}

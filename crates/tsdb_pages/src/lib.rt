@@ -6,7 +6,7 @@
 //!
 //! ```text
 //! file  = head group{1..} index tail       nothing between, nothing behind
-//! head  = "TsFile" 51
+//! head  = "TsFile" version:u8             51 or 52
 //! group = 47 device:name chunk{1..}
 //! chunk = 43 measurement:name type:u8 encoding:u8 page{1..}
 //! page  = 50 length:u32 body               the length of the body
@@ -35,7 +35,7 @@ pub use fault::PageFault;
 pub use item::HasValue;
 pub use laws::{
     body_is_short, entries_are_index, entries_stand, file_ends, one_file, one_page, one_tree,
-    read_entries,
+    one_version, read_entries,
 };
 pub use tree::{Chunk, Group, Page, Tree};
 pub use value_laws::{one_spelling, spelling_is_short};
