@@ -1,26 +1,30 @@
 -- Pages, chunks and groups appended one behind another.
-use Rattle.std.proofs.Common.{◌≡◌, ℕ, ◌+◌, ◌-◌, ◌<◌, ◌≤◌, List, [], ◌∷◌, ◌++◌, length, take, drop, get_or, Ok, Err, sym, ap, ◌∙◌, subst, append_assoc, arith}
-use Rattle.std.specs.Prelude.{All, IfOk, OnErr, Result}
+use Rattle.std.proofs.Common.{◌≡◌, inr, ℕ, ◌+◌, ◌-◌, ◌<◌, ◌≤◌, List, [], ◌∷◌, ◌++◌, length, take, drop, get_or, Ok, Err, refl, sym, ap, ◌∙◌, subst, append_assoc, arith}
+use Rattle.std.specs.Prelude.{All, IfOk, OnErr, Result, is_some}
 use Rattle.std.specs.List.{flat_map}
 use Rattle.std.proofs.lemmas.List.{append-nil, length-append, length-drop, take-append-drop, take_all, take_more}
-use Rattle.std.proofs.lemmas.List.Elements.{All-head}
+use Rattle.std.proofs.lemmas.List.Elements.{All-head, All-nil, All-push}
 use Rattle.tsdb_base.specs.declared.point.Point.{Point}
+use Rattle.tsdb_base.specs.declared.point.Stats.{Stats}
 use Rattle.tsdb_base.specs.declared.value.DataType.{DataType}
 use Rattle.tsdb_base.specs.declared.value.Encoding.{Encoding}
 use Rattle.tsdb_base.specs.Fields.{number64}
 use Rattle.tsdb_index.specs.declared.index.IndexEntry.{IndexEntry}
 use Rattle.tsdb_index.specs.declared.index.PageEntry.{PageEntry}
+use Rattle.tsdb_index.specs.declared.marks.TheConstants.{VERSION}
 use Rattle.tsdb_index.specs.Spelling as index
+use Rattle.tsdb_index.specs.Statistics.{is_numeric}
 use Rattle.tsdb_pages.specs.declared.tree.Page.{Page}
 use Rattle.tsdb_pages.specs.declared.tree.Chunk.{Chunk}
 use Rattle.tsdb_pages.specs.declared.tree.Group.{Group}
 use Rattle.tsdb_pages.specs.declared.tree.Tree.{Tree}
-use Rattle.tsdb_pages.specs.File.{AreEntries, ArePageEntries, IsChunkEntry, IsFile, IsPageEntry, chunk_field, chunk_start, group_field, group_head, group_start, head, magic, page_bytes, page_field}
+use Rattle.tsdb_pages.specs.File.{AreEntries, ArePageEntries, HasSum, HasSums, IsChunkEntry, IsFile, IsFileIn, IsPageEntry, chunk_field, chunk_start, group_field, group_head, group_start, head, head_length, magic, page_bytes, page_field}
 use Rattle.tsdb_pages.specs.Trees.{IsGroup, chunks_of, page_points}
 use Rattle.tsdb_pages.proofs.Entries.{chunks_push, count_all, flat_push, groups_push, pages_push}
+use Rattle.tsdb_pages.proofs.OneFile.{version_is}
 use Rattle.tsdb_stats.specs.Statistics.{AreStatsOf}
 use Rattle.tsfile_writer.specs.declared.layout.OpenChunk.{OpenChunk}
-use Rattle.tsfile_writer.specs.Steps.{AreChunks, AreGroupsWritten, ArePages, IsChunkBegun, IsLonger, SameChunk}
+use Rattle.tsfile_writer.specs.Steps.{AreChunks, AreGroupsWritten, ArePages, HasOpenSums, IsChunkBegun, IsLonger, SameChunk}
 
 -- the items that a loop has taken, and the next
 pub more_taken : {A : Type 0} (front items others : List A) (i : ℕ) (item : A) → others ≡ items → i < length others → item ≡ get_or others i item → (front ++ take i items) ++ item ∷ [] ≡ front ++ take (i + 1) items
@@ -53,7 +57,7 @@ always_on_err (Err e) is = is
 -- ---- how many
 
 pub count_entries : (groups : List Group) (bytes : List ℕ) (entries : List IndexEntry) → AreGroupsWritten groups bytes entries → length entries ≡ length (chunks_of groups)
-count_entries groups bytes entries layout = sym (ap length layout.all) ∙ count_all (length head) groups layout.by_group layout.say
+count_entries groups bytes entries layout = sym (ap length layout.all) ∙ count_all head_length groups layout.by_group layout.say
 
 -- a tree has a chunk
 pub some_chunk : (groups : List Group) → 0 < length groups → All IsGroup groups → 0 < length (chunks_of groups)
@@ -68,8 +72,14 @@ some_entry groups bytes entries layout some good = subst (λ n. 0 < n) (sym (cou
 
 -- ---- the steps
 
-pub no_groups : (bytes : List ℕ) (entries : List IndexEntry) → bytes ≡ head → entries ≡ [] → AreGroupsWritten [] bytes entries
-no_groups bytes entries is none = record { bytes_are = is ∙ sym (append-nil head); by_group = []; all = sym none; say = tt }
+pub no_groups : (bytes : List ℕ) (entries : List IndexEntry) → bytes ≡ head VERSION → entries ≡ [] → AreGroupsWritten [] bytes entries
+no_groups bytes entries is none = record {
+  bytes_are = is ∙ sym (append-nil (head VERSION));
+  by_group = [];
+  all = sym none;
+  say = tt;
+  sums = subst (λ (es : List IndexEntry). All (HasSums VERSION) es) (sym none) (All-nil (HasSums VERSION));
+}
 
 pub group_begun : (groups : List Group) (device : List ℕ) (old new : List ℕ) (entries : List IndexEntry) → AreGroupsWritten groups old entries → new ≡ old ++ group_start device → AreChunks groups device [] new entries
 group_begun groups device old new entries layout added = record {
@@ -80,12 +90,13 @@ group_begun groups device old new entries layout added = record {
   own = [];
   all = sym (append-nil entries);
   say = tt;
+  sums = layout.sums;
 }
 
 pub chunk_begun : (groups : List Group) (device : List ℕ) (chunks : List Chunk) (measurement : List ℕ) (data_type : DataType) (encoding : Encoding) (page : Page) (points : List Point) (old new : List ℕ) (entries : List IndexEntry) (chunk : OpenChunk)
-    → AreChunks groups device chunks old entries → page.points ≡ points → new ≡ old ++ (chunk_start measurement data_type encoding ++ page_bytes encoding points) → IsChunkBegun (length old) (length (chunk_start measurement data_type encoding)) points chunk
+    → AreChunks groups device chunks old entries → page.points ≡ points → new ≡ old ++ (chunk_start measurement data_type encoding ++ page_bytes encoding points) → IsChunkBegun (length old) (length (chunk_start measurement data_type encoding)) points chunk → HasOpenSums data_type chunk
     → ArePages groups device chunks measurement data_type encoding (page ∷ []) new entries chunk
-chunk_begun groups device chunks measurement data_type encoding page points old new entries chunk layout same added begun = record {
+chunk_begun groups device chunks measurement data_type encoding page points old new entries chunk layout same added begun sums = record {
   bytes_before = old;
   before = layout;
   bytes_are = added ∙ ap (λ (p : List Point). old ++ (chunk_start measurement data_type encoding ++ page_bytes encoding p)) (sym same)
@@ -96,6 +107,7 @@ chunk_begun groups device chunks measurement data_type encoding page points old 
     say = subst (λ (l : List PageEntry). ArePageEntries encoding (length old + length (chunk_start measurement data_type encoding)) (page ∷ []) l) (sym begun.pages_are)
         (record { place_is = begun.is.place_is; stats = subst (λ (p : List Point). AreStatsOf p begun.entry.stats) (sym same) begun.is.stats }, tt);
   };
+  sums = sums;
 }
 
 -- bytes behind two parts and a third
@@ -112,9 +124,9 @@ more_behind bytes new a b c d is added =
     added ∙ ap (λ (l : List ℕ). l ++ d) is ∙ append_assoc a (b ++ c) d ∙ ap (λ (l : List ℕ). a ++ l) (append_assoc b c d)
 
 pub page_added : (groups : List Group) (device : List ℕ) (chunks : List Chunk) (measurement : List ℕ) (data_type : DataType) (encoding : Encoding) (pages : List Page) (page : Page) (points : List Point) (before after : List ℕ) (entries : List IndexEntry) (old new : OpenChunk)
-    → ArePages groups device chunks measurement data_type encoding pages before entries old → page.points ≡ points → after ≡ before ++ page_bytes encoding points → IsLonger (length before) points old new
+    → ArePages groups device chunks measurement data_type encoding pages before entries old → page.points ≡ points → after ≡ before ++ page_bytes encoding points → IsLonger (length before) points old new → (HasOpenSums data_type old → HasOpenSums data_type new)
     → ArePages groups device chunks measurement data_type encoding (pages ++ page ∷ []) after entries new
-page_added groups device chunks measurement data_type encoding pages page points before after entries old new layout same added longer =
+page_added groups device chunks measurement data_type encoding pages page points before after entries old new layout same added longer sums =
     let start = chunk_start measurement data_type encoding in
     let first = length layout.bytes_before + length start in
     let page_fields = flat_map (page_field encoding) pages in
@@ -132,6 +144,7 @@ page_added groups device chunks measurement data_type encoding pages page points
         say = subst (λ (l : List PageEntry). ArePageEntries encoding (length layout.bytes_before + length (chunk_start measurement data_type encoding)) (pages ++ page ∷ []) l) (sym longer.pages_are)
             (pages_push encoding first pages old.pages.items page longer.entry layout.is.say here);
       };
+      sums = sums layout.sums;
     }
 
 -- the pages of a chunk of which the same is said
@@ -146,6 +159,26 @@ same_pages groups device chunks measurement data_type encoding pages before afte
     stats = subst (AreStatsOf (page_points pages)) (sym same_chunk.stats) layout.is.stats;
     say = subst (λ (l : List PageEntry). ArePageEntries encoding (length layout.bytes_before + length (chunk_start measurement data_type encoding)) pages l) (sym same_chunk.pages_are) layout.is.say;
   };
+  sums = record {
+    stats = ap (λ (s : Stats). is_some s.sum) same_chunk.stats ∙ layout.sums.stats;
+    pages = subst (λ (l : List PageEntry). All (λ page. HasSum VERSION data_type page.stats) l) (sym same_chunk.pages_are) layout.sums.pages;
+  };
+}
+
+-- the sums of a chunk with its first page, and with one page more
+pub sums_begun : (data_type : DataType) (chunk : OpenChunk) (entry : PageEntry) → HasSum VERSION data_type chunk.stats → HasSum VERSION data_type entry.stats → chunk.pages.items ≡ entry ∷ [] → HasOpenSums data_type chunk
+sums_begun data_type chunk entry own first are = record {
+  stats = own;
+  pages = subst (λ (l : List PageEntry). All (λ page. HasSum VERSION data_type page.stats) l) (sym are)
+      (All-push (λ (page : PageEntry). HasSum VERSION data_type page.stats) [] entry (All-nil (λ (page : PageEntry). HasSum VERSION data_type page.stats)) first);
+}
+
+pub sums_longer : (data_type : DataType) (old new : OpenChunk) (entry : PageEntry) → is_some new.stats.sum ≡ is_some old.stats.sum → HasSum VERSION data_type entry.stats → new.pages.items ≡ old.pages.items ++ entry ∷ []
+    → HasOpenSums data_type old → HasOpenSums data_type new
+sums_longer data_type old new entry same more are sums = record {
+  stats = same ∙ sums.stats;
+  pages = subst (λ (l : List PageEntry). All (λ page. HasSum VERSION data_type page.stats) l) (sym are)
+      (All-push (λ (page : PageEntry). HasSum VERSION data_type page.stats) old.pages.items entry sums.pages more);
 }
 
 -- the entry of a chunk says what is said of it so far
@@ -175,6 +208,12 @@ chunk_ended groups device chunks chunk bytes before after open_chunk entry layou
       pages = subst (λ (l : List PageEntry). ArePageEntries chunk.encoding (length layout.bytes_before + length (chunk_start chunk.measurement chunk.data_type chunk.encoding)) chunk.pages l) (sym is.pages_are) layout.is.say;
     }
     in
+    let sums : HasSums VERSION entry = record {
+      stats = ap (λ (s : Stats). is_some s.sum) is.stats ∙ layout.sums.stats ∙ sym (ap is_numeric is.type_is);
+      pages = subst (λ (t : DataType). All (λ page. HasSum VERSION t page.stats) entry.pages) (sym is.type_is)
+          (subst (λ (l : List PageEntry). All (λ page. HasSum VERSION chunk.data_type page.stats) l) (sym is.pages_are) layout.sums.pages);
+    }
+    in
     record {
       bytes_before = layout.before.bytes_before;
       entries_before = layout.before.entries_before;
@@ -184,27 +223,39 @@ chunk_ended groups device chunks chunk bytes before after open_chunk entry layou
       own = layout.before.own ++ entry ∷ [];
       all = added ∙ ap (λ (l : List IndexEntry). l ++ entry ∷ []) layout.before.all ∙ append_assoc layout.before.entries_before layout.before.own (entry ∷ []);
       say = chunks_push device (length layout.before.bytes_before + length (group_start device)) chunks layout.before.own chunk entry layout.before.say (subst (λ n. IsChunkEntry device n chunk entry) place here);
+      sums = subst (λ (es : List IndexEntry). All (HasSums VERSION) es) (sym added) (All-push (HasSums VERSION) before entry layout.before.sums sums);
     }
 
 pub group_ended : (groups : List Group) (group : Group) (bytes : List ℕ) (entries : List IndexEntry) → AreChunks groups group.device group.chunks bytes entries → AreGroupsWritten (groups ++ group ∷ []) bytes entries
 group_ended groups group bytes entries layout =
-    let place : length layout.bytes_before ≡ length head + length (flat_map group_field groups) = ap length layout.before.bytes_are ∙ length-append head (flat_map group_field groups) in
+    let place : length layout.bytes_before ≡ head_length + length (flat_map group_field groups) = ap length layout.before.bytes_are ∙ length-append (head VERSION) (flat_map group_field groups) in
     record {
-      bytes_are = layout.bytes_are ∙ ap (λ (l : List ℕ). l ++ group_field group) layout.before.bytes_are ∙ append_assoc head (flat_map group_field groups) (group_field group)
-          ∙ ap (λ (l : List ℕ). head ++ l) (sym (flat_push group_field groups group));
+      bytes_are = layout.bytes_are ∙ ap (λ (l : List ℕ). l ++ group_field group) layout.before.bytes_are ∙ append_assoc (head VERSION) (flat_map group_field groups) (group_field group)
+          ∙ ap (λ (l : List ℕ). head VERSION ++ l) (sym (flat_push group_field groups group));
       by_group = layout.before.by_group ++ layout.own ∷ [];
       all = flat_push (λ (l : List IndexEntry). l) layout.before.by_group layout.own ∙ ap (λ (l : List IndexEntry). l ++ layout.own) layout.before.all ∙ sym layout.all;
-      say = groups_push (length head) groups layout.before.by_group group layout.own layout.before.say (subst (λ n. AreEntries group.device (n + length (group_head group)) group.chunks layout.own) place layout.say);
+      say = groups_push head_length groups layout.before.by_group group layout.own layout.before.say (subst (λ n. AreEntries group.device (n + length (group_head group)) group.chunks layout.own) place layout.say);
+      sums = layout.sums;
     }
 
 -- index and tail behind the groups of a tree make its file
-pub file_made : (tree : Tree) (bytes file index_bytes : List ℕ) (root : ℕ) (entries : List IndexEntry) → AreGroupsWritten tree.groups bytes entries → index.IsIndexSpelling (length bytes) root entries index_bytes
+file_of : (tree : Tree) (bytes file index_bytes : List ℕ) (root : ℕ) (entries : List IndexEntry) → AreGroupsWritten tree.groups bytes entries → index.IsIndexSpelling (length bytes) root entries index_bytes
     → file ≡ bytes ++ index_bytes ++ number64 root ++ magic → IsFile tree file
-file_made tree bytes file index_bytes root entries layout index_is is = record {
+file_of tree bytes file index_bytes root entries layout index_is is = record {
+  version = VERSION;
+  known = inr refl;
   entries = entries;
   root = root;
   index_bytes = index_bytes;
   say = record { by_group = layout.by_group; all = layout.all; say = layout.say };
+  sums = layout.sums;
   index_is = subst (λ (l : List ℕ). index.IsIndexSpelling (length l) root entries index_bytes) layout.bytes_are index_is;
   bytes_are = is ∙ ap (λ (l : List ℕ). l ++ index_bytes ++ number64 root ++ magic) layout.bytes_are;
 }
+
+pub file_made : (tree : Tree) (bytes file index_bytes : List ℕ) (root : ℕ) (entries : List IndexEntry) → AreGroupsWritten tree.groups bytes entries → index.IsIndexSpelling (length bytes) root entries index_bytes
+    → file ≡ bytes ++ index_bytes ++ number64 root ++ magic → IsFileIn VERSION tree file
+unfolding file_of
+file_made tree bytes file index_bytes root entries layout index_is is =
+    let made = file_of tree bytes file index_bytes root entries layout index_is is in
+    (made, version_is tree file made)

@@ -17,12 +17,13 @@ use Rattle.tsdb_path.specs.Nodes.{IsPath, device_of, measurement_of, node_count}
 use Rattle.tsdb_path.proofs.Parts.{IsName-measurement_of, IsPath-device_of}
 use Rattle.tsdb_index.specs.declared.index.IndexEntry.{IndexEntry}
 use Rattle.tsdb_path.specs.Order.{AreNamesBefore}
+use Rattle.tsdb_index.specs.declared.marks.TheConstants.{VERSION}
 use Rattle.tsdb_index.specs.Spelling.{IsIndexSpelling}
 use Rattle.tsdb_pages.specs.declared.tree.Page.{Page}
 use Rattle.tsdb_pages.specs.declared.tree.Chunk.{Chunk}
 use Rattle.tsdb_pages.specs.declared.tree.Group.{Group}
 use Rattle.tsdb_pages.specs.declared.tree.Tree.{Tree}
-use Rattle.tsdb_pages.specs.File.{IsFile, group_start, head, magic}
+use Rattle.tsdb_pages.specs.File.{IsFileIn, group_start, head, magic}
 use Rattle.tsdb_base.specs.Points.{IsRising}
 use Rattle.tsdb_pages.specs.Pages.{ArePoints, IsInRange}
 use Rattle.tsdb_pages.specs.Trees.{IsBefore, IsChunk, IsGroup, IsMade, chunks_of, page_points}
@@ -173,7 +174,7 @@ not_itself a less =
     let none : Less ≡ Equal = sym less ∙ tied in
     absurd cc
 
-pub first_begun : (bytes : List ℕ) (entries : List IndexEntry) (path : List ℕ) (data_type : DataType) (encoding : Encoding) → bytes ≡ head → entries ≡ [] → 2 ≤ node_count path → is_suitable data_type encoding ≡ true → IsPath path
+pub first_begun : (bytes : List ℕ) (entries : List IndexEntry) (path : List ℕ) (data_type : DataType) (encoding : Encoding) → bytes ≡ head VERSION → entries ≡ [] → 2 ≤ node_count path → is_suitable data_type encoding ≡ true → IsPath path
     → BuildState (given_series path data_type encoding ∷ []) bytes entries path data_type encoding None []
 first_begun bytes entries path data_type encoding is none nodes suits path_is = record {
   front = [];
@@ -275,7 +276,7 @@ names_before bytes entries path data_type encoding chunk points device measureme
 -- ---- the file
 
 pub file_whole : (given : List GivenSeries) (device measurement : List ℕ) (bytes file index_bytes : List ℕ) (root : ℕ) (entries : List IndexEntry) → AreClosed given device measurement bytes entries
-    → IsIndexSpelling (length bytes) root entries index_bytes → file ≡ bytes ++ index_bytes ++ number64 root ++ magic → (tree : Tree) × IsTreeOf given tree × IsFile tree file × IsMade tree
+    → IsIndexSpelling (length bytes) root entries index_bytes → file ≡ bytes ++ index_bytes ++ number64 root ++ magic → (tree : Tree) × IsTreeOf given tree × IsFileIn VERSION tree file × IsMade tree
 file_whole given device measurement bytes file index_bytes root entries closed index_is is =
     let all = all_groups given device measurement bytes entries closed in
     let groups = closed.groups ++ group_of device closed.chunks ∷ [] in

@@ -21,7 +21,7 @@ use Rattle.tsdb_pages.specs.Trees.{page_points}
 use Rattle.tsdb_pages.proofs.Order.{pairs_across, pairs_behind, pairs_push, rises}
 use Rattle.tsfile_writer.specs.declared.layout.OpenChunk.{OpenChunk}
 use Rattle.tsfile_writer.specs.BuilderInput.{IsMadeSeries, MayTake, GivenSeries, with_last_point}
-use Rattle.tsfile_writer.specs.Steps.{AreChunks, ArePages, IsChunkBegun, start_if}
+use Rattle.tsfile_writer.specs.Steps.{AreChunks, ArePages, HasOpenSums, IsChunkBegun, start_if}
 use Rattle.tsfile_writer.specs.Building.{BeginsGroup, BuildState, IsOpenOf, IsStarted, PutsIn, SameIfAny, StandInChunk}
 use Rattle.tsdb_pages.proofs.Entries.{count_pages, flat_push}
 use Rattle.tsfile_writer.proofs.Appending.{chunk_begun, page_added, same_pages}
@@ -42,11 +42,11 @@ put_stands groups chunks pages page path data_type encoding points old new entri
 put_stands groups chunks pages page path data_type encoding points old new entries None (Some c) same stand puts = (
   some_pages pages page,
   subst (λ (ps : List Page). ArePages groups (device_of path) chunks (measurement_of path) data_type encoding (ps ++ page ∷ []) new entries c) (sym stand.0)
-      (chunk_begun groups (device_of path) chunks (measurement_of path) data_type encoding page points (old ++ start_if puts.begins (device_of path)) new entries c (stand.1 puts.begins puts.test) same puts.bytes_are puts.is),
+      (chunk_begun groups (device_of path) chunks (measurement_of path) data_type encoding page points (old ++ start_if puts.begins (device_of path)) new entries c (stand.1 puts.begins puts.test) same puts.bytes_are puts.is puts.sums),
 )
 put_stands groups chunks pages page path data_type encoding points old new entries (Some b) (Some c) same stand puts = (
   some_pages pages page,
-  page_added groups (device_of path) chunks (measurement_of path) data_type encoding pages page points old new entries b c stand.1 same puts.bytes_are puts.is,
+  page_added groups (device_of path) chunks (measurement_of path) data_type encoding pages page points old new entries b c stand.1 same puts.bytes_are puts.is puts.sums,
 )
 
 pub put_few : (groups : List Group) (chunks : List Chunk) (pages : List Page) (page : Page) (path : List ℕ) (data_type : DataType) (encoding : Encoding) (points : List Point) (old new : List ℕ) (entries : List IndexEntry) (before after : Option OpenChunk)
@@ -58,7 +58,7 @@ put_few groups chunks pages page path data_type encoding points old new entries 
     let one : length (pages ++ page ∷ []) ≡ 1 = ap (λ (ps : List Page). length (ps ++ page ∷ [])) stand.0 in
     omega (arith, one)
 put_few groups chunks pages page path data_type encoding points old new entries (Some b) (Some c) same stand puts =
-    let layout = page_added groups (device_of path) chunks (measurement_of path) data_type encoding pages page points old new entries b c stand.1 same puts.bytes_are puts.is in
+    let layout = page_added groups (device_of path) chunks (measurement_of path) data_type encoding pages page points old new entries b c stand.1 same puts.bytes_are puts.is puts.sums in
     let n = count_pages encoding (length layout.bytes_before + length (chunk_start (measurement_of path) data_type encoding)) (pages ++ page ∷ []) c.pages.items layout.is.say in
     subst (λ k. k ≤ max_pages) n puts.is.few
 
@@ -117,9 +117,9 @@ some_wait front last bytes entries path data_type encoding chunk (p ∷ ps) stat
 pub started : {E : Type 0} (result : Result OpenChunk E) (path : List ℕ) (data_type : DataType) (encoding : Encoding) (points : List Point) (entries : List IndexEntry) (old middle new : List ℕ) (begins : Bool) (device measurement : List ℕ) (seen : List Point)
     → device ≡ device_of path → measurement ≡ measurement_of path → seen ≡ points → BeginsGroup entries device begins → middle ≡ old ++ start_if begins device
     → OnOk result (new ≡ middle ++ (chunk_start measurement data_type encoding ++ page_bytes encoding seen)) → IfOk result (IsChunkBegun (length middle) (length (chunk_start measurement data_type encoding)) seen)
-    → IfOk result (IsStarted path data_type encoding points entries old new)
-started (Err e) path data_type encoding points entries old middle new begins device measurement seen same_device same_measurement same_points test first bytes is = is
-started (Ok chunk) path data_type encoding points entries old middle new begins device measurement seen same_device same_measurement same_points test first bytes is =
+    → IfOk result (HasOpenSums data_type) → IfOk result (IsStarted path data_type encoding points entries old new)
+started (Err e) path data_type encoding points entries old middle new begins device measurement seen same_device same_measurement same_points test first bytes is sums = is
+started (Ok chunk) path data_type encoding points entries old middle new begins device measurement seen same_device same_measurement same_points test first bytes is sums =
     let place : middle ≡ old ++ start_if begins (device_of path) = first ∙ ap (λ (d : List ℕ). old ++ start_if begins d) same_device in
     record {
       begins = begins;
@@ -130,6 +130,7 @@ started (Ok chunk) path data_type encoding points entries old middle new begins 
       is = subst (λ (l : List ℕ). IsChunkBegun (length l) (length (chunk_start (measurement_of path) data_type encoding)) points chunk) place
           (subst (λ (m : List ℕ). IsChunkBegun (length middle) (length (chunk_start m data_type encoding)) points chunk) same_measurement
           (subst (λ (ps : List Point). IsChunkBegun (length middle) (length (chunk_start measurement data_type encoding)) ps chunk) same_points is));
+      sums = sums;
     }
 
 -- whether the last entry is of another device

@@ -19,7 +19,7 @@ use Rattle.tsfile_writer.specs.declared.builder.Builder.{Builder}
 use Rattle.tsfile_writer.specs.declared.builder.OpenSeries.{OpenSeries}
 use Rattle.tsfile_writer.specs.declared.layout.OpenChunk.{OpenChunk}
 use Rattle.tsfile_writer.specs.BuilderInput.{AreChunksOf, IsMadeSeries, GivenSeries, placed}
-use Rattle.tsfile_writer.specs.Steps.{AreChunks, ArePages, IsChunkBegun, IsLonger, SameChunk}
+use Rattle.tsfile_writer.specs.Steps.{AreChunks, ArePages, HasOpenSums, IsChunkBegun, IsLonger, SameChunk}
 use Rattle.tsfile_writer.specs.Steps.{start_if}
 
 -- a chunk of this device begins a group behind these entries, or it does not
@@ -130,12 +130,14 @@ pub record IsStarted (path : List ℕ) (data_type : DataType) (encoding : Encodi
       ++ (chunk_start (measurement_of path) data_type encoding ++ page_bytes encoding points)
   pub is : IsChunkBegun (length (old ++ start_if begins (device_of path)))
       (length (chunk_start (measurement_of path) data_type encoding)) points chunk
+  pub sums : HasOpenSums data_type chunk
 
 -- one page more stands in the chunk
-pub record IsPagePut (encoding : Encoding) (points : List Point) (old new : List ℕ)
+pub record IsPagePut (data_type : DataType) (encoding : Encoding) (points : List Point) (old new : List ℕ)
     (before after : OpenChunk) : Type 0 where
   pub bytes_are : new ≡ old ++ page_bytes encoding points
   pub is : IsLonger (length old) points before after
+  pub sums : HasOpenSums data_type before → HasOpenSums data_type after
 
 -- the points of the series at this path stand as a page in this chunk
 abbrev pub PutsIn : List ℕ → DataType → Encoding → List Point → List IndexEntry → List ℕ → List ℕ → Option OpenChunk
@@ -144,7 +146,7 @@ PutsIn path data_type encoding points entries old new before None = ⊥
 PutsIn path data_type encoding points entries old new None (Some after) =
     IsStarted path data_type encoding points entries old new after
 PutsIn path data_type encoding points entries old new (Some before) (Some after) =
-    IsPagePut encoding points old new before after
+    IsPagePut data_type encoding points old new before after
 
 -- the chunk is as it was
 abbrev pub SameIfAny : Option OpenChunk → Option OpenChunk → Type 0

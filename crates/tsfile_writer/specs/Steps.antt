@@ -1,17 +1,17 @@
 -- How a file is put together part by part. No public clause speaks of these.
-use Rattle.std.specs.Prelude.{◌≡◌, ℕ, ◌+◌, ◌≤◌, List, [], ◌∷◌, ◌++◌, Bool, true, false, length}
+use Rattle.std.specs.Prelude.{◌≡◌, ℕ, ◌+◌, ◌≤◌, List, [], ◌∷◌, ◌++◌, Bool, true, false, length, All}
 use Rattle.std.specs.List.{flat_map}
 use Rattle.tsdb_base.specs.declared.point.Point.{Point}
-use Rattle.tsdb_base.specs.declared.point.Stats.{Stats}
 use Rattle.tsdb_base.specs.declared.value.DataType.{DataType}
 use Rattle.tsdb_base.specs.declared.value.Encoding.{Encoding}
 use Rattle.tsdb_index.specs.declared.index.IndexEntry.{IndexEntry}
 use Rattle.tsdb_index.specs.declared.index.PageEntry.{PageEntry}
+use Rattle.tsdb_index.specs.declared.marks.TheConstants.{VERSION}
 use Rattle.tsdb_pages.specs.declared.tree.Page.{Page}
 use Rattle.tsdb_pages.specs.declared.tree.Chunk.{Chunk}
 use Rattle.tsdb_pages.specs.declared.tree.Group.{Group}
-use Rattle.tsdb_pages.specs.File.{AreEntries, AreEntriesOf, ArePageEntries, chunk_field, chunk_start, group_field}
-use Rattle.tsdb_pages.specs.File.{group_start, head, page_field}
+use Rattle.tsdb_pages.specs.File.{AreEntries, AreEntriesOf, ArePageEntries, HasSum, HasSums, chunk_field, chunk_start}
+use Rattle.tsdb_pages.specs.File.{group_field, group_start, head, head_length, page_field}
 use Rattle.tsdb_base.specs.Limits.{max_pages}
 use Rattle.tsdb_pages.specs.Trees.{page_points}
 use Rattle.tsdb_stats.specs.Statistics.{AreStatsOf}
@@ -21,11 +21,6 @@ use Rattle.tsfile_writer.specs.declared.layout.OpenChunk.{OpenChunk}
 abbrev pub start_if : Bool → List ℕ → List ℕ
 start_if true device = group_start device
 start_if false device = []
-
--- the statistics of points that stand behind others
-abbrev pub AreStatsOfBoth : Stats → Stats → Stats → Type 0
-AreStatsOfBoth left right all = (before behind : List Point) → AreStatsOf before left → AreStatsOf behind right
-    → AreStatsOf (before ++ behind) all
 
 -- an entry for a page of these points at this place
 pub record IsPageEntryFor (place : ℕ) (points : List Point) (entry : PageEntry) : Type 0 where
@@ -49,6 +44,11 @@ pub record IsLonger (place : ℕ) (points : List Point) (old new : OpenChunk) : 
   pub pages_are : new.pages.items ≡ old.pages.items ++ entry ∷ []
   pub few : length new.pages.items ≤ max_pages
 
+-- all statistics of the chunk have a sum where its values are numbers
+pub record HasOpenSums (data_type : DataType) (chunk : OpenChunk) : Type 0 where
+  pub stats : HasSum VERSION data_type chunk.stats
+  pub pages : All (λ page. HasSum VERSION data_type page.stats) chunk.pages.items
+
 -- the same is said of the chunk
 pub record SameChunk (old new : OpenChunk) : Type 0 where
   pub place_is : new.place ≡ old.place
@@ -57,10 +57,11 @@ pub record SameChunk (old new : OpenChunk) : Type 0 where
 
 -- head and groups stand, and these are their entries
 pub record AreGroupsWritten (groups : List Group) (bytes : List ℕ) (entries : List IndexEntry) : Type 0 where
-  pub bytes_are : bytes ≡ head ++ flat_map group_field groups
+  pub bytes_are : bytes ≡ head VERSION ++ flat_map group_field groups
   pub by_group : List (List IndexEntry)
   pub all : flat_map (λ list. list) by_group ≡ entries
-  pub say : AreEntriesOf (length head) groups by_group
+  pub say : AreEntriesOf head_length groups by_group
+  pub sums : All (HasSums VERSION) entries
 
 -- behind the groups stands one of this device with these chunks
 pub record AreChunks (groups : List Group) (device : List ℕ) (chunks : List Chunk) (bytes : List ℕ)
@@ -72,6 +73,7 @@ pub record AreChunks (groups : List Group) (device : List ℕ) (chunks : List Ch
   pub own : List IndexEntry
   pub all : entries ≡ entries_before ++ own
   pub say : AreEntries device (length bytes_before + length (group_start device)) chunks own
+  pub sums : All (HasSums VERSION) entries
 
 -- what is said of a chunk at this place, whose pages begin at the other
 pub record IsChunkOpen (encoding : Encoding) (place first : ℕ) (pages : List Page) (chunk : OpenChunk) : Type 0 where
@@ -89,3 +91,4 @@ pub record ArePages (groups : List Group) (device : List ℕ) (chunks : List Chu
       ++ flat_map (page_field encoding) pages)
   pub is : IsChunkOpen encoding (length bytes_before)
       (length bytes_before + length (chunk_start measurement data_type encoding)) pages chunk
+  pub sums : HasOpenSums data_type chunk

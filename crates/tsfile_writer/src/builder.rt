@@ -9,7 +9,8 @@ ghost use Rattle.std.specs.Prelude.{◌≡◌, ◌<◌, ◌≤◌, ◌⊎◌, Li
 ghost use Rattle.std.specs.Prelude.{OnErr};
 ghost use Rattle.tsdb_base.specs.Values.{is_suitable};
 ghost use Rattle.tsdb_pages.specs.declared.tree.Tree.{Tree};
-ghost use Rattle.tsdb_pages.specs.File.{IsFile};
+ghost use Rattle.tsdb_index.specs.declared.marks.TheConstants.{VERSION};
+ghost use Rattle.tsdb_pages.specs.File.{IsFile, version_in};
 ghost use Rattle.tsdb_pages.specs.Pages.{ArePoints};
 ghost use Rattle.tsdb_pages.specs.Trees.{IsMade};
 ghost use Rattle.tsdb_path.specs.Nodes.{IsPath, device_of as device_in, measurement_of as measurement_in, node_count};
@@ -281,12 +282,14 @@ impl Builder {
         Ok(())
     }
 
-    /// The bytes of the file, where the last series has a point. Its tree is one that a reader reads back.
+    /// The bytes of the file, where the last series has a point. Its tree is one that a reader reads back. Its version
+    /// is the one whose statistics have sums.
     pub fn finish(mut self) -> Result<Vec<u8>, BuildFault>
         requires { (front : List GivenSeries) × (last : GivenSeries)
             × WasGiven self (front ++ last ∷ []) × (0 < length last.points) }
-        ensures { IfOk result (λ bytes. (given : List GivenSeries) → WasGiven self given →
+        ensures file { IfOk result (λ bytes. (given : List GivenSeries) → WasGiven self given →
             (tree : Tree) × IsTreeOf given tree × IsFile tree bytes.items × IsMade tree) }
+        ensures version { IfOk result (λ bytes. version_in bytes.items ≡ VERSION) }
     {
         let Some(last) = &mut self.series else {
             unreachable!()

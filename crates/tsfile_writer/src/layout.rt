@@ -7,7 +7,7 @@ ghost use Rattle.tsdb_base.specs.Values.{is_suitable};
 ghost use Rattle.tsdb_index.specs.Spelling.{IsIndexSpelling};
 ghost use Rattle.tsdb_pages.specs.File.{chunk_start, group_start, magic, page_bytes};
 ghost use Rattle.tsdb_pages.specs.Pages.{ArePoints};
-ghost use Rattle.tsfile_writer.specs.Steps.{AreStatsOfBoth, IsChunkBegun, IsLonger, SameChunk};
+ghost use Rattle.tsfile_writer.specs.Steps.{HasOpenSums, IsChunkBegun, IsLonger, SameChunk};
 
 use std::alloc::Global;
 use tsdb_base::limits::MAX_PAGES;
@@ -18,7 +18,7 @@ use tsdb_index::marks::{CHUNK, GROUP, MAGIC, PAGE};
 use tsdb_index::{Index, IndexEntry, PageEntry, write_leaves_and_root};
 use tsdb_pages::write_page;
 use tsdb_path::{Name, Path};
-use tsdb_stats::{join, stats_of};
+use tsdb_stats::{join_whole, stats_of};
 
 /// What the index says so far of a chunk that may get more pages.
 #[derive(Drop)]
@@ -96,16 +96,6 @@ fn put_page(
     all_or_none(appended, start, into)
 }
 
-/// The statistics of the points of the first and of those behind them. A count of 2^64 points is a shortage of memory.
-fn join_stats(before: &Stats, behind: &Stats) -> Result<Stats, Memory>
-    ensures { IfOk result (AreStatsOfBoth before.now behind.now) }
-{
-    if before.count.checked_add(behind.count).is_none() {
-        return Err(Memory);
-    }
-    join(before, behind)
-}
-
 /// Appends a chunk with its first page. After `Memory` some of its bytes may stand there.
 pub(crate) fn append_chunk(
     alloc: Global,
@@ -121,6 +111,7 @@ pub(crate) fn append_chunk(
         into.old.items ++ (chunk_start measurement.now data_type encoding ++ page_bytes encoding points.now)) }
     ensures chunk { IfOk result (IsChunkBegun (length into.old.items)
         (length (chunk_start measurement.now data_type encoding)) points.now) }
+    ensures sums { IfOk result (HasOpenSums data_type) }
     ensures kept { take (vec_len into.old) into.new.items ≡ into.old.items }
 {
     let place = into.len() as u64;
@@ -153,6 +144,7 @@ impl OpenChunk {
         requires points { ArePoints data_type points.now }
         ensures bytes { OnOk result (into.new.items ≡ into.old.items ++ page_bytes encoding points.now) }
         ensures chunk { OnOk result (IsLonger (length into.old.items) points.now self.old self.new) }
+        ensures sums { OnOk result (HasOpenSums data_type self.old → HasOpenSums data_type self.new) }
         ensures memory { OnErr result (into.new.items ≡ into.old.items) }
         ensures same_chunk { OnErr result (SameChunk self.old self.new) }
     {
@@ -162,7 +154,7 @@ impl OpenChunk {
         let place = into.len() as u64;
         self.pages.reserve(1)?;
         let stats = stats_of(points)?;
-        let all = join_stats(&self.stats, &stats)?;
+        let all = join_whole(&self.stats, &stats)?;
         put_page(alloc, points, data_type, encoding, into)?;
         let Ok(()) = self.pages.push(PageEntry { place, stats }) else {
             unreachable!()

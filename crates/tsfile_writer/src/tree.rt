@@ -2,7 +2,8 @@
 ghost use Rattle.std.specs.Prelude.{◌≡◌, List, [], ◌∷◌, ◌++◌, true, IfOk, OnOk};
 ghost use Rattle.tsdb_pages.specs.declared.tree.Chunk.{Chunk as ChunkOf};
 ghost use Rattle.tsdb_pages.specs.declared.tree.Group.{Group as GroupOf};
-ghost use Rattle.tsdb_pages.specs.File.{IsFile};
+ghost use Rattle.tsdb_index.specs.declared.marks.TheConstants.{VERSION};
+ghost use Rattle.tsdb_pages.specs.File.{IsFileIn};
 ghost use Rattle.tsdb_pages.specs.Trees.{IsChunk, IsGroup, IsTree};
 ghost use Rattle.tsfile_writer.specs.Steps.{AreChunks, AreGroupsWritten};
 
@@ -68,10 +69,10 @@ fn write_group(
     Ok(())
 }
 
-/// The bytes of the file of a tree.
+/// The bytes of the file of a tree, in the version whose statistics have sums.
 pub fn write_tree(alloc: Global, tree: &Tree) -> Result<Vec<u8>, Memory>
     requires { IsTree tree.now }
-    ensures file { IfOk result (λ bytes. IsFile tree.now bytes.items) }
+    ensures file { IfOk result (λ bytes. IsFileIn VERSION tree.now bytes.items) }
 {
     let mut entries = Vec::new(alloc);
     let mut bytes = Vec::from_slice(alloc, &HEAD)?;

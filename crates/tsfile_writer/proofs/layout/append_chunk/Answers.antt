@@ -1,8 +1,11 @@
 use Rattle.std.proofs.lemmas.Grind.{common_steps}
 use Rattle.std.proofs.Common.{◌≡◌, ◌+◌, ap, ◌∙◌, length, rules, subst, sym, arith}
 use Rattle.std.proofs.lemmas.List.{length-append}
-use Rattle.tsdb_pages.specs.File.{chunk_start}
+use Rattle.tsdb_pages.specs.File.{HasSum, chunk_start}
 use Rattle.tsdb_stats.specs.Statistics.{AreStatsOf}
+use Rattle.tsdb_index.specs.declared.marks.TheConstants.{VERSION}
+use Rattle.tsdb_pages.proofs.Statistics.{has_sum}
+use Rattle.tsfile_writer.proofs.Appending.{sums_begun}
 use Rattle.tsfile_writer.proofs.layout.append_chunk.Goals as goal
 
 pub returns-clause-chunk : goal.returns-clause-chunk
@@ -17,6 +20,13 @@ returns-clause-chunk c =
       pages_are = search rules;
     }
 
+pub returns-clause-sums : goal.returns-clause-sums
+returns-clause-sums c =
+    let t = c.args.data_type in
+    let points = c.args.points.now in
+    let own : HasSum VERSION c.args.data_type c.in_ok-stats.stats = has_sum t points c.in_ok-stats.stats c.requires.points c.in_ok-stats.ensures.sum in
+    sums_begun t _ (record { place = c.len.result; stats = c.in_ok-copy.field-0 }) own (subst (HasSum VERSION t) (sym c.in_ok-copy.ensures) own) (search rules)
+
 pub stats_of-requires : goal.stats_of-requires
 stats_of-requires c = search rules
 
@@ -25,6 +35,9 @@ returns-in_err-stats-clause-bytes c = search rules
 
 pub returns-in_err-stats-clause-chunk : goal.returns-in_err-stats-clause-chunk
 returns-in_err-stats-clause-chunk c = search rules
+
+pub returns-in_err-stats-clause-sums : goal.returns-in_err-stats-clause-sums
+returns-in_err-stats-clause-sums c = search rules
 
 pub returns-in_err-stats-clause-kept : goal.returns-in_err-stats-clause-kept
 returns-in_err-stats-clause-kept c = grind (arith, common_steps)
@@ -35,6 +48,9 @@ returns-in_err-append_chunk_start-clause-bytes c = search rules
 pub returns-in_err-append_chunk_start-clause-chunk : goal.returns-in_err-append_chunk_start-clause-chunk
 returns-in_err-append_chunk_start-clause-chunk c = search rules
 
+pub returns-in_err-append_chunk_start-clause-sums : goal.returns-in_err-append_chunk_start-clause-sums
+returns-in_err-append_chunk_start-clause-sums c = search rules
+
 pub returns-in_err-append_chunk_start-clause-kept : goal.returns-in_err-append_chunk_start-clause-kept
 returns-in_err-append_chunk_start-clause-kept c = search rules
 
@@ -43,6 +59,9 @@ returns-in_err-copy-clause-bytes c = search rules
 
 pub returns-in_err-copy-clause-chunk : goal.returns-in_err-copy-clause-chunk
 returns-in_err-copy-clause-chunk c = search rules
+
+pub returns-in_err-copy-clause-sums : goal.returns-in_err-copy-clause-sums
+returns-in_err-copy-clause-sums c = search rules
 
 pub returns-in_err-copy-clause-kept : goal.returns-in_err-copy-clause-kept
 returns-in_err-copy-clause-kept c = search rules
@@ -64,6 +83,9 @@ returns-in_err-pages-clause-bytes c = search rules
 
 pub returns-in_err-pages-clause-chunk : goal.returns-in_err-pages-clause-chunk
 returns-in_err-pages-clause-chunk c = search rules
+
+pub returns-in_err-pages-clause-sums : goal.returns-in_err-pages-clause-sums
+returns-in_err-pages-clause-sums c = search rules
 
 pub returns-in_err-pages-clause-kept : goal.returns-in_err-pages-clause-kept
 returns-in_err-pages-clause-kept c = grind (arith, common_steps)

@@ -14,7 +14,7 @@ loop-page-init c = λ groups chunks layout.
     subst (λ (pages : List Page). ArePages groups c.args.device.now chunks chunk.measurement chunk.data_type chunk.encoding pages c.append_chunk.new.into.items c.args.entries.now.items c.in_ok-open.open)
     (first_taken chunk.pages page c.requires.some first)
     (chunk_begun groups c.args.device.now chunks chunk.measurement chunk.data_type chunk.encoding page c.items.result.now c.args.into.now.items c.append_chunk.new.into.items c.args.entries.now.items c.in_ok-open.open
-    layout points c.in_ok-open.ensures.bytes c.in_ok-open.ensures.chunk)
+    layout points c.in_ok-open.ensures.bytes c.in_ok-open.ensures.chunk c.in_ok-open.ensures.sums)
 
 pub loop-page-preserved : goal.loop-page-preserved
 loop-page-preserved c = λ groups chunks layout.
@@ -22,7 +22,7 @@ loop-page-preserved c = λ groups chunks layout.
     subst (λ (pages : List Page). ArePages groups c.args.device.now chunks chunk.measurement chunk.data_type chunk.encoding pages c.put_page.new.into.items c.args.entries.now.items c.put_page.new.self)
     (more_taken (take 1 chunk.pages) _ _ c.loop-page.page-index c.page-item.result refl c.loop-page-test.true c.page-item.is)
     (page_added groups c.args.device.now chunks chunk.measurement chunk.data_type chunk.encoding _ c.page-item.result c.items-in-loop-page.result.now c.loop-page.into.items c.put_page.new.into.items c.args.entries.now.items c.loop-page.open c.put_page.new.self
-    (c.loop-page.invariant groups chunks layout) (sym c.items-in-loop-page.ensures) c.in_ok-put_page.ensures.bytes c.in_ok-put_page.ensures.chunk)
+    (c.loop-page.invariant groups chunks layout) (sym c.items-in-loop-page.ensures) c.in_ok-put_page.ensures.bytes c.in_ok-put_page.ensures.chunk c.in_ok-put_page.ensures.sums)
 
 pub returns : goal.returns
 returns c = record {

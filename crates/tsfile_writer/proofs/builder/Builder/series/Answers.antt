@@ -3,6 +3,7 @@ use Rattle.std.proofs.Common.{◌≡◌, ℕ, List, [], ◌∷◌, ◌++◌, Non
 use Rattle.std.specs.Prelude.{Option}
 use Rattle.tsdb_path.specs.Nodes.{device_of, measurement_of}
 use Rattle.tsdb_pages.specs.File.{head}
+use Rattle.tsdb_index.specs.declared.marks.TheConstants.{VERSION}
 use Rattle.tsfile_writer.specs.declared.builder.OpenSeries.{OpenSeries}
 use Rattle.tsfile_writer.specs.Building.{IsGiven}
 use Rattle.tsfile_writer.specs.BuilderInput.{MayBeFollowedBy, GivenSeries, given_series}
@@ -29,7 +30,7 @@ returns-clause-ok c = λ given was.
           rw (w.self-is, made.chunk) (state_at new_given w.close.new.into.items w.close.new.entries.items path next.path c.args.data_type next.data_type c.args.encoding next.encoding None [] next.points.items begun made.path made.data_type made.encoding made.points)
       | in-None+in_ok-extend_from_slice-in-None w ↦
           let empty = subst (IsGiven given bytes entries) w.in-None.is was in
-          let there : w.extend_from_slice.new.self.items ≡ head = w.in_ok-extend_from_slice-in-None.ensures.items ∙ ap (λ (l : List ℕ). l ++ head) empty.no_bytes in
+          let there : w.extend_from_slice.new.self.items ≡ head VERSION = w.in_ok-extend_from_slice-in-None.ensures.items ∙ ap (λ (l : List ℕ). l ++ head VERSION) empty.no_bytes in
           let begun = first_begun w.extend_from_slice.new.self.items entries path c.args.data_type c.args.encoding there empty.no_entries c.requires.nodes c.requires.suits made.good in
           rw (w.self-is, made.chunk, empty.none) (state_at (given_series path c.args.data_type c.args.encoding ∷ []) w.extend_from_slice.new.self.items entries path next.path c.args.data_type next.data_type c.args.encoding next.encoding None [] next.points.items begun made.path made.data_type made.encoding made.points)
     ]

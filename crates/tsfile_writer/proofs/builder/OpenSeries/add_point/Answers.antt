@@ -3,7 +3,8 @@ use Rattle.tsdb_base.specs.declared.point.Point.{Point}
 use Rattle.tsdb_base.specs.Limits.{max_values}
 use Rattle.tsdb_pages.specs.Pages.{IsInRange}
 use Rattle.tsfile_writer.specs.BuilderInput.{with_last_point}
-use Rattle.tsfile_writer.proofs.Waiting.{are_points, state_at, page_turned, point_suits, point_waits}
+use Rattle.tsfile_writer.proofs.Appending.{always_on_err}
+use Rattle.tsfile_writer.proofs.Waiting.{are_points, state_as, state_at, page_turned, point_suits, point_waits}
 use Rattle.tsfile_writer.proofs.builder.OpenSeries.add_point.Goals as goal
 use Rattle.tsfile_writer.proofs.builder.OpenSeries.add_point.Goals.{then-len-eq-MAX_POINTS+in_ok-put_page, else-len-eq-MAX_POINTS}
 
@@ -12,6 +13,14 @@ put_page-requires-clause-points c =
     let self = c.args.self.now in
     let state = c.requires.2 in
     are_points state.last state.pages self.path self.data_type self.encoding self.points.items state.is (grind arith)
+
+pub returns-in_err-put_page-clause-memory : goal.returns-in_err-put_page-clause-memory
+returns-in_err-put_page-clause-memory c = always_on_err c.from_residual.result (λ given state.
+    let self = c.args.self.now in
+    let after = c.put_page.new.self in
+    let put = c.in_err-put_page.ensures in
+    state_as given c.args.into.now.items c.put_page.new.into.items c.args.entries.now self.path after.path self.data_type after.data_type self.encoding after.encoding self.chunk after.chunk self.points.items after.points.items
+    state put.memory put.same.path_is put.same.type_is put.same.encoding_is put.same.points_are put.same_chunk)
 
 pub returns-clause-ok : goal.returns-clause-ok
 returns-clause-ok c = λ front last state.

@@ -19,7 +19,7 @@ returns-clause-ok c =
     ]
     in
     started c.append_chunk.result self.path self.data_type self.encoding self.points.items c.args.entries.now c.args.into.now.items c.if-begins_group.into.items c.append_chunk.new.into.items c.begins_group.result
-    c.in_ok-device.device c.in_ok-measurement.measurement c.deref.result.now c.in_ok-device.ensures.value c.in_ok-measurement.ensures.value c.deref.ensures.value c.begins_group.ensures first c.append_chunk.ensures.bytes c.append_chunk.ensures.chunk
+    c.in_ok-device.device c.in_ok-measurement.measurement c.deref.result.now c.in_ok-device.ensures.value c.in_ok-measurement.ensures.value c.deref.ensures.value c.begins_group.ensures first c.append_chunk.ensures.bytes c.append_chunk.ensures.chunk c.append_chunk.ensures.sums
 
 pub returns-in_err-device-clause-kept : goal.returns-in_err-device-clause-kept
 returns-in_err-device-clause-kept c = grind (arith, common_steps)
