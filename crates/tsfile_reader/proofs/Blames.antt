@@ -14,7 +14,7 @@ use Rattle.tsdb_index.proofs.OneSpelling.{one_index}
 use Rattle.tsdb_pages.specs.declared.tree.Chunk.{Chunk}
 use Rattle.tsdb_pages.specs.declared.tree.Group.{Group}
 use Rattle.tsdb_pages.specs.declared.tree.Tree.{Tree}
-use Rattle.tsdb_pages.specs.File.{AreEntriesIn, IsFile, data_field, group_field, head, magic}
+use Rattle.tsdb_pages.specs.File.{AreEntriesIn, HasSums, IsFile, data_field, group_field, head, head_length, magic, version_in}
 use Rattle.tsdb_pages.specs.Trees.{HasParts, IsChunk, IsGroup, IsMade, IsTree, chunks_of}
 use Rattle.tsdb_pages.proofs.Files.{EndsGroups, IsWholeChunk, IsWholeGroup, file_apart, groups_marked}
 use Rattle.tsdb_pages.proofs.Marks.{marked_same}
@@ -30,12 +30,12 @@ use Rattle.tsfile_reader.proofs.Rows.{IsFullGroup, after_groups, good_groups, gr
 
 -- ---- one bad part of the outline
 
-one_bad_leaf : (root : ℕ) (ps : List Pointer) (bytes : List ℕ) (x y : ℕ) → IsFirstBadLeaf root ps bytes x → IsFirstBadLeaf root ps bytes y → x ≡ y
-one_bad_leaf root [] bytes x y a b = absurd a
-one_bad_leaf root (p ∷ ps) bytes x y (inl a) (inl b) = a.0 ∙ sym b.0
-one_bad_leaf root (p ∷ ps) bytes x y (inl a) (inr b) = absurd (a.1 b.0.0 b.0.1)
-one_bad_leaf root (p ∷ ps) bytes x y (inr a) (inl b) = absurd (b.1 a.0.0 a.0.1)
-one_bad_leaf root (p ∷ ps) bytes x y (inr a) (inr b) = one_bad_leaf root ps (drop (leaf_end root ps - p.place) bytes) x y a.1 b.1
+one_bad_leaf : (version root : ℕ) (ps : List Pointer) (bytes : List ℕ) (x y : ℕ) → IsFirstBadLeaf version root ps bytes x → IsFirstBadLeaf version root ps bytes y → x ≡ y
+one_bad_leaf version root [] bytes x y a b = absurd a
+one_bad_leaf version root (p ∷ ps) bytes x y (inl a) (inl b) = a.0 ∙ sym b.0
+one_bad_leaf version root (p ∷ ps) bytes x y (inl a) (inr b) = absurd (a.1 b.0.0 b.0.1)
+one_bad_leaf version root (p ∷ ps) bytes x y (inr a) (inl b) = absurd (b.1 a.0.0 a.0.1)
+one_bad_leaf version root (p ∷ ps) bytes x y (inr a) (inr b) = one_bad_leaf version root ps (drop (leaf_end root ps - p.place) bytes) x y a.1 b.1
 
 one_bad_front : (b : List ℕ) (x y : ℕ) → length b < 2 ^ 64 → IsBadFront b x → IsBadFront b y → x ≡ y
 one_bad_front b x y room (short less) (short other) = refl
@@ -66,9 +66,9 @@ one_bad_outline b x y room (no_leaf long r tail starts p ps there at bad) (in_fr
 one_bad_outline b x y room (no_leaf long r tail starts p ps there at bad) (no_leaf other s end begins q qs here by other_bad) =
     let same = tail_same b r s room tail end in
     let one = root_same b s p q ps qs (subst (λ (n : ℕ). HasRoot b n p ps) same there) here in
-    let moved = subst (λ (n : ℕ). IsFirstBadLeaf n ps (between p n b) at) same bad in
-    let bad_here = subst (λ (n : ℕ). IsFirstBadLeaf s qs (between n s b) at) one.1 (subst (λ (l : List Pointer). IsFirstBadLeaf s l (between p s b) at) one.0 moved) in
-    one_bad_leaf s qs (between q s b) at by bad_here other_bad
+    let moved = subst (λ (n : ℕ). IsFirstBadLeaf (version_in b) n ps (between p n b) at) same bad in
+    let bad_here = subst (λ (n : ℕ). IsFirstBadLeaf (version_in b) s qs (between n s b) at) one.1 (subst (λ (l : List Pointer). IsFirstBadLeaf (version_in b) s l (between p s b) at) one.0 moved) in
+    one_bad_leaf (version_in b) s qs (between q s b) at by bad_here other_bad
 
 -- ---- one outline
 
@@ -88,7 +88,7 @@ one_outline b r s p q ps qs es fs room x y =
       root = same;
       place = one.1;
       pointers = one.0;
-      entries = one_index q s (between q (tail_place b) b) es fs index.index.good y.index.index.good index.spelling y.index.spelling;
+      entries = one_index (version_in b) q s (between q (tail_place b) b) es fs index.index.good y.index.index.good index.spelling y.index.spelling;
     }
 
 -- ---- groups
@@ -130,9 +130,9 @@ no_bad_part bytes groups from at good is bad =
     none_bad bytes from at (after_groups groups []) (good_groups groups full good.rising) (groups_end groups good.some full) (is ∙ sym (groups_text groups [])) bad
 
 -- what an index says of the same groups is the same
-said_same : (bytes : List ℕ) (s t : Tree) (xs ys : List IndexEntry) → AreGroups s.groups → AreGroups t.groups → bytes ≡ flat_map group_field s.groups → bytes ≡ flat_map group_field t.groups
-    → AreEntriesIn s xs → AreEntriesIn t ys → xs ≡ ys
-said_same bytes s t xs ys good_s good_t is_s is_t in_s in_t =
+said_same : (version : ℕ) (bytes : List ℕ) (s t : Tree) (xs ys : List IndexEntry) → AreGroups s.groups → AreGroups t.groups → bytes ≡ flat_map group_field s.groups → bytes ≡ flat_map group_field t.groups
+    → AreEntriesIn s xs → AreEntriesIn t ys → All (HasSums version) xs → All (HasSums version) ys → xs ≡ ys
+said_same version bytes s t xs ys good_s good_t is_s is_t in_s in_t has_s has_t =
     let whole_s = whole_groups s.groups (full_groups s.groups good_s) in
     let whole_t = whole_groups t.groups (full_groups t.groups good_t) in
     let end : EndsGroups (73 ∷ []) = ([], refl) in
@@ -140,7 +140,7 @@ said_same bytes s t xs ys good_s good_t is_s is_t in_s in_t =
     let made : List Group → Tree = λ groups. record { groups = groups } in
     let same = (marked_same group_field IsWholeGroup 71 EndsGroups groups_marked s.groups t.groups (73 ∷ []) (73 ∷ []) whole_s whole_t end end both).0 in
     let moved : AreEntriesIn t xs = subst (λ (tree : Tree). AreEntriesIn tree xs) (ap made same) in_s in
-    same_entries t xs ys moved in_t
+    same_entries version t xs ys moved in_t has_s has_t
 
 -- ---- one wrong leaf
 
@@ -201,18 +201,18 @@ one_blame b x y room (outline at bad) (leaf r p ps es has tree said groups by ot
 one_blame b x y room (part r p ps es has at bad) (outline by other) = absurd (good_outline b r p ps es by room has other)
 one_blame b x y room (part r p ps es has at bad) (part s q qs fs also by other) =
     let one = one_outline b r s p q ps qs es fs room has also in
-    one_place (data_in q b) (length head) at by (subst (λ (n : ℕ). IsFirstBadPart (length head) (data_in n b) at) one.place bad) other
+    one_place (data_in q b) head_length at by (subst (λ (n : ℕ). IsFirstBadPart head_length (data_in n b) at) one.place bad) other
 one_blame b x y room (part r p ps es has at bad) (leaf s q qs fs also tree said groups by other) =
     let one = one_outline b r s p q ps qs es fs room has also in
-    absurd (no_bad_part (data_in q b) tree.groups (length head) at groups.good groups.bytes_are (subst (λ (n : ℕ). IsFirstBadPart (length head) (data_in n b) at) one.place bad))
+    absurd (no_bad_part (data_in q b) tree.groups head_length at groups.good groups.bytes_are (subst (λ (n : ℕ). IsFirstBadPart head_length (data_in n b) at) one.place bad))
 one_blame b x y room (leaf r p ps es has tree said groups at bad) (outline by other) = absurd (good_outline b r p ps es by room has other)
 one_blame b x y room (leaf r p ps es has tree said groups at bad) (part s q qs fs also by other) =
     let one = one_outline b r s p q ps qs es fs room has also in
-    absurd (no_bad_part (data_in p b) tree.groups (length head) by groups.good groups.bytes_are (subst (λ (n : ℕ). IsFirstBadPart (length head) (data_in n b) by) (sym one.place) other))
+    absurd (no_bad_part (data_in p b) tree.groups head_length by groups.good groups.bytes_are (subst (λ (n : ℕ). IsFirstBadPart head_length (data_in n b) by) (sym one.place) other))
 one_blame b x y room (leaf r p ps es has tree said groups at bad) (leaf s q qs fs also tree2 said2 groups2 by other) =
     let one = one_outline b r s p q ps qs es fs room has also in
     let here : data_in q b ≡ flat_map group_field tree.groups = ap (λ (n : ℕ). data_in n b) (sym one.place) ∙ groups.bytes_are in
-    let saids = said_same (data_in q b) tree tree2 said said2 groups.good groups2.good here groups2.bytes_are groups.say groups2.say in
+    let saids = said_same (version_in b) (data_in q b) tree tree2 said said2 groups.good groups2.good here groups2.bytes_are groups.say groups2.say groups.sums groups2.sums in
     let moved : IsFirstWrongLeaf qs fs said2 at = subst (λ (l : List IndexEntry). IsFirstWrongLeaf qs fs l at) saids
     (subst (λ (l : List IndexEntry). IsFirstWrongLeaf qs l said at) one.entries (subst (λ (l : List Pointer). IsFirstWrongLeaf l es said at) one.pointers bad)) in
     one_wrong_leaf qs fs said2 at by moved other
@@ -220,27 +220,27 @@ one_blame b x y room (leaf r p ps es has tree said groups at bad) (leaf s q qs f
 -- ---- a tree's file
 
 -- the groups of a tree stand between the head and the first leaf
-tree_data : (tree : Tree) (b : List ℕ) → IsFile tree b → data_in (length (data_field tree)) b ≡ flat_map group_field tree.groups
+tree_data : (tree : Tree) (b : List ℕ) (file : IsFile tree b) → data_in (length (data_field file.version tree)) b ≡ flat_map group_field tree.groups
 tree_data tree b file =
     let groups = flat_map group_field tree.groups in
     let rest = file.index_bytes ++ (number64 file.root ++ magic) in
     let apart = file_apart tree b file in
-    let behind : drop (length head) b ≡ flat_map group_field tree.groups ++ (file.index_bytes ++ (number64 file.root ++ magic)) =
-    ap (λ (l : List ℕ). drop (length head) l) apart ∙ drop_at head (groups ++ rest) (length head) refl in
-    let n = length-append head groups in
-    let size : length (flat_map group_field tree.groups) ≡ length (data_field tree) - length head = omega (arith, n) in
-    ap (λ (l : List ℕ). take (length (data_field tree) - length head) l) behind ∙ take_at groups rest (length (data_field tree) - length head) size
+    let behind : drop head_length b ≡ flat_map group_field tree.groups ++ (file.index_bytes ++ (number64 file.root ++ magic)) =
+    ap (λ (l : List ℕ). drop head_length l) apart ∙ drop_at (head file.version) (groups ++ rest) head_length refl in
+    let n = length-append (head file.version) groups in
+    let size : length (flat_map group_field tree.groups) ≡ length (data_field file.version tree) - head_length = omega (arith, n) in
+    ap (λ (l : List ℕ). take (length (data_field file.version tree) - head_length) l) behind ∙ take_at groups rest (length (data_field file.version tree) - head_length) size
 
 pub not_blamed : (b : List ℕ) (at : ℕ) → length b < 2 ^ 64 → IsBlamed b at → IsNoFile b
 not_blamed b at room (outline by bad) = λ tree is made file. tree_not_bad tree b by room is made file bad
 not_blamed b at room (part r p ps es has by bad) = λ tree is made file.
     let place = (outline_of_tree tree b r p ps es room is made file has).0 in
     let here : data_in p b ≡ flat_map group_field tree.groups = ap (λ (n : ℕ). data_in n b) place ∙ tree_data tree b file in
-    no_bad_part (data_in p b) tree.groups (length head) by (groups_in tree is made) here bad
+    no_bad_part (data_in p b) tree.groups head_length by (groups_in tree is made) here bad
 not_blamed b at room (leaf r p ps es has tree said groups by bad) = λ other is made file.
     let of_tree = outline_of_tree other b r p ps es room is made file has in
     let here : data_in p b ≡ flat_map group_field other.groups = ap (λ (n : ℕ). data_in n b) of_tree.0 ∙ tree_data other b file in
-    bad.wrong (said_same (data_in p b) other tree es said (groups_in other is made) groups.good here groups.bytes_are of_tree.1 groups.say)
+    bad.wrong (said_same (version_in b) (data_in p b) other tree es said (groups_in other is made) groups.good here groups.bytes_are of_tree.1 groups.say of_tree.2 groups.sums)
 
 -- ---- what is whole is a tree's file
 
@@ -265,7 +265,7 @@ pub record IsTreeOf (tree : Tree) (b : List ℕ) (entries : List IndexEntry) : T
   pub file : IsFile tree b
   pub say : AreEntriesIn tree entries
 
-pub tree_of : (b : List ℕ) (root place : ℕ) (ps : List Pointer) (es said : List IndexEntry) (tree : Tree) → HasOutline b root place ps es → HasGroups (data_in place b) tree said → es ≡ said → IsTreeOf tree b es
+pub tree_of : (b : List ℕ) (root place : ℕ) (ps : List Pointer) (es said : List IndexEntry) (tree : Tree) → HasOutline b root place ps es → HasGroups (version_in b) (data_in place b) tree said → es ≡ said → IsTreeOf tree b es
 tree_of b root place ps es said tree has groups same =
     let good = groups.good in
     let say : AreEntriesIn tree es = subst (AreEntriesIn tree) (sym same) groups.say in
@@ -276,26 +276,29 @@ tree_of b root place ps es said tree has groups same =
     let high = r.high in
     let behind = has.points.behind_head in
     let long = has.long in
-    let front : take 7 b ++ between 7 place b ≡ data_field tree = ap (λ (l : List ℕ). l ++ between 7 place b) has.starts ∙ ap (λ (l : List ℕ). head ++ l) groups.bytes_are in
+    let front : take 7 b ++ between 7 place b ≡ data_field (version_in b) tree = ap (λ (l : List ℕ). l ++ between 7 place b) has.starts.1 ∙ ap (λ (l : List ℕ). head (version_in b) ++ l) groups.bytes_are in
     let size_head : length (take 7 b) ≡ 7 = length-take-le 7 b (omega (arith, long)) in
     let size_rest = length_between b 7 place (omega (arith, low, high)) in
     let n = length-append (take 7 b) (between 7 place b) in
     let m = ap length front in
-    let place_is : place ≡ length (data_field tree) = omega (arith, size_head, size_rest, n, m, behind) in
+    let place_is : place ≡ length (data_field (version_in b) tree) = omega (arith, size_head, size_rest, n, m, behind) in
     let split = four b place (tail_place b) (omega (arith, behind)) (omega (arith, low, high)) (omega arith) in
     let tail : drop (tail_place b) b ≡ number64 root ++ magic = has.tail.bytes_are in
     record {
       is = record { some = good.some; few = omega (arith, count, few); groups = good.groups_are; rising = good.rising };
       made = record { devices = good.devices; chunks = good.chunks };
       file = record {
+        version = version_in b;
+        known = has.starts.0;
         entries = es;
         root = root;
         index_bytes = between place (tail_place b) b;
         say = say;
+        sums = subst (λ (l : List IndexEntry). All (HasSums (version_in b)) l) (sym same) groups.sums;
         index_is = subst (λ (p : ℕ). IsIndexSpelling p root es (between place (tail_place b) b)) place_is has.index.spelling;
         bytes_are =
-            split ∙ ap (λ (l : List ℕ). (l ++ between place (tail_place b) b) ++ drop (tail_place b) b) front ∙ ap (λ (l : List ℕ). (data_field tree ++ between place (tail_place b) b) ++ l) tail
-            ∙ sym (append_assoc (data_field tree ++ between place (tail_place b) b) (number64 root) magic);
+            split ∙ ap (λ (l : List ℕ). (l ++ between place (tail_place b) b) ++ drop (tail_place b) b) front ∙ ap (λ (l : List ℕ). (data_field (version_in b) tree ++ between place (tail_place b) b) ++ l) tail
+            ∙ sym (append_assoc (data_field (version_in b) tree ++ between place (tail_place b) b) (number64 root) magic);
       };
       say = say;
     }

@@ -1,6 +1,6 @@
 -- The exits of checking a file.
 use Rattle.std.proofs.Common.{◌≡◌, ℕ, zero, suc, ◌+◌, ◌-◌, ◌*◌, ◌/◌, ◌<◌, ◌≤◌, ◌^◌, List, [], ◌∷◌, ◌++◌, length, drop, Err, refl, sym, ap, subst, ◌∙◌, arith}
-use Rattle.std.specs.Prelude.{Option, None, Some, IfSome, IfOk, min}
+use Rattle.std.specs.Prelude.{All, Option, None, Some, IfSome, IfOk, min}
 use Rattle.std.specs.List.{flat_map}
 use Rattle.std.proofs.lemmas.List.{drop_at, length-append}
 use Rattle.tsdb_base.specs.FieldLaws.{number32-prefix_free}
@@ -12,7 +12,7 @@ use Rattle.tsdb_index.specs.declared.pointer.Pointer.{Pointer}
 use Rattle.tsdb_index.specs.Parts.{pointer_bytes}
 use Rattle.tsdb_index.specs.Spelling.{AreLeaves, leaf_field, pointers, root_field}
 use Rattle.tsdb_pages.specs.declared.tree.Tree.{Tree}
-use Rattle.tsdb_pages.specs.File.{IsFile, head}
+use Rattle.tsdb_pages.specs.File.{HasSums, IsFile, head_length, version_in}
 use Rattle.tsdb_pages.specs.Trees.{IsMade, IsTree}
 use Rattle.tsfile_reader.specs.declared.ends.Ends.{Ends}
 use Rattle.tsfile_reader.specs.declared.fault.ReadFault.{ReadFault}
@@ -94,7 +94,7 @@ leaf_low count entries leaves some cover = omega (arith, some, cover)
 
 -- ---- a leaf that is wrong
 
-wrong_in : (b : List ℕ) (root place : ℕ) (ps : List Pointer) (es said : List IndexEntry) (tree : Tree) (number at : ℕ) → HasOutline b root place ps es → HasGroups (data_in place b) tree said → IsFirstWrong es said (Some number)
+wrong_in : (b : List ℕ) (root place : ℕ) (ps : List Pointer) (es said : List IndexEntry) (tree : Tree) (number at : ℕ) → HasOutline b root place ps es → HasGroups (version_in b) (data_in place b) tree said → IsFirstWrong es said (Some number)
     → ((before behind : List Pointer) (pointer : Pointer) → ps ≡ before ++ pointer ∷ behind → length before ≡ number → at ≡ pointer.place) → IsBlamed b at
 wrong_in b root place ps es said tree number at has groups wrong place_of =
     let count = wrong.1 in
@@ -116,6 +116,10 @@ wrong_in b root place ps es said tree number at has groups wrong place_of =
 
 -- ---- what is known of the bytes where they are told
 
+-- the version that was read is that of the bytes
+groups_there : (b : List ℕ) (version : ℕ) (bytes : List ℕ) (tree : Tree) (said : List IndexEntry) → version ≡ version_in b → HasGroups version bytes tree said → HasGroups (version_in b) bytes tree said
+groups_there b version bytes tree said is groups = subst (λ (n : ℕ). HasGroups n bytes tree said) is groups
+
 -- the file is shorter than 2^63
 pub is_limited : (o : Option (List ℕ)) (ends : Ends) (place : ℕ) (ps : List Pointer) (index : Index) → IfSome o (λ b. IsOutlineIn b ends place ps index) → IfSome o (λ b. length b < 2 ^ 63)
 is_limited None ends place ps index has = tt
@@ -132,21 +136,21 @@ refused (Some b) Is (Damaged at) answers = outline at answers
 refused (Some b) Is Memory answers = tt
 
 pub stopped : {T : Type 0} (o : Option (List ℕ)) (Is : T → Type 0) (ends : Ends) (place : ℕ) (ps : List Pointer) (index : Index) (stretch : List ℕ) (fault : ReadFault) → IfSome o (λ b. IsOutlineIn b ends place ps index) → IfSome o (λ b. stretch ≡ data_in place b)
-    → ReadsOrStops Is (IsFirstBadPart (length head) stretch) (Err fault) → Answers IsMetaOfTree IsBlamed o (Err fault)
+    → ReadsOrStops Is (IsFirstBadPart head_length stretch) (Err fault) → Answers IsMetaOfTree IsBlamed o (Err fault)
 stopped None Is ends place ps index stretch Failed has is stops = tt
 stopped None Is ends place ps index stretch (Damaged at) has is stops = tt
 stopped None Is ends place ps index stretch Memory has is stops = tt
 stopped (Some b) Is ends place ps index stretch Failed has is stops = tt
 stopped (Some b) Is ends place ps index stretch (Damaged at) has is stops =
-    part ends.root place ps index.entries has.1 at (subst (λ (l : List ℕ). IsFirstBadPart (length head) l at) is stops)
+    part ends.root place ps index.entries has.1 at (subst (λ (l : List ℕ). IsFirstBadPart head_length l at) is stops)
 stopped (Some b) Is ends place ps index stretch Memory has is stops = tt
 
 pub is_wrong : (o : Option (List ℕ)) (ends : Ends) (place : ℕ) (ps : List Pointer) (index : Index) (stretch : List ℕ) (said : List IndexEntry) (number at : ℕ) → IfSome o (λ b. IsOutlineIn b ends place ps index) → IfSome o (λ b. stretch ≡ data_in place b)
-    → (tree : Tree) × HasGroups stretch tree said → IsFirstWrong index.entries said (Some number) → ((before behind : List Pointer) (pointer : Pointer) → ps ≡ before ++ pointer ∷ behind → length before ≡ number → at ≡ pointer.place)
+    → (tree : Tree) × HasGroups ends.version stretch tree said → IsFirstWrong index.entries said (Some number) → ((before behind : List Pointer) (pointer : Pointer) → ps ≡ before ++ pointer ∷ behind → length before ≡ number → at ≡ pointer.place)
     → Answers IsMetaOfTree IsBlamed o (Err (Damaged at))
 is_wrong None ends place ps index stretch said number at has is groups wrong place_of = tt
 is_wrong (Some b) ends place ps index stretch said number at has is groups wrong place_of =
-    wrong_in b ends.root place ps index.entries said groups.0 number at has.1 (subst (λ (l : List ℕ). HasGroups l groups.0 said) is groups.1) wrong place_of
+    wrong_in b ends.root place ps index.entries said groups.0 number at has.1 (groups_there b ends.version (data_in place b) groups.0 said has.2 (subst (λ (l : List ℕ). HasGroups ends.version l groups.0 said) is groups.1)) wrong place_of
 
 pub no_file : (o : Option (List ℕ)) (fault : ReadFault) → Answers IsMetaOfTree IsBlamed o (Err fault) → IfDamaged {T = FileMeta} (Err fault) (λ at. IfSome o (λ b. length b < 2 ^ 63)) → IfDamaged {T = FileMeta} (Err fault) (λ at. IfSome o IsNoFile)
 no_file o Failed blamed limit = tt
@@ -168,11 +172,23 @@ limited o (Damaged at) limit = limit
 limited o Memory limit = tt
 
 pub is_found : (o : Option (List ℕ)) (ends : Ends) (place : ℕ) (ps : List Pointer) (index : Index) (stretch : List ℕ) (said : List IndexEntry) → IfSome o (λ b. IsOutlineIn b ends place ps index) → IfSome o (λ b. stretch ≡ data_in place b)
-    → (tree : Tree) × HasGroups stretch tree said → index.entries ≡ said → IfSome o (λ b. IsMetaOfTree b (record { size = ends.size; index = index }))
+    → (tree : Tree) × HasGroups ends.version stretch tree said → index.entries ≡ said → IfSome o (λ b. IsMetaOfTree b (record { size = ends.size; version = ends.version; index = index }))
 is_found None ends place ps index stretch said has is groups same = tt
 is_found (Some b) ends place ps index stretch said has is groups same =
-    let t = tree_of b ends.root place ps index.entries said groups.0 has.1 (subst (λ (l : List ℕ). HasGroups l groups.0 said) is groups.1) same in
-    record { tree = groups.0; is = t.is; made = t.made; file = t.file; says = record { bytes_are = has.0; entries = t.say } }
+    let there = groups_there b ends.version (data_in place b) groups.0 said has.2 (subst (λ (l : List ℕ). HasGroups ends.version l groups.0 said) is groups.1) in
+    let t = tree_of b ends.root place ps index.entries said groups.0 has.1 there same in
+    record {
+      tree = groups.0;
+      is = t.is;
+      made = t.made;
+      file = t.file;
+      says = record {
+        bytes_are = has.0;
+        version_is = has.2;
+        entries = t.say;
+        sums = subst (λ (l : List IndexEntry). All (HasSums (version_in b)) l) (sym same) there.sums;
+      };
+    }
 
 -- what holds of a place of damage holds whatever else was to be returned
 pub same_limit : (T : Type 0) (P : ℕ → Type 0) (fault : ReadFault) → IfDamaged {T = T} (Err fault) P → IfDamaged {T = FileMeta} (Err fault) P

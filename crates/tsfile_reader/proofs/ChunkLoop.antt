@@ -1,9 +1,9 @@
 -- Reading chunks one behind another, and groups: what is read so far, and where reading stops.
 use Rattle.std.proofs.Common.{◌≡◌, ℕ, suc, ◌+◌, ◌-◌, ◌≤◌, List, [], ◌∷◌, ◌++◌, length, get_or, refl, sym, ap, subst, ◌∙◌, append_assoc, arith}
-use Rattle.std.specs.Prelude.{AllPairs}
+use Rattle.std.specs.Prelude.{All, AllPairs}
 use Rattle.std.specs.List.{flat_map, AllByRecursion}
 use Rattle.std.proofs.lemmas.List.{append-nil, length-append}
-use Rattle.std.proofs.lemmas.List.Elements.{All-from_recursion}
+use Rattle.std.proofs.lemmas.List.Elements.{All-from_recursion, All-nil, All-push}
 use Rattle.tsdb_base.specs.declared.point.Point.{Point}
 use Rattle.tsdb_base.specs.declared.value.DataType.{DataType}
 use Rattle.tsdb_base.specs.declared.value.Encoding.{Encoding}
@@ -13,7 +13,7 @@ use Rattle.tsdb_fields.specs.Reading.{TakesBytes}
 use Rattle.tsdb_fields.proofs.Taken.{takes_both, takes_same}
 use Rattle.tsdb_index.specs.declared.index.IndexEntry.{IndexEntry}
 use Rattle.tsdb_pages.specs.declared.tree.Chunk.{Chunk}
-use Rattle.tsdb_pages.specs.File.{ArePageEntries, AreEntries, IsChunkEntry, chunk_field, chunk_head, page_field}
+use Rattle.tsdb_pages.specs.File.{ArePageEntries, AreEntries, HasSums, IsChunkEntry, chunk_field, chunk_head, page_field}
 use Rattle.tsdb_pages.specs.Trees.{HasParts, IsBefore, IsChunk}
 use Rattle.tsdb_pages.proofs.Files.{IsWholeChunk}
 use Rattle.tsdb_pages.proofs.Order.{names_rise, pairs_push}
@@ -43,9 +43,9 @@ stop_behind before middle left behind text at grown takes stops = record {
 
 -- ---- one chunk
 
-pub chunk_read : (device : List ℕ) (head : ChunkHead) (place : ℕ) (left behind : Rest) (found : Pages) (entry : IndexEntry) → IsChunkHead head → left.at ≡ place + length (head_bytes head) → ReadsPages head.data_type head.encoding left behind found
-    → entry ≡ record { device = device; measurement = head.measurement; data_type = head.data_type; encoding = head.encoding; place = place; stats = found.stats; pages = found.entries.items } → ReadsChunk device head place left behind entry
-chunk_read device head place left behind found entry is at pages entry_is =
+pub chunk_read : (version : ℕ) (device : List ℕ) (head : ChunkHead) (place : ℕ) (left behind : Rest) (found : Pages) (entry : IndexEntry) → IsChunkHead head → left.at ≡ place + length (head_bytes head) → ReadsPages version head.data_type head.encoding left behind found
+    → entry ≡ record { device = device; measurement = head.measurement; data_type = head.data_type; encoding = head.encoding; place = place; stats = found.stats; pages = found.entries.items } → ReadsChunk version device head place left behind entry
+chunk_read version device head place left behind found entry is at pages entry_is =
     let r = pages.read in
     let chunk : Chunk = record { measurement = head.measurement; data_type = head.data_type; encoding = head.encoding; pages = pages.pages } in
     record {
@@ -64,6 +64,7 @@ chunk_read device head place left behind found entry is at pages entry_is =
         stats = r.stats;
         pages = subst (λ (n : ℕ). ArePageEntries head.encoding n pages.pages found.entries.items) at r.say;
       });
+      sums = subst (HasSums version) (sym entry_is) (record { stats = r.sum; pages = r.sums });
       takes = pages.takes;
       ends = pages.ends;
     }
@@ -92,7 +93,7 @@ chunks_more_text : (chunks : List Chunk) (c : Chunk) → flat_map chunk_field (c
 chunks_more_text chunks c = flat_push chunk_field chunks c
 
 -- these chunks are read, and that is left
-pub record ChunksSoFar (device : List ℕ) (rest left : Rest) (entries : List IndexEntry) : Type 0 where
+pub record ChunksSoFar (version : ℕ) (device : List ℕ) (rest left : Rest) (entries : List IndexEntry) : Type 0 where
   pub front : List Chunk
   pub last : Chunk
   pub whole : AllByRecursion IsWholeChunk (front ++ last ∷ [])
@@ -102,6 +103,7 @@ pub record ChunksSoFar (device : List ℕ) (rest left : Rest) (entries : List In
   pub entries_are : entries ≡ earlier ++ final ∷ []
   pub final-is : final.measurement ≡ last.measurement
   pub say : AreEntries device rest.at (front ++ last ∷ []) entries
+  pub sums : All (HasSums version) entries
   pub takes : TakesBytes rest (flat_map chunk_field (front ++ last ∷ [])) left
   pub no_page : BeginsWithMark 80 left.bytes.now → ⊥
 
@@ -115,8 +117,8 @@ chunk_taken c head left middle behind m t e head_is pages =
     head_same c head m t e =
         ap (λ (x : List ℕ). part_field (FilePart.Chunk x head.data_type head.encoding)) (sym m) ∙ ap (λ (x : DataType). part_field (FilePart.Chunk c.measurement x head.encoding)) (sym t) ∙ ap (λ (x : Encoding). part_field (FilePart.Chunk c.measurement c.data_type x)) (sym e)
 
-pub first_chunk : (device : List ℕ) (rest middle left : Rest) (head : ChunkHead) (entry : IndexEntry) (entries : List IndexEntry) → entries ≡ entry ∷ [] → TakesBytes rest (head_bytes head) middle → ReadsChunk device head rest.at middle left entry → ChunksSoFar device rest left entries
-first_chunk device rest middle left head entry entries is head_is r = record {
+pub first_chunk : (version : ℕ) (device : List ℕ) (rest middle left : Rest) (head : ChunkHead) (entry : IndexEntry) (entries : List IndexEntry) → entries ≡ entry ∷ [] → TakesBytes rest (head_bytes head) middle → ReadsChunk version device head rest.at middle left entry → ChunksSoFar version device rest left entries
+first_chunk version device rest middle left head entry entries is head_is r = record {
   front = [];
   last = r.chunk;
   whole = ((r.good, r.parts), tt);
@@ -126,13 +128,14 @@ first_chunk device rest middle left head entry entries is head_is r = record {
   entries_are = is;
   final-is = r.say.measurement_is;
   say = subst (λ (l : List IndexEntry). AreEntries device rest.at (r.chunk ∷ []) l) (sym is) (r.say, tt);
+  sums = subst (λ (l : List IndexEntry). All (HasSums version) l) (sym is) (All-push (HasSums version) [] entry (All-nil (HasSums version)) r.sums);
   takes = takes_same rest left (chunk_field r.chunk) (chunk_field r.chunk ++ []) (sym (append-nil (chunk_field r.chunk))) (chunk_taken r.chunk head rest middle left r.measurement_is r.type_is r.encoding_is head_is r.takes);
   no_page = r.ends;
 }
 
-pub next_chunk_read : (device : List ℕ) (rest left middle behind : Rest) (head : ChunkHead) (entry : IndexEntry) (old new : List IndexEntry) (so_far : ChunksSoFar device rest left old) → new ≡ old ++ entry ∷ [] → TakesBytes left (head_bytes head) middle → IsBefore so_far.final.measurement head.measurement
-    → ReadsChunk device head left.at middle behind entry → ChunksSoFar device rest behind new
-next_chunk_read device rest left middle behind head entry old new so_far is head_is less r =
+pub next_chunk_read : (version : ℕ) (device : List ℕ) (rest left middle behind : Rest) (head : ChunkHead) (entry : IndexEntry) (old new : List IndexEntry) (so_far : ChunksSoFar version device rest left old) → new ≡ old ++ entry ∷ [] → TakesBytes left (head_bytes head) middle → IsBefore so_far.final.measurement head.measurement
+    → ReadsChunk version device head left.at middle behind entry → ChunksSoFar version device rest behind new
+next_chunk_read version device rest left middle behind head entry old new so_far is head_is less r =
     let chunks = so_far.front ++ so_far.last ∷ [] in
     let above : IsBefore so_far.last.measurement r.chunk.measurement = subst (λ (x : List ℕ). IsBefore so_far.last.measurement x) (sym r.measurement_is) (subst (λ (x : List ℕ). IsBefore x head.measurement) so_far.final-is less) in
     let place : left.at ≡ rest.at + length (flat_map chunk_field (so_far.front ++ so_far.last ∷ [])) = so_far.takes.place in
@@ -146,6 +149,7 @@ next_chunk_read device rest left middle behind head entry old new so_far is head
       entries_are = is;
       final-is = r.say.measurement_is;
       say = subst (λ (l : List IndexEntry). AreEntries device rest.at ((so_far.front ++ so_far.last ∷ []) ++ r.chunk ∷ []) l) (sym is) (chunks_push device rest.at chunks old r.chunk entry so_far.say (subst (λ (n : ℕ). IsChunkEntry device n r.chunk entry) place r.say));
+      sums = subst (λ (l : List IndexEntry). All (HasSums version) l) (sym is) (All-push (HasSums version) old entry so_far.sums r.sums);
       takes = takes_same rest behind (flat_map chunk_field (so_far.front ++ so_far.last ∷ []) ++ chunk_field r.chunk) (flat_map chunk_field ((so_far.front ++ so_far.last ∷ []) ++ r.chunk ∷ [])) (sym (chunks_more_text chunks r.chunk))
           (takes_both rest left behind (flat_map chunk_field chunks) (chunk_field r.chunk) so_far.takes (chunk_taken r.chunk head left middle behind r.measurement_is r.type_is r.encoding_is head_is r.takes));
       no_page = r.ends;
@@ -162,12 +166,12 @@ last_at earlier final e entries is at = at ∙ ap (λ (l : List IndexEntry). get
         let k : length (x ∷ (xs ++ final ∷ [])) - 1 ≡ suc (length (xs ++ final ∷ []) - 1) = omega (arith, n) in
         ap (λ (i : ℕ). get_or (x ∷ (xs ++ final ∷ [])) i e) k ∙ last_of_row xs final e
 
-pub last_measurement : (device : List ℕ) (rest left : Rest) (entries : List IndexEntry) (so_far : ChunksSoFar device rest left entries) (e : IndexEntry) (n : ℕ) → n ≡ length entries → e ≡ get_or entries (n - 1) e → e.measurement ≡ so_far.final.measurement
-last_measurement device rest left entries so_far e n count at =
+pub last_measurement : (version : ℕ) (device : List ℕ) (rest left : Rest) (entries : List IndexEntry) (so_far : ChunksSoFar version device rest left entries) (e : IndexEntry) (n : ℕ) → n ≡ length entries → e ≡ get_or entries (n - 1) e → e.measurement ≡ so_far.final.measurement
+last_measurement version device rest left entries so_far e n count at =
     ap (λ (x : IndexEntry). x.measurement) (last_at so_far.earlier so_far.final e entries so_far.entries_are (at ∙ ap (λ (k : ℕ). get_or entries (k - 1) e) count))
 
-pub some_entries : (device : List ℕ) (rest left : Rest) (entries : List IndexEntry) → ChunksSoFar device rest left entries → 1 ≤ length entries
-some_entries device rest left entries so_far =
+pub some_entries : (version : ℕ) (device : List ℕ) (rest left : Rest) (entries : List IndexEntry) → ChunksSoFar version device rest left entries → 1 ≤ length entries
+some_entries version device rest left entries so_far =
     let n = ap length so_far.entries_are in
     let m = length-append so_far.earlier (so_far.final ∷ []) in
     omega (arith, n, m)
@@ -199,8 +203,8 @@ in_first_chunk device rest middle head at is takes stops = λ before are.
     stop_behind (FilePart.Group device ∷ before) (chunk_part head ∷ FilePart.Group device ∷ before) rest middle (head_bytes head) at refl takes (stops (FilePart.Group device ∷ before) (is, are))
 
 -- behind chunks stands no later one
-pub no_next_chunk : (device : List ℕ) (rest left : Rest) (entries : List IndexEntry) (so_far : ChunksSoFar device rest left entries) → BeginsWithMark 67 left.bytes.now → BeginsWithNone head_bytes (IsLaterHead so_far.final.measurement) left.bytes.now → StopsBehind (FilePart.Group device) rest left.at
-no_next_chunk device rest left entries so_far mark none = λ before are.
+pub no_next_chunk : (version : ℕ) (device : List ℕ) (rest left : Rest) (entries : List IndexEntry) (so_far : ChunksSoFar version device rest left entries) → BeginsWithMark 67 left.bytes.now → BeginsWithNone head_bytes (IsLaterHead so_far.final.measurement) left.bytes.now → StopsBehind (FilePart.Group device) rest left.at
+no_next_chunk version device rest left entries so_far mark none = λ before are.
     let chunks = so_far.front ++ so_far.last ∷ [] in
     let n = length-append so_far.front (so_far.last ∷ []) in
     let l = last_of chunks (FilePart.Group device ∷ before) (omega (arith, n)) so_far.whole in
@@ -230,9 +234,9 @@ no_next_chunk device rest left entries so_far mark none = λ before are.
     next_of last bytes mark none t e points rest to (FilePart.Page kind form more) behind may is = other_part 67 80 bytes mark.0 _ (λ same. absurd (omega (arith, same))) mark.1 is
 
 -- inside a later chunk
-pub in_next_chunk : (device : List ℕ) (rest left middle : Rest) (entries : List IndexEntry) (so_far : ChunksSoFar device rest left entries) (head : ChunkHead) (at : ℕ) → IsLaterHead so_far.final.measurement head → TakesBytes left (head_bytes head) middle → StopsBehind (chunk_part head) middle at
+pub in_next_chunk : (version : ℕ) (device : List ℕ) (rest left middle : Rest) (entries : List IndexEntry) (so_far : ChunksSoFar version device rest left entries) (head : ChunkHead) (at : ℕ) → IsLaterHead so_far.final.measurement head → TakesBytes left (head_bytes head) middle → StopsBehind (chunk_part head) middle at
     → StopsBehind (FilePart.Group device) rest at
-in_next_chunk device rest left middle entries so_far head at later takes stops = λ before are.
+in_next_chunk version device rest left middle entries so_far head at later takes stops = λ before are.
     let chunks = so_far.front ++ so_far.last ∷ [] in
     let n = length-append so_far.front (so_far.last ∷ []) in
     let l = last_of chunks (FilePart.Group device ∷ before) (omega (arith, n)) so_far.whole in
@@ -246,8 +250,8 @@ in_next_chunk device rest left middle entries so_far head at later takes stops =
     (ap (λ (l : List ℕ). l ++ head_bytes head) (chunks_text chunks (FilePart.Group device ∷ before)) ∙ append_assoc (parts_field (FilePart.Group device ∷ before)) (flat_map chunk_field chunks) (head_bytes head))
     (takes_both rest left middle (flat_map chunk_field chunks) (head_bytes head) so_far.takes takes) (stops parts (may, good))
 
-pub all_chunks : (device : List ℕ) (rest left : Rest) (entries : List IndexEntry) → ChunksSoFar device rest left entries → (BeginsWithMark 67 left.bytes.now → ⊥) → ReadsChunks device rest left entries
-all_chunks device rest left entries so_far none =
+pub all_chunks : (version : ℕ) (device : List ℕ) (rest left : Rest) (entries : List IndexEntry) → ChunksSoFar version device rest left entries → (BeginsWithMark 67 left.bytes.now → ⊥) → ReadsChunks version device rest left entries
+all_chunks version device rest left entries so_far none =
     let chunks = so_far.front ++ so_far.last ∷ [] in
     let n = length-append so_far.front (so_far.last ∷ []) in
     record {
@@ -258,6 +262,7 @@ all_chunks device rest left entries so_far none =
         parts = All-from_recursion HasParts chunks (seconds chunks so_far.whole);
         rising = so_far.rising;
         say = so_far.say;
+        sums = so_far.sums;
       };
       takes = so_far.takes;
       no_page = so_far.no_page;

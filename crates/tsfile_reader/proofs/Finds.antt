@@ -19,13 +19,14 @@ use Rattle.tsdb_index.proofs.Whole.{every_right, spread_at}
 use Rattle.tsdb_pages.specs.declared.tree.Chunk.{Chunk}
 use Rattle.tsdb_pages.specs.declared.tree.Group.{Group}
 use Rattle.tsdb_pages.specs.declared.tree.Tree.{Tree}
-use Rattle.tsdb_pages.specs.File.{AreEntries, AreEntriesOf, IsFile, chunk_field, data_field, group_field, group_head, head}
+use Rattle.tsdb_pages.specs.File.{AreEntries, AreEntriesOf, HasSums, IsFile, chunk_field, data_field, group_field, group_head, head_length, version_in}
+use Rattle.tsdb_pages.proofs.OneFile.{version_is}
 use Rattle.tsdb_pages.specs.Trees.{IsMade, IsTree}
 use Rattle.tsfile_reader.specs.declared.ends.Front.{Front}
 use Rattle.tsfile_reader.specs.declared.fault.ReadFault.{ReadFault}
 use Rattle.tsfile_reader.specs.declared.fault.ReadFault.TheVariants.{Failed, Damaged, Memory}
 use Rattle.tsfile_reader.specs.Answers.{Answers, IfDamaged, IsNotDamaged, as_read_fault}
-use Rattle.tsfile_reader.specs.LookUp.{IsBadLookUp, IsEntryInTree, IsLookedUp, in_front, in_leaf, in_none, leaf_bytes, no_leaf}
+use Rattle.tsfile_reader.specs.LookUp.{IsBadLookUp, IsEntryInTree, IsFormedEntry, IsLookedUp, in_front, in_leaf, in_none, leaf_bytes, no_leaf}
 use Rattle.tsfile_reader.specs.Outline.{HasFront, HasOutline, HasRoot, IsBadFront, between, tail_place}
 use Rattle.tsfile_reader.specs.Steps.{HasSomeRoot, IsFrontIn}
 use Rattle.tsfile_reader.proofs.OneOutline.{front_of, good_front, leaves_there, rises, root_same, tail_same, tree_outline}
@@ -52,28 +53,28 @@ leaf_bounds front names ps pointer behind same root is =
     bounds [] order low inside = record { from = omega (arith, low); to = omega arith }
     bounds (q ∷ qs) order low inside = let less = order.0.1 in let next = inside.0 in record { from = omega (arith, less); to = omega (arith, next) }
 
-pub one_leaf_found : (o : Option (List ℕ)) (pointer : Pointer) (behind : List Pointer) (root end : ℕ) (part slice : List ℕ) (entries : List IndexEntry) → end ≡ leaf_end root behind → slice ≡ part → IfSome o (λ b. part ≡ take (end - pointer.place) (drop pointer.place b))
-    → IsLeaf pointer behind slice entries → IfSome o (λ b. IsLeaf pointer behind (leaf_bytes root pointer behind b) entries)
-one_leaf_found None pointer behind root end part slice entries end_is same is leaf = tt
-one_leaf_found (Some b) pointer behind root end part slice entries end_is same is leaf =
-    subst (λ (l : List ℕ). IsLeaf pointer behind l entries) (same ∙ is ∙ ap (λ (n : ℕ). take (n - pointer.place) (drop pointer.place b)) end_is) leaf
+pub one_leaf_found : (version : ℕ) (o : Option (List ℕ)) (pointer : Pointer) (behind : List Pointer) (root end : ℕ) (part slice : List ℕ) (entries : List IndexEntry) → end ≡ leaf_end root behind → slice ≡ part → IfSome o (λ b. part ≡ take (end - pointer.place) (drop pointer.place b))
+    → IsLeaf version pointer behind slice entries → IfSome o (λ b. IsLeaf version pointer behind (leaf_bytes root pointer behind b) entries)
+one_leaf_found version None pointer behind root end part slice entries end_is same is leaf = tt
+one_leaf_found version (Some b) pointer behind root end part slice entries end_is same is leaf =
+    subst (λ (l : List ℕ). IsLeaf version pointer behind l entries) (same ∙ is ∙ ap (λ (n : ℕ). take (n - pointer.place) (drop pointer.place b)) end_is) leaf
 
-pub one_leaf_bad : {T B : Type 0} (Is : List ℕ → T → Type 0) (o : Option (List ℕ)) (pointer : Pointer) (behind : List Pointer) (root end : ℕ) (part slice : List ℕ) (view : B → List IndexEntry) (fault : FieldFault) (answer : ReadFault) → end ≡ leaf_end root behind → slice ≡ part
-    → IfSome o (λ b. part ≡ take (end - pointer.place) (drop pointer.place b)) → ReadsWhole (IsLeaf pointer behind slice) view (Err fault) → answer ≡ as_read_fault pointer.place fault
-    → Answers Is (λ b at. (at ≡ pointer.place) × ((entries : List IndexEntry) → IsLeaf pointer behind (leaf_bytes root pointer behind b) entries → ⊥)) o (Err answer)
-one_leaf_bad Is None pointer behind root end part slice view (field.Bad at) answer end_is same is none answer_is = rw answer_is tt
-one_leaf_bad Is (Some b) pointer behind root end part slice view (field.Bad at) answer end_is same is none answer_is =
+pub one_leaf_bad : {T B : Type 0} (version : ℕ) (Is : List ℕ → T → Type 0) (o : Option (List ℕ)) (pointer : Pointer) (behind : List Pointer) (root end : ℕ) (part slice : List ℕ) (view : B → List IndexEntry) (fault : FieldFault) (answer : ReadFault) → end ≡ leaf_end root behind → slice ≡ part
+    → IfSome o (λ b. part ≡ take (end - pointer.place) (drop pointer.place b)) → ReadsWhole (IsLeaf version pointer behind slice) view (Err fault) → answer ≡ as_read_fault pointer.place fault
+    → Answers Is (λ b at. (at ≡ pointer.place) × ((entries : List IndexEntry) → IsLeaf version pointer behind (leaf_bytes root pointer behind b) entries → ⊥)) o (Err answer)
+one_leaf_bad version Is None pointer behind root end part slice view (field.Bad at) answer end_is same is none answer_is = rw answer_is tt
+one_leaf_bad version Is (Some b) pointer behind root end part slice view (field.Bad at) answer end_is same is none answer_is =
     let bytes : slice ≡ leaf_bytes root pointer behind b = same ∙ is ∙ ap (λ (n : ℕ). take (n - pointer.place) (drop pointer.place b)) end_is in
-    rw answer_is (refl, λ entries leaf. none entries (subst (λ (l : List ℕ). IsLeaf pointer behind l entries) (sym bytes) leaf))
-one_leaf_bad Is o pointer behind root end part slice view field.Memory answer end_is same is none answer_is = rw answer_is tt
+    rw answer_is (refl, λ entries leaf. none entries (subst (λ (l : List ℕ). IsLeaf version pointer behind l entries) (sym bytes) leaf))
+one_leaf_bad version Is o pointer behind root end part slice view field.Memory answer end_is same is none answer_is = rw answer_is tt
 
-pub leaf_in_order : (pointer : Pointer) (behind : List Pointer) (bytes : List ℕ) (entries : List IndexEntry) → IsLeaf pointer behind bytes entries → AreInOrder AreNamesBefore (map names_of entries)
-leaf_in_order pointer behind bytes entries leaf = order_left AreNamesBefore (map names_of entries) (next_names behind) leaf.rising
+pub leaf_in_order : (version : ℕ) (pointer : Pointer) (behind : List Pointer) (bytes : List ℕ) (entries : List IndexEntry) → IsLeaf version pointer behind bytes entries → AreInOrder AreNamesBefore (map names_of entries)
+leaf_in_order version pointer behind bytes entries leaf = order_left AreNamesBefore (map names_of entries) (next_names behind) leaf.rising
 
 -- an entry that is found among good ones is good, and has the names
-pub entry_formed : (names : Names) (entries : List IndexEntry) (found : Option IndexEntry) → IsEntryFor names entries found → All IsEntry entries → IfSome found IsEntry
-entry_formed names entries None is good = tt
-entry_formed names entries (Some entry) is good = All-contains IsEntry entries entry good is.0
+pub entry_formed : (version : ℕ) (names : Names) (entries : List IndexEntry) (found : Option IndexEntry) → IsEntryFor names entries found → All (IsEntry version) entries → IfSome found IsFormedEntry
+entry_formed version names entries None is good = tt
+entry_formed version names entries (Some entry) is good = (version, All-contains (IsEntry version) entries entry good is.0)
 
 pub entry_named : (names : Names) (entries : List IndexEntry) (found : Option IndexEntry) → IsEntryFor names entries found → IfSome found (λ entry. names_of entry ≡ names)
 entry_named names entries None is = tt
@@ -109,17 +110,19 @@ leaf_moved : (names : Names) (ps qs : List Pointer) (pointer : Pointer) (behind 
 leaf_moved names ps qs pointer behind same is = subst (λ (l : List Pointer). IsLeafFor names l pointer behind) same is
 
 pub entry_found : (o : Option (List ℕ)) (front : Front) (names : Names) (ps : List Pointer) (pointer : Pointer) (behind : List Pointer) (entries : List IndexEntry) (found : Option IndexEntry) → ps ≡ front.root.pointers.items → IfSome o (λ b. IsFrontIn b front)
-    → IsLeafFor names ps pointer behind → IfSome o (λ b. IsLeaf pointer behind (leaf_bytes front.ends.root pointer behind b) entries) → IsEntryFor names entries found → IfSome o (λ b. IsLookedUp b names found)
+    → IsLeafFor names ps pointer behind → IfSome o (λ b. IsLeaf front.ends.version pointer behind (leaf_bytes front.ends.root pointer behind b) entries) → IsEntryFor names entries found → IfSome o (λ b. IsLookedUp b names found)
 entry_found None front names ps pointer behind entries found same has is leaf entry = tt
 entry_found (Some b) front names ps pointer behind entries found same has is leaf entry =
-    in_leaf front.ends.root front.root.place front.root.pointers.items has.1 pointer behind (leaf_moved names ps front.root.pointers.items pointer behind same is) entries leaf found entry
+    in_leaf front.ends.root front.root.place front.root.pointers.items has.1 pointer behind (leaf_moved names ps front.root.pointers.items pointer behind same is) entries
+    (subst (λ (n : ℕ). IsLeaf n pointer behind (leaf_bytes front.ends.root pointer behind b) entries) has.2 leaf) found entry
 
 pub leaf_refused : {T S : Type 0} (Is : List ℕ → T → Type 0) (Js : List ℕ → S → Type 0) (o : Option (List ℕ)) (front : Front) (names : Names) (ps : List Pointer) (pointer : Pointer) (behind : List Pointer) (fault : ReadFault) → ps ≡ front.root.pointers.items → IfSome o (λ b. IsFrontIn b front)
-    → IsLeafFor names ps pointer behind → Answers Is (λ b at. (at ≡ pointer.place) × ((entries : List IndexEntry) → IsLeaf pointer behind (leaf_bytes front.ends.root pointer behind b) entries → ⊥)) o (Err fault) → Answers Js (λ b at. IsBadLookUp b names at) o (Err fault)
+    → IsLeafFor names ps pointer behind → Answers Is (λ b at. (at ≡ pointer.place) × ((entries : List IndexEntry) → IsLeaf front.ends.version pointer behind (leaf_bytes front.ends.root pointer behind b) entries → ⊥)) o (Err fault) → Answers Js (λ b at. IsBadLookUp b names at) o (Err fault)
 leaf_refused Is Js o front names ps pointer behind Failed same has is answers = tt
 leaf_refused Is Js None front names ps pointer behind (Damaged at) same has is answers = tt
 leaf_refused Is Js (Some b) front names ps pointer behind (Damaged at) same has is answers =
-    no_leaf front.ends.root front.root.place front.root.pointers.items has.1 pointer behind (leaf_moved names ps front.root.pointers.items pointer behind same is) answers.1 at answers.0
+    no_leaf front.ends.root front.root.place front.root.pointers.items has.1 pointer behind (leaf_moved names ps front.root.pointers.items pointer behind same is)
+    (λ entries leaf. answers.1 entries (subst (λ (n : ℕ). IsLeaf n pointer behind (leaf_bytes front.ends.root pointer behind b) entries) (sym has.2) leaf)) at answers.0
 leaf_refused Is Js o front names ps pointer behind Memory same has is answers = tt
 
 -- ---- where the index is whole
@@ -127,7 +130,7 @@ leaf_refused Is Js o front names ps pointer behind Memory same has is answers = 
 -- the leaf of the names stands among the leaves of the index
 record IsThere (b : List ℕ) (root place : ℕ) (ps : List Pointer) (es : List IndexEntry) (pointer : Pointer) (behind : List Pointer) : Type 0 where
   leaves : List (List IndexEntry)
-  among-them : IsAmong root place pointer behind (between place root b) leaves
+  among-them : IsAmong (version_in b) root place pointer behind (between place root b) leaves
   all : es ≡ flat_map (λ leaf. leaf) leaves
   bytes : leaf_bytes root pointer behind b ≡ take (leaf_end root behind - pointer.place) (drop (pointer.place - place) (between place root b))
 
@@ -140,8 +143,8 @@ leaf_there b root place ps es names pointer behind room has is =
     let leaves = leaves_there b root place ps es room has.points has.index in
     let spread : AreSpread root ps (length (between place root b)) = spread_at place root (between root (tail_place b) b) ps (between place root b) has.points.is (omega (arith, size, low)) in
     let begin : BeginAt place ps = has.points.is.begin in
-    let a = among root place is.before pointer behind (between place root b) leaves.0 (subst (λ (l : List Pointer). BeginAt place l) is.split begin) (subst (λ (l : List Pointer). AreSpread root l (length (between place root b))) is.split spread)
-    (subst (λ (l : List Pointer). AreLeavesAt root l (between place root b) leaves.0) is.split leaves.1) in
+    let a = among (version_in b) root place is.before pointer behind (between place root b) leaves.0 (subst (λ (l : List Pointer). BeginAt place l) is.split begin) (subst (λ (l : List Pointer). AreSpread root l (length (between place root b))) is.split spread)
+    (subst (λ (l : List Pointer). AreLeavesAt (version_in b) root l (between place root b) leaves.0) is.split leaves.1) in
     let from = a.from in
     let to = a.to in
     let end = a.end in
@@ -170,13 +173,13 @@ pub looked_up : (b : List ℕ) (root place : ℕ) (ps : List Pointer) (es : List
 looked_up b root place ps es names found room has (in_none other_root other_place qs other behind) =
     let s = same_front b root place ps other_root other_place qs room (front_of b root place ps es has) other in
     let leaves = leaves_there b root place ps es room has.points has.index in
-    none_decides names root ps (between place root b) leaves.0 es (subst (λ (l : List Pointer). AreBehind names l) s.pointers behind) leaves.1 leaves.2 has.index.index.rising
+    none_decides (version_in b) names root ps (between place root b) leaves.0 es (subst (λ (l : List Pointer). AreBehind names l) s.pointers behind) leaves.1 leaves.2 has.index.index.rising
 looked_up b root place ps es names found room has (in_leaf other_root other_place qs other pointer behind is entries leaf same_found entry) =
     let s = same_front b root place ps other_root other_place qs room (front_of b root place ps es has) other in
     let here : IsLeafFor names ps pointer behind = leaf_moved names qs ps pointer behind s.pointers is in
     let t = leaf_there b root place ps es names pointer behind room has here in
-    let one : IsLeaf pointer behind (leaf_bytes root pointer behind b) entries = subst (λ (n : ℕ). IsLeaf pointer behind (leaf_bytes n pointer behind b) entries) s.roots leaf in
-    leaf_decides names root place pointer behind (between place root b) t.leaves es entries same_found here.from here.to t.among-them t.all has.index.index.rising (subst (λ (l : List ℕ). IsLeaf pointer behind l entries) t.bytes one) entry
+    let one : IsLeaf (version_in b) pointer behind (leaf_bytes root pointer behind b) entries = subst (λ (n : ℕ). IsLeaf (version_in b) pointer behind (leaf_bytes n pointer behind b) entries) s.roots leaf in
+    leaf_decides (version_in b) names root place pointer behind (between place root b) t.leaves es entries same_found here.from here.to t.among-them t.all has.index.index.rising (subst (λ (l : List ℕ). IsLeaf (version_in b) pointer behind l entries) t.bytes one) entry
 
 -- and no part that a look-up takes is bad
 pub not_bad : (b : List ℕ) (root place : ℕ) (ps : List Pointer) (es : List IndexEntry) (names : Names) (at : ℕ) → length b < 2 ^ 64 → HasOutline b root place ps es → IsBadLookUp b names at → ⊥
@@ -185,8 +188,8 @@ not_bad b root place ps es names at room has (no_leaf other_root other_place qs 
     let s = same_front b root place ps other_root other_place qs room (front_of b root place ps es has) other in
     let here : IsLeafFor names ps pointer behind = leaf_moved names qs ps pointer behind s.pointers is in
     let t = leaf_there b root place ps es names pointer behind room has here in
-    let there : IsLeaf pointer behind (leaf_bytes root pointer behind b) t.among-them.leaf = subst (λ (l : List ℕ). IsLeaf pointer behind l t.among-them.leaf) (sym t.bytes) t.among-them.is in
-    none t.among-them.leaf (subst (λ (n : ℕ). IsLeaf pointer behind (leaf_bytes n pointer behind b) t.among-them.leaf) (sym s.roots) there)
+    let there : IsLeaf (version_in b) pointer behind (leaf_bytes root pointer behind b) t.among-them.leaf = subst (λ (l : List ℕ). IsLeaf (version_in b) pointer behind l t.among-them.leaf) (sym t.bytes) t.among-them.is in
+    none t.among-them.leaf (subst (λ (n : ℕ). IsLeaf (version_in b) pointer behind (leaf_bytes n pointer behind b) t.among-them.leaf) (sym s.roots) there)
 
 -- ---- the entry of a chunk of a tree
 
@@ -246,20 +249,24 @@ pair d m = (d, m)
 names_from : (entry : IndexEntry) (names : Names) → entry.device ≡ names.0 → entry.measurement ≡ names.1 → names_of entry ≡ names
 names_from entry names device measurement = ap (λ (x : List ℕ). pair x entry.measurement) device ∙ ap (λ (x : List ℕ). pair names.0 x) measurement
 
-in_tree : (tree : Tree) (b : List ℕ) (names : Names) (found : Option IndexEntry) → (file : IsFile tree b) → IsEntryFor names file.entries found → IsEntryInTree tree names found
-in_tree tree b names (Some entry) file has = (record { entries = file.entries; say = file.say; there = has.0 }, has.1)
+in_tree : (tree : Tree) (b : List ℕ) (names : Names) (found : Option IndexEntry) → (file : IsFile tree b) → IsEntryFor names file.entries found → IsEntryInTree (version_in b) tree names found
+in_tree tree b names (Some entry) file has = (
+  record { entries = file.entries; say = file.say; there = has.0 },
+  has.1,
+  subst (λ (n : ℕ). HasSums n entry) (sym (version_is tree b file)) (All-contains (HasSums file.version) file.entries entry file.sums has.0),
+)
 in_tree tree b names None file has = λ group chunk there inside device measurement.
-    let named = group_named (length head) tree.groups file.say.by_group group chunk file.say.say there inside in
+    let named = group_named head_length tree.groups file.say.by_group group chunk file.say.say there inside in
     has named.entry (subst (λ (es : List IndexEntry). Contains es named.entry) file.say.all named.there) (names_from named.entry names (named.device_is ∙ device) (named.measurement_is ∙ measurement))
 
 pub tree_found : (o : Option (List ℕ)) (names : Names) (result : Result (Option IndexEntry) ReadFault) → Answers (λ b. IsLookedUp b names) (λ b. IsBadLookUp b names) o result → Answers (λ b found. length b < 2 ^ 63) (λ b at. length b < 2 ^ 63) o result
-    → IfSome o (λ b. (tree : Tree) → IsTree tree → IsMade tree → IsFile tree b → IsNotDamaged result × IfOk result (IsEntryInTree tree names))
+    → IfSome o (λ b. (tree : Tree) → IsTree tree → IsMade tree → IsFile tree b → IsNotDamaged result × IfOk result (IsEntryInTree (version_in b) tree names))
 tree_found None names result answers limit = tt
 tree_found (Some b) names (Ok found) answers limit = λ tree is made file.
     let t = tree_outline tree b (omega (arith, limit)) is made file in
-    (tt, in_tree tree b names found file (looked_up b file.root (length (data_field tree)) t.pointers file.entries names found (omega (arith, limit)) t.outline answers))
+    (tt, in_tree tree b names found file (looked_up b file.root (length (data_field file.version tree)) t.pointers file.entries names found (omega (arith, limit)) t.outline answers))
 tree_found (Some b) names (Err Failed) answers limit = λ tree is made file. (tt, tt)
 tree_found (Some b) names (Err (Damaged at)) answers limit = λ tree is made file.
     let t = tree_outline tree b (omega (arith, limit)) is made file in
-    absurd (not_bad b file.root (length (data_field tree)) t.pointers file.entries names at (omega (arith, limit)) t.outline answers)
+    absurd (not_bad b file.root (length (data_field file.version tree)) t.pointers file.entries names at (omega (arith, limit)) t.outline answers)
 tree_found (Some b) names (Err Memory) answers limit = λ tree is made file. (tt, tt)

@@ -16,7 +16,7 @@ use Rattle.tsdb_path.specs.Nodes.{IsPath}
 use Rattle.tsdb_pages.specs.declared.tree.Chunk.{Chunk}
 use Rattle.tsdb_pages.specs.declared.tree.Group.{Group}
 use Rattle.tsdb_pages.specs.declared.tree.Tree.{Tree}
-use Rattle.tsdb_pages.specs.File.{AreEntries, AreEntriesIn, AreEntriesOf, chunk_field, group_field, group_head, head}
+use Rattle.tsdb_pages.specs.File.{AreEntries, AreEntriesIn, AreEntriesOf, HasSums, chunk_field, group_field, group_head, head_length}
 use Rattle.tsdb_pages.specs.Trees.{HasParts, IsBefore, IsChunk, IsGroup, chunks_of}
 use Rattle.tsdb_pages.proofs.Files.{IsWholeChunk}
 use Rattle.tsdb_pages.proofs.Entries.{count_all, flat_push, groups_push}
@@ -31,7 +31,7 @@ abbrev pub all_of : List (List IndexEntry) → List IndexEntry
 all_of lists = flat_map (λ (list : List IndexEntry). list) lists
 
 -- these groups are read, and that is left
-pub record GroupsSoFar (rest left : Rest) (entries : List IndexEntry) (last : List ℕ) : Type 0 where
+pub record GroupsSoFar (version : ℕ) (rest left : Rest) (entries : List IndexEntry) (last : List ℕ) : Type 0 where
   pub front : List Group
   pub final : Group
   pub final-is : final.device ≡ last
@@ -40,22 +40,24 @@ pub record GroupsSoFar (rest left : Rest) (entries : List IndexEntry) (last : Li
   pub by_group : List (List IndexEntry)
   pub all : all_of by_group ≡ entries
   pub say : AreEntriesOf rest.at (front ++ final ∷ []) by_group
+  pub sums : All (HasSums version) entries
   pub takes : TakesBytes rest (flat_map group_field (front ++ final ∷ [])) left
   pub no_page : BeginsWithMark 80 left.bytes.now → ⊥
   pub no_chunk : BeginsWithMark 67 left.bytes.now → ⊥
 
 -- a group that was read
-record ReadsGroup (device : List ℕ) (left behind : Rest) (entries : List IndexEntry) : Type 0 where
+record ReadsGroup (version : ℕ) (device : List ℕ) (left behind : Rest) (entries : List IndexEntry) : Type 0 where
   pub group : Group
   pub device_is : group.device ≡ device
   pub full : IsFullGroup group
   pub say : AreEntries group.device (left.at + length (group_head group)) group.chunks entries
+  pub sums : All (HasSums version) entries
   pub takes : TakesBytes left (group_field group) behind
   pub no_page : BeginsWithMark 80 behind.bytes.now → ⊥
   pub no_chunk : BeginsWithMark 67 behind.bytes.now → ⊥
 
-group_of : (device : List ℕ) (left middle behind : Rest) (entries : List IndexEntry) → IsPath device → TakesBytes left (group_bytes device) middle → ReadsChunks device middle behind entries → ReadsGroup device left behind entries
-group_of device left middle behind entries is head r =
+group_of : (version : ℕ) (device : List ℕ) (left middle behind : Rest) (entries : List IndexEntry) → IsPath device → TakesBytes left (group_bytes device) middle → ReadsChunks version device middle behind entries → ReadsGroup version device left behind entries
+group_of version device left middle behind entries is head r =
     let group : Group = record { device = device; chunks = r.chunks } in
     record {
       group = group;
@@ -66,6 +68,7 @@ group_of device left middle behind entries is head r =
         whole = both r.chunks (recursion_from_All IsChunk r.chunks r.read.good) (recursion_from_All HasParts r.chunks r.read.parts);
       };
       say = subst (λ (n : ℕ). AreEntries device n r.chunks entries) head.place r.read.say;
+      sums = r.read.sums;
       takes = takes_both left middle behind (group_bytes device) (flat_map chunk_field r.chunks) head r.takes;
       no_page = r.no_page;
       no_chunk = r.no_chunk;
@@ -75,9 +78,9 @@ group_of device left middle behind entries is head r =
     both [] a b = tt
     both (c ∷ cs) a b = ((a.0, b.0), both cs a.1 b.1)
 
-pub first_group : (rest middle left : Rest) (device : List ℕ) (entries : List IndexEntry) → IsPath device → TakesBytes rest (group_bytes device) middle → ReadsChunks device middle left entries → GroupsSoFar rest left entries device
-first_group rest middle left device entries is head r =
-    let g = group_of device rest middle left entries is head r in
+pub first_group : (version : ℕ) (rest middle left : Rest) (device : List ℕ) (entries : List IndexEntry) → IsPath device → TakesBytes rest (group_bytes device) middle → ReadsChunks version device middle left entries → GroupsSoFar version rest left entries device
+first_group version rest middle left device entries is head r =
+    let g = group_of version device rest middle left entries is head r in
     record {
       front = [];
       final = g.group;
@@ -87,15 +90,16 @@ first_group rest middle left device entries is head r =
       by_group = entries ∷ [];
       all = append-nil entries;
       say = (g.say, tt);
+      sums = g.sums;
       takes = takes_same rest left (group_field g.group) (group_field g.group ++ []) (sym (append-nil (group_field g.group))) g.takes;
       no_page = g.no_page;
       no_chunk = g.no_chunk;
     }
 
-pub next_group : (rest left middle behind : Rest) (device last : List ℕ) (old new : List IndexEntry) (more : List IndexEntry) → GroupsSoFar rest left old last → IsPath device → IsBefore last device → TakesBytes left (group_bytes device) middle → ReadsChunks device middle behind more
-    → new ≡ old ++ more → GroupsSoFar rest behind new device
-next_group rest left middle behind device last old new more so_far is less head r new_is =
-    let g = group_of device left middle behind more is head r in
+pub next_group : (version : ℕ) (rest left middle behind : Rest) (device last : List ℕ) (old new : List IndexEntry) (more : List IndexEntry) → GroupsSoFar version rest left old last → IsPath device → IsBefore last device → TakesBytes left (group_bytes device) middle → ReadsChunks version device middle behind more
+    → new ≡ old ++ more → GroupsSoFar version rest behind new device
+next_group version rest left middle behind device last old new more so_far is less head r new_is =
+    let g = group_of version device left middle behind more is head r in
     let groups = so_far.front ++ so_far.final ∷ [] in
     let above : IsBefore so_far.final.device g.group.device = subst (λ (x : List ℕ). IsBefore so_far.final.device x) (sym g.device_is) (subst (λ (x : List ℕ). IsBefore x device) (sym so_far.final-is) less) in
     let place : left.at ≡ rest.at + length (flat_map group_field (so_far.front ++ so_far.final ∷ [])) = so_far.takes.place in
@@ -108,6 +112,7 @@ next_group rest left middle behind device last old new more so_far is less head 
       by_group = so_far.by_group ++ more ∷ [];
       all = flat_push (λ (list : List IndexEntry). list) so_far.by_group more ∙ ap (λ (l : List IndexEntry). l ++ more) so_far.all ∙ sym new_is;
       say = groups_push rest.at groups so_far.by_group g.group more so_far.say (subst (λ (n : ℕ). AreEntries g.group.device (n + length (group_head g.group)) g.group.chunks more) place g.say);
+      sums = subst (λ (l : List IndexEntry). All (HasSums version) l) (sym new_is) (All-append (HasSums version) old more so_far.sums g.sums);
       takes = takes_same rest behind (flat_map group_field (so_far.front ++ so_far.final ∷ []) ++ group_field g.group) (flat_map group_field ((so_far.front ++ so_far.final ∷ []) ++ g.group ∷ []))
           (sym (flat_push group_field groups g.group))
           (takes_both rest left behind (flat_map group_field groups) (group_field g.group) so_far.takes g.takes);
@@ -148,8 +153,8 @@ no_first_group rest none = record {
 pub in_first_group : (rest middle : Rest) (device : List ℕ) (at : ℕ) → IsPath device → TakesBytes rest (group_bytes device) middle → StopsBehind (FilePart.Group device) middle at → IsFirstBadPart rest.at rest.bytes.now at
 in_first_group rest middle device at is head stops = first_bad rest at (stop_behind [] (FilePart.Group device ∷ []) rest middle (group_bytes device) at refl head (stops [] (is, tt)))
 
-pub no_next_group : (rest left : Rest) (entries : List IndexEntry) (last : List ℕ) → GroupsSoFar rest left entries last → (left.bytes.now ≡ [] → ⊥) → BeginsWithNone group_bytes (λ x. IsPath x × IsBefore last x) left.bytes.now → IsFirstBadPart rest.at rest.bytes.now left.at
-no_next_group rest left entries last so_far some none =
+pub no_next_group : (version : ℕ) (rest left : Rest) (entries : List IndexEntry) (last : List ℕ) → GroupsSoFar version rest left entries last → (left.bytes.now ≡ [] → ⊥) → BeginsWithNone group_bytes (λ x. IsPath x × IsBefore last x) left.bytes.now → IsFirstBadPart rest.at rest.bytes.now left.at
+no_next_group version rest left entries last so_far some none =
     let groups = so_far.front ++ so_far.final ∷ [] in
     let n = length-append so_far.front (so_far.final ∷ []) in
     let l = last_group_of groups (omega (arith, n)) so_far.full in
@@ -173,8 +178,8 @@ no_next_group rest left entries last so_far some none =
     next_of last bytes no_page no_chunk none t e points rest to (FilePart.Chunk name kind form) behind may is = no_chunk (_, is)
     next_of last bytes no_page no_chunk none t e points rest to (FilePart.Page kind form more) behind may is = no_page (_, is)
 
-pub in_next_group : (rest left middle : Rest) (entries : List IndexEntry) (last device : List ℕ) (at : ℕ) → GroupsSoFar rest left entries last → IsPath device → IsBefore last device → TakesBytes left (group_bytes device) middle → StopsBehind (FilePart.Group device) middle at → IsFirstBadPart rest.at rest.bytes.now at
-in_next_group rest left middle entries last device at so_far is less head stops =
+pub in_next_group : (version : ℕ) (rest left middle : Rest) (entries : List IndexEntry) (last device : List ℕ) (at : ℕ) → GroupsSoFar version rest left entries last → IsPath device → IsBefore last device → TakesBytes left (group_bytes device) middle → StopsBehind (FilePart.Group device) middle at → IsFirstBadPart rest.at rest.bytes.now at
+in_next_group version rest left middle entries last device at so_far is less head stops =
     let groups = so_far.front ++ so_far.final ∷ [] in
     let n = length-append so_far.front (so_far.final ∷ []) in
     let l = last_group_of groups (omega (arith, n)) so_far.full in
@@ -192,8 +197,8 @@ in_next_group rest left middle entries last device at so_far is less head stops 
 pub entries_counted : (tree : Tree) (entries : List IndexEntry) → AreEntriesIn tree entries → length entries ≡ length (chunks_of tree.groups)
 entries_counted tree entries say = ap length (sym say.all) ∙ count_all _ tree.groups say.by_group say.say
 
-pub all_groups : (rest left : Rest) (entries : List IndexEntry) (last : List ℕ) → rest.at ≡ length head → GroupsSoFar rest left entries last → left.bytes.now ≡ [] → (tree : Tree) × HasGroups rest.bytes.now tree entries
-all_groups rest left entries last at so_far nil =
+pub all_groups : (version : ℕ) (rest left : Rest) (entries : List IndexEntry) (last : List ℕ) → rest.at ≡ head_length → GroupsSoFar version rest left entries last → left.bytes.now ≡ [] → (tree : Tree) × HasGroups version rest.bytes.now tree entries
+all_groups version rest left entries last at so_far nil =
     let groups = so_far.front ++ so_far.final ∷ [] in
     let n = length-append so_far.front (so_far.final ∷ []) in
     let tree : Tree = record { groups = groups } in (
@@ -212,6 +217,7 @@ all_groups rest left entries last at so_far nil =
           all = so_far.all;
           say = subst (λ (p : ℕ). AreEntriesOf p (so_far.front ++ so_far.final ∷ []) so_far.by_group) at so_far.say;
         };
+        sums = so_far.sums;
       },
     )
   where

@@ -1,10 +1,10 @@
 -- A part that may stand behind others of its kind.
-use Rattle.std.proofs.Common.{◌≡◌, ℕ, zero, suc, ◌+◌, ◌-◌, ◌<◌, true, List, [], ◌∷◌, ◌++◌, length, get_or, refl, sym, ap, subst, ◌∙◌, arith}
-use Rattle.std.specs.Prelude.{ℤ, ◌<ℤ◌, ◌≤ℤ◌, All}
+use Rattle.std.proofs.Common.{◌≡◌, ℕ, zero, suc, ◌+◌, ◌-◌, ◌<◌, Bool, true, false, List, [], ◌∷◌, ◌++◌, length, get_or, refl, sym, ap, subst, ◌∙◌, arith}
+use Rattle.std.specs.Prelude.{ℤ, ◌<ℤ◌, ◌≤ℤ◌, ◌&&◌, All, None, Option, if◌then◌else◌, is_some}
 use Rattle.std.specs.List.{flat_map, AllByRecursion}
 use Rattle.std.proofs.lemmas.Int.{ints}
 use Rattle.std.proofs.lemmas.List.{append-nil, length-append}
-use Rattle.std.proofs.lemmas.List.Elements.{All-append, All-cons, All-nil, recursion_from_All}
+use Rattle.std.proofs.lemmas.List.Elements.{All-append, All-cons, All-nil, All-push, recursion_from_All}
 use Rattle.tsdb_base.specs.declared.point.Point.{Point}
 use Rattle.tsdb_base.specs.declared.point.Stats.{Stats}
 use Rattle.tsdb_base.specs.declared.value.DataType.{DataType}
@@ -17,7 +17,7 @@ use Rattle.tsdb_base.specs.Fields.{number32, type_field, encoding_field}
 use Rattle.tsdb_index.specs.declared.index.PageEntry.{PageEntry}
 use Rattle.tsdb_path.specs.Nodes.{IsPath}
 use Rattle.tsdb_pages.specs.declared.tree.Page.{Page}
-use Rattle.tsdb_pages.specs.File.{ArePageEntries, page_bytes, page_field}
+use Rattle.tsdb_pages.specs.File.{ArePageEntries, HasSum, page_bytes, page_field}
 use Rattle.tsdb_base.specs.Limits.{max_pages}
 use Rattle.tsdb_base.specs.Points.{IsRising}
 use Rattle.tsdb_pages.specs.Pages.{ArePoints, IsInRange, body}
@@ -30,7 +30,10 @@ use Rattle.tsfile_reader.specs.declared.parts.Pages.{Pages}
 use Rattle.tsfile_reader.specs.Page.{AreGood}
 use Rattle.tsfile_reader.specs.Parts.{FilePart, part_field}
 use Rattle.tsfile_reader.specs.Steps.{AreLaterPoints, ArePagesRead, IsChunkHead, IsLaterHead, chunk_part}
-use Rattle.tsdb_pages.proofs.Statistics.{last_gives}
+use Rattle.tsdb_index.specs.Statistics.{is_numeric}
+use Rattle.tsdb_index.specs.Versions.{has_sums}
+use Rattle.tsdb_stats.specs.Folds.{sum_of}
+use Rattle.tsdb_pages.proofs.Statistics.{last_gives, sum_there}
 use Rattle.tsdb_pages.proofs.Entries.{count_pages, flat_push, pages_push}
 use Rattle.tsfile_reader.proofs.Heads.{chunk_apart, short_name, short_path, tail_same}
 
@@ -106,10 +109,39 @@ rise_further before (f ∷ fs) end rise_b rise_p some last later =
     less_all : (a b c d e : ℤ) → a ≤ℤ b → b ≡ c → c <ℤ d → d ≤ℤ e → a <ℤ e
     less_all a b c d e ab bc cd de = omega (arith, ints, ab, bc, cd, de)
 
-pub page_added : (t : DataType) (e : Encoding) (from place : ℕ) (before : List Page) (page : Page) (points : List Point) (old new : Pages) (stats : Stats) (entry : PageEntry) → page.points ≡ points → ArePagesRead t e from before old → AreLaterPoints t old points
+-- a sum that is there where the version has sums
+pub sum_in : (version : ℕ) (t : DataType) (points : List Point) (stats : Stats) → ArePoints t points → stats.sum ≡ (if has_sums version then sum_of points else None) → HasSum version t stats
+sum_in version t points stats good is = ap is_some is ∙ by_version (has_sums version) (sum_of points) (is_numeric t) (sum_there t points good)
+  where
+    by_version : (sums : Bool) (sum : Option ℤ) (numeric : Bool) → is_some sum ≡ numeric → is_some (if sums then sum else None) ≡ (sums && numeric)
+    by_version true sum numeric same = same
+    by_version false sum numeric same = refl
+
+-- the first page
+pub first_read : (version : ℕ) (t : DataType) (e : Encoding) (place : ℕ) (page : Page) (points : List Point) (found : Pages) (entry : PageEntry) → page.points ≡ points → AreGood t points → AreStatsOf points found.stats → HasSum version t found.stats
+    → entry.place ≡ place → entry.stats ≡ found.stats → found.entries.items ≡ entry ∷ [] → ArePagesRead version t e place (page ∷ []) found
+first_read version t e place page points found entry same good stats sum entry_place entry_stats entries =
+    let own : AreGood t page.points = subst (AreGood t) (sym same) good in
+    let all : page_points (page ∷ []) ≡ page.points = append-nil page.points in
+    let here : AreStatsOf page.points found.stats = subst (λ (l : List Point). AreStatsOf l found.stats) (sym same) stats in
+    record {
+      some = omega arith;
+      few = omega arith;
+      good = All-cons (λ (p : Page). ArePoints t p.points) page [] own.0 (All-nil (λ (p : Page). ArePoints t p.points));
+      ranges = subst (λ (l : List Point). All IsInRange l) (sym all) own.1;
+      rising = subst IsRising (sym all) own.0.rising;
+      stats = subst (λ (l : List Point). AreStatsOf l found.stats) (sym all) here;
+      say = subst (λ (l : List PageEntry). ArePageEntries e place (page ∷ []) l) (sym entries) (record { place_is = entry_place; stats = subst (AreStatsOf page.points) (sym entry_stats) here }, tt);
+      sum = sum;
+      sums = subst (λ (l : List PageEntry). All (λ entry. HasSum version t entry.stats) l) (sym entries)
+          (All-cons (λ (q : PageEntry). HasSum version t q.stats) entry [] (subst (HasSum version t) (sym entry_stats) sum) (All-nil (λ (q : PageEntry). HasSum version t q.stats)));
+    }
+
+pub page_added : (version : ℕ) (t : DataType) (e : Encoding) (from place : ℕ) (before : List Page) (page : Page) (points : List Point) (old new : Pages) (stats : Stats) (entry : PageEntry) → page.points ≡ points → ArePagesRead version t e from before old → AreLaterPoints t old points
     → place ≡ from + length (flat_map (page_field e) before) → entry.place ≡ place → AreStatsOf points entry.stats → AreStatsOf (page_points before ++ points) new.stats → new.entries.items ≡ old.entries.items ++ entry ∷ []
-    → ArePagesRead t e from (before ++ page ∷ []) new
-page_added t e from place before page points old new stats entry same read later place_is entry_place entry_stats all_stats entries =
+    → is_some new.stats.sum ≡ is_some old.stats.sum → HasSum version t entry.stats
+    → ArePagesRead version t e from (before ++ page ∷ []) new
+page_added version t e from place before page points old new stats entry same read later place_is entry_place entry_stats all_stats entries all_sum entry_sum =
     let good : AreGood t page.points = subst (AreGood t) (sym same) later.good in
     let n = length-append before (page ∷ []) in
     let count = count_pages e from before old.entries.items read.say in
@@ -124,6 +156,9 @@ page_added t e from place before page points old new stats entry same read later
       rising = subst IsRising (sym points_is) (subst (λ (l : List Point). IsRising (page_points before ++ l)) (sym same) (rise_further (page_points before) points old.stats.end read.rising later.good.0.rising some_points (λ d. end_time (page_points before) old.stats d some_points read.stats) later.later));
       stats = subst (λ (l : List Point). AreStatsOf l new.stats) (sym (points_is ∙ ap (λ (l : List Point). page_points before ++ l) same)) all_stats;
       say = subst (λ (l : List PageEntry). ArePageEntries e from (before ++ page ∷ []) l) (sym entries) (pages_push e from before old.entries.items page entry read.say (record { place_is = entry_place ∙ place_is; stats = subst (λ (l : List Point). AreStatsOf l entry.stats) (sym same) entry_stats }));
+      sum = all_sum ∙ read.sum;
+      sums = subst (λ (l : List PageEntry). All (λ entry. HasSum version t entry.stats) l) (sym entries)
+          (All-push (λ (e : PageEntry). HasSum version t e.stats) old.entries.items entry read.sums entry_sum);
     }
   where
     some_of : (t : DataType) (pages : List Page) → 0 < length pages → AllByRecursion (λ (p : Page). ArePoints t p.points) pages → 0 < length (page_points pages)

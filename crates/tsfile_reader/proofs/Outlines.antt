@@ -18,7 +18,8 @@ use Rattle.tsdb_index.specs.Parts.{AreLeavesAt, BeginAt, IsFirstBadLeaf, IsPoint
 use Rattle.tsdb_index.specs.Steps.{AreSpread, IsCountedList, ReadsLeaves}
 use Rattle.tsdb_index.proofs.Roots.{AreRoot, pointers_same, root_counted}
 use Rattle.tsdb_index.proofs.Whole.{found_index, spread_at}
-use Rattle.tsdb_pages.specs.File.{head}
+use Rattle.tsdb_index.specs.Versions.{IsVersion}
+use Rattle.tsdb_pages.specs.File.{head, head_length, version_in}
 use Rattle.tsfile_reader.specs.declared.ends.Ends.{Ends}
 use Rattle.tsfile_reader.specs.declared.ends.Front.{Front}
 use Rattle.tsfile_reader.specs.declared.ends.Root.{Root}
@@ -54,22 +55,35 @@ tail_bad Is (Some b) size tail view (field.Bad at) answer len long is none answe
 tail_bad Is o size tail view field.Memory answer len long is none answer_is = rw answer_is tt
 
 pub head_bad : (o : Option (List ℕ)) (size root : ℕ) (tail start : List ℕ) → ForSome o (λ b. size ≡ length b) → 21 ≤ size → IfSome o (λ b. tail ≡ take 14 (drop (size - 14) b)) → IsTail size tail root
-    → IfSome o (λ b. start ≡ take 7 (drop 0 b)) → (start ≡ head → ⊥) → IfSome o (λ b. IsBadFront b 0)
+    → IfSome o (λ b. start ≡ take 7 (drop 0 b)) → ((version : ℕ) → IsVersion version → start ≡ head version → ⊥) → IfSome o (λ b. IsBadFront b 0)
 head_bad None size root tail start len long is read start_is other = tt
 head_bad (Some b) size root tail start len long is read start_is other =
     let n = len b refl in
-    no_head (omega (arith, n, long)) root (has_tail b tail size root n is read) (λ has. other (start_is ∙ has))
+    no_head (omega (arith, n, long)) root (has_tail b tail size root n is read) (λ has. other (version_in b) has.0 (start_is ∙ has.1))
 
-pub has_ends : (o : Option (List ℕ)) (ends : Ends) (size root : ℕ) (tail start : List ℕ) → ForSome o (λ b. size ≡ length b) → 21 ≤ size → IfSome o (λ b. tail ≡ take 14 (drop (size - 14) b)) → IsTail size tail root
-    → IfSome o (λ b. start ≡ take 7 (drop 0 b)) → start ≡ head → ends.size ≡ size → ends.root ≡ root → IfSome o (λ b. HasFileEnds b ends)
-has_ends None ends size root tail start len long is read start_is same size_is root_is = tt
-has_ends (Some b) ends size root tail start len long is read start_is same size_is root_is =
+-- the first bytes say the version
+head_says : (b : List ℕ) (version : ℕ) → take 7 b ≡ head version → version_in b ≡ version
+head_says [] version is = absurd cc
+head_says (a ∷ []) version is = absurd cc
+head_says (a ∷ b ∷ []) version is = absurd cc
+head_says (a ∷ b ∷ c ∷ []) version is = absurd cc
+head_says (a ∷ b ∷ c ∷ d ∷ []) version is = absurd cc
+head_says (a ∷ b ∷ c ∷ d ∷ e ∷ []) version is = absurd cc
+head_says (a ∷ b ∷ c ∷ d ∷ e ∷ f ∷ []) version is = absurd cc
+head_says (a ∷ b ∷ c ∷ d ∷ e ∷ f ∷ g ∷ rest) version is = cc
+
+pub has_ends : (o : Option (List ℕ)) (ends : Ends) (size root version : ℕ) (tail start : List ℕ) → ForSome o (λ b. size ≡ length b) → 21 ≤ size → IfSome o (λ b. tail ≡ take 14 (drop (size - 14) b)) → IsTail size tail root
+    → IfSome o (λ b. start ≡ take 7 (drop 0 b)) → IsVersion version → start ≡ head version → ends.size ≡ size → ends.root ≡ root → ends.version ≡ version → IfSome o (λ b. HasFileEnds b ends)
+has_ends None ends size root version tail start len long is read start_is known same size_is root_is version_is = tt
+has_ends (Some b) ends size root version tail start len long is read start_is known same size_is root_is version_is =
     let n = len b refl in
+    let says = head_says b version (sym start_is ∙ same) in
     record {
       size = size_is ∙ n;
       long = omega (arith, n, long);
       tail = subst (λ (r : ℕ). HasTail b r) (sym root_is) (has_tail b tail size root n is read);
-      starts = sym start_is ∙ same;
+      starts = (subst IsVersion (sym says) known, sym start_is ∙ same ∙ ap head (sym says));
+      version_is = version_is ∙ sym says;
     }
 
 -- ---- the root
@@ -87,7 +101,7 @@ no_root_there b bytes ends has is none =
     no_root has.long ends.root has.tail has.starts (λ place ps root. none place ps root.behind_head (subst (λ (l : List ℕ). IsRoot place ends.root l ps) (sym is) root.is))
 
 pub root_bad : {T B : Type 0} (Is : List ℕ → T → Type 0) (o : Option (List ℕ)) (ends : Ends) (count : ℕ) (bytes slice : List ℕ) (view : B → ℕ × List Pointer) (fault : FieldFault) (answer : ReadFault)
-    → IfSome o (λ b. HasFileEnds b ends) → count ≡ ends.size - 14 - ends.root → IfSome o (λ b. bytes ≡ take count (drop ends.root b)) → slice ≡ bytes → ReadsWhole (λ root. (length head ≤ root.0) × IsRoot root.0 ends.root slice root.1) view (Err fault)
+    → IfSome o (λ b. HasFileEnds b ends) → count ≡ ends.size - 14 - ends.root → IfSome o (λ b. bytes ≡ take count (drop ends.root b)) → slice ≡ bytes → ReadsWhole (λ root. (head_length ≤ root.0) × IsRoot root.0 ends.root slice root.1) view (Err fault)
     → answer ≡ as_read_fault ends.root fault → Answers Is IsBadFront o (Err answer)
 root_bad Is None ends count bytes slice view (field.Bad at) answer has count_is is same none answer_is = rw answer_is tt
 root_bad Is (Some b) ends count bytes slice view (field.Bad at) answer has count_is is same none answer_is =
@@ -95,7 +109,7 @@ root_bad Is (Some b) ends count bytes slice view (field.Bad at) answer has count
 root_bad Is o ends count bytes slice view field.Memory answer has count_is is same none answer_is = rw answer_is tt
 
 pub root_found : (o : Option (List ℕ)) (ends : Ends) (root : Root) (count : ℕ) (bytes slice : List ℕ) → IfSome o (λ b. HasFileEnds b ends) → count ≡ ends.size - 14 - ends.root → IfSome o (λ b. bytes ≡ take count (drop ends.root b)) → slice ≡ bytes
-    → length head ≤ root.place → IsRoot root.place ends.root slice root.pointers.items → IfSome o (λ b. (ends.size ≡ length b) × HasFront b ends.root root.place root.pointers.items)
+    → head_length ≤ root.place → IsRoot root.place ends.root slice root.pointers.items → IfSome o (λ b. (ends.size ≡ length b) × HasFront b ends.root root.place root.pointers.items × (ends.version ≡ version_in b))
 root_found None ends root count bytes slice has count_is is same low there = tt
 root_found (Some b) ends root count bytes slice has count_is is same low there = (
   has.size,
@@ -105,6 +119,7 @@ root_found (Some b) ends root count bytes slice has count_is is same low there =
     starts = has.starts;
     points = record { behind_head = low; is = subst (λ (l : List ℕ). IsRoot root.place ends.root l root.pointers.items) (same ∙ root_bytes b bytes ends.size ends.root count has.size count_is is) there };
   },
+  has.version_is,
 )
 
 -- the first leaf stands before the root
@@ -113,17 +128,17 @@ first_inside place root bytes [] is = absurd is.begin
 first_inside place root bytes (p ∷ ps) is = subst (λ (n : ℕ). n < root) is.begin (All-head (λ (q : Pointer). q.place < root) p ps is.inside)
 
 -- the root that all of these bytes are, by its pointers
-pub no_place : (at : ℕ) (bytes : List ℕ) (pointers : List Pointer) → IsPointers bytes pointers → ((place : ℕ) → BeginAt place pointers → length head ≤ place → place < at → ⊥) → (it : ℕ × List Pointer) → (length head ≤ it.0) × IsRoot it.0 at bytes it.1 → ⊥
+pub no_place : (at : ℕ) (bytes : List ℕ) (pointers : List Pointer) → IsPointers bytes pointers → ((place : ℕ) → BeginAt place pointers → head_length ≤ place → place < at → ⊥) → (it : ℕ × List Pointer) → (head_length ≤ it.0) × IsRoot it.0 at bytes it.1 → ⊥
 no_place at bytes pointers counted none it is =
     let same : it.1 ≡ pointers = pointers_same bytes it.1 pointers (root_counted it.0 at bytes it.1 is.1) counted in
     none it.0 (subst (λ (ps : List Pointer). BeginAt it.0 ps) same is.1.begin) is.0 (first_inside it.0 at bytes it.1 is.1)
 
 -- pointers that are none are no root's
-pub pointers_bad : {B C : Type 0} (at : ℕ) (bytes : List ℕ) (view : B → List Pointer) (whole : C → ℕ × List Pointer) (fault : FieldFault) → ReadsWhole (IsPointers bytes) view (Err fault) → ReadsWhole (λ root. (length head ≤ root.0) × IsRoot root.0 at bytes root.1) whole (Err fault)
+pub pointers_bad : {B C : Type 0} (at : ℕ) (bytes : List ℕ) (view : B → List Pointer) (whole : C → ℕ × List Pointer) (fault : FieldFault) → ReadsWhole (IsPointers bytes) view (Err fault) → ReadsWhole (λ root. (head_length ≤ root.0) × IsRoot root.0 at bytes root.1) whole (Err fault)
 pointers_bad at bytes view whole (field.Bad place) none = λ it is. none it.1 (root_counted it.0 at bytes it.1 is.1)
 pointers_bad at bytes view whole field.Memory none = tt
 
-pub no_order : (at place : ℕ) (bytes : List ℕ) (pointers : List Pointer) → IsPointers bytes pointers → BeginAt place pointers → (AreRoot place at pointers → ⊥) → (it : ℕ × List Pointer) → (length head ≤ it.0) × IsRoot it.0 at bytes it.1 → ⊥
+pub no_order : (at place : ℕ) (bytes : List ℕ) (pointers : List Pointer) → IsPointers bytes pointers → BeginAt place pointers → (AreRoot place at pointers → ⊥) → (it : ℕ × List Pointer) → (head_length ≤ it.0) × IsRoot it.0 at bytes it.1 → ⊥
 no_order at place bytes pointers counted begin none it is =
     let same : it.1 ≡ pointers = pointers_same bytes it.1 pointers (root_counted it.0 at bytes it.1 is.1) counted in
     let rising = subst (λ (ps : List Pointer). AreInOrder IsPointerBefore ps) same is.1.rising in
@@ -164,8 +179,8 @@ spread_read front part slice ps same ps_are size root =
     (spread_at front.root.place front.ends.root root.0 front.root.pointers.items slice root.1 (omega (arith, low, n, size)))
 
 pub leaves_found : (o : Option (List ℕ)) (front : Front) (part slice : List ℕ) (ps : List Pointer) (leaves : List (List IndexEntry)) (list entries : List IndexEntry) → IfSome o (λ b. IsFrontIn b front) → IfSome o (λ b. part ≡ take (front.ends.root - front.root.place) (drop front.root.place b))
-    → length part ≡ front.ends.root - front.root.place → slice ≡ part → ps ≡ front.root.pointers.items → AreLeavesAt front.ends.root ps slice leaves → entries ≡ flat_map (λ leaf. leaf) leaves → list ≡ entries
-    → IfSome o (λ b. (front.ends.size ≡ length b) × HasOutline b front.ends.root front.root.place front.root.pointers.items list)
+    → length part ≡ front.ends.root - front.root.place → slice ≡ part → ps ≡ front.root.pointers.items → AreLeavesAt front.ends.version front.ends.root ps slice leaves → entries ≡ flat_map (λ leaf. leaf) leaves → list ≡ entries
+    → IfSome o (λ b. (front.ends.size ≡ length b) × HasOutline b front.ends.root front.root.place front.root.pointers.items list × (front.ends.version ≡ version_in b))
 leaves_found None front part slice ps leaves list entries has part_is size same ps_are are all list_is = tt
 leaves_found (Some b) front part slice ps leaves list entries has part_is size same ps_are are all list_is =
     let place = front.root.place in
@@ -182,17 +197,19 @@ leaves_found (Some b) front part slice ps leaves list entries has part_is size s
         tail = has.1.tail;
         starts = has.1.starts;
         points = points;
-        index = found_index place root (between front.root.place (tail_place b) b) part (between front.ends.root (tail_place b) b) qs leaves list (part_is ∙ sym front_is) (sym back_is) (omega (arith, low, size)) points.is
-            (subst (λ (l : List Pointer). AreLeavesAt front.ends.root l part leaves) ps_are (subst (λ (l : List ℕ). AreLeavesAt front.ends.root ps l leaves) same are)) (list_is ∙ all);
+        index = found_index (version_in b) place root (between front.root.place (tail_place b) b) part (between front.ends.root (tail_place b) b) qs leaves list (part_is ∙ sym front_is) (sym back_is) (omega (arith, low, size)) points.is
+            (subst (λ (n : ℕ). AreLeavesAt n front.ends.root qs part leaves) has.2 (subst (λ (l : List Pointer). AreLeavesAt front.ends.version front.ends.root l part leaves) ps_are (subst (λ (l : List ℕ). AreLeavesAt front.ends.version front.ends.root ps l leaves) same are))) (list_is ∙ all);
       },
+      has.2,
     )
 
 pub leaves_bad : {T B : Type 0} (Is : List ℕ → T → Type 0) (o : Option (List ℕ)) (front : Front) (part slice : List ℕ) (ps : List Pointer) (view : B → List IndexEntry) (fault : IndexFault) (answer : ReadFault) → IfSome o (λ b. IsFrontIn b front)
-    → IfSome o (λ b. part ≡ take (front.ends.root - front.root.place) (drop front.root.place b)) → slice ≡ part → ps ≡ front.root.pointers.items → ReadsLeaves front.ends.root ps slice view (Err fault) → answer ≡ of_index fault → Answers Is IsBadOutline o (Err answer)
+    → IfSome o (λ b. part ≡ take (front.ends.root - front.root.place) (drop front.root.place b)) → slice ≡ part → ps ≡ front.root.pointers.items → ReadsLeaves front.ends.version front.ends.root ps slice view (Err fault) → answer ≡ of_index fault → Answers Is IsBadOutline o (Err answer)
 leaves_bad Is None front part slice ps view (index.Bad at) answer has part_is same ps_are bad answer_is = rw answer_is tt
 leaves_bad Is (Some b) front part slice ps view (index.Bad at) answer has part_is same ps_are bad answer_is =
     rw answer_is (no_leaf has.1.long front.ends.root has.1.tail has.1.starts front.root.place front.root.pointers.items has.1.points at
-    (subst (λ (l : List Pointer). IsFirstBadLeaf front.ends.root l (between front.root.place front.ends.root b) at) ps_are (subst (λ (l : List ℕ). IsFirstBadLeaf front.ends.root ps l at) (same ∙ part_is) bad)))
+    (subst (λ (n : ℕ). IsFirstBadLeaf n front.ends.root front.root.pointers.items (between front.root.place front.ends.root b) at) has.2
+    (subst (λ (l : List Pointer). IsFirstBadLeaf front.ends.version front.ends.root l (between front.root.place front.ends.root b) at) ps_are (subst (λ (l : List ℕ). IsFirstBadLeaf front.ends.version front.ends.root ps l at) (same ∙ part_is) bad))))
 leaves_bad Is o front part slice ps view index.Memory answer has part_is same ps_are bad answer_is = rw answer_is tt
 
 -- a bad front is a bad outline

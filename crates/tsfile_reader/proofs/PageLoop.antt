@@ -34,16 +34,16 @@ use Rattle.tsdb_pages.proofs.TreeIndex.{points_few}
 use Rattle.tsfile_reader.proofs.Rows.{after_pages, good_pages, last_page, pages_field}
 
 -- these pages are read, and that is left
-pub record PagesSoFar (t : DataType) (e : Encoding) (rest left : Rest) (found : Pages) : Type 0 where
+pub record PagesSoFar (version : ℕ) (t : DataType) (e : Encoding) (rest left : Rest) (found : Pages) : Type 0 where
   pub pages : List Page
-  pub read : ArePagesRead t e rest.at pages found
+  pub read : ArePagesRead version t e rest.at pages found
   pub takes : TakesBytes rest (flat_map (page_field e) pages) left
 
-pub first_so_far : (t : DataType) (e : Encoding) (rest left : Rest) (found : Pages) (page : Page) → ArePagesRead t e rest.at (page ∷ []) found → TakesBytes rest (page_bytes e page.points) left → PagesSoFar t e rest left found
-first_so_far t e rest left found page read takes = record { pages = page ∷ []; read = read; takes = takes_same rest left (page_field e page) (page_field e page ++ []) (sym (append-nil (page_field e page))) takes }
+pub first_so_far : (version : ℕ) (t : DataType) (e : Encoding) (rest left : Rest) (found : Pages) (page : Page) → ArePagesRead version t e rest.at (page ∷ []) found → TakesBytes rest (page_bytes e page.points) left → PagesSoFar version t e rest left found
+first_so_far version t e rest left found page read takes = record { pages = page ∷ []; read = read; takes = takes_same rest left (page_field e page) (page_field e page ++ []) (sym (append-nil (page_field e page))) takes }
 
-pub next_so_far : (t : DataType) (e : Encoding) (rest left behind : Rest) (old new : Pages) (page : Page) (so_far : PagesSoFar t e rest left old) → ArePagesRead t e rest.at (so_far.pages ++ page ∷ []) new → TakesBytes left (page_bytes e page.points) behind → PagesSoFar t e rest behind new
-next_so_far t e rest left behind old new page so_far read takes = record {
+pub next_so_far : (version : ℕ) (t : DataType) (e : Encoding) (rest left behind : Rest) (old new : Pages) (page : Page) (so_far : PagesSoFar version t e rest left old) → ArePagesRead version t e rest.at (so_far.pages ++ page ∷ []) new → TakesBytes left (page_bytes e page.points) behind → PagesSoFar version t e rest behind new
+next_so_far version t e rest left behind old new page so_far read takes = record {
   pages = so_far.pages ++ page ∷ [];
   read = read;
   takes =
@@ -52,17 +52,8 @@ next_so_far t e rest left behind old new page so_far read takes = record {
       (sym (flat_push (page_field e) so_far.pages page)) both;
 }
 
--- a page more has room in the count
-pub room : (t : DataType) (e : Encoding) (rest left : Rest) (found : Pages) (n : ℕ) → PagesSoFar t e rest left found → n ≤ 1000 → found.stats.count + n < 2 ^ 64
-room t e rest left found n so_far few =
-    let r = so_far.read in
-    let count = r.stats.count in
-    let total = points_few t so_far.pages (recursion_from_All (λ (p : Page). ArePoints t p.points) so_far.pages r.good) in
-    let most = r.few in
-    omega (arith, few, count, total, most)
-
-pub place_of_next : (t : DataType) (e : Encoding) (rest left : Rest) (found : Pages) (so_far : PagesSoFar t e rest left found) → left.at ≡ rest.at + length (flat_map (page_field e) so_far.pages)
-place_of_next t e rest left found so_far = so_far.takes.place
+pub place_of_next : (version : ℕ) (t : DataType) (e : Encoding) (rest left : Rest) (found : Pages) (so_far : PagesSoFar version t e rest left found) → left.at ≡ rest.at + length (flat_map (page_field e) so_far.pages)
+place_of_next version t e rest left found so_far = so_far.takes.place
 
 -- ---- where reading stops
 
@@ -94,9 +85,9 @@ none_first t e left none m = λ before are. record {
         none points behind may.2 (is ∙ ap (λ (k : Encoding). page_bytes k points ++ behind) may.1)
 
 -- the last point before has the end as its time, and points of a page that may follow are later
-later_points : (t : DataType) (pages : List Page) (found : Pages) (front last points : List Point) (rest_count : ℕ) (e : Encoding) (place : ℕ) → ArePagesRead t e place pages found → page_points pages ≡ front ++ last → 0 < length last
+later_points : (version : ℕ) (t : DataType) (pages : List Page) (found : Pages) (front last points : List Point) (rest_count : ℕ) (e : Encoding) (place : ℕ) → ArePagesRead version t e place pages found → page_points pages ≡ front ++ last → 0 < length last
     → 1 + rest_count ≡ length pages → AreGood t points → IsRising (last ++ points) → 1 + rest_count < max_pages → AreLaterPoints t found points
-later_points t pages found front last points rest_count e place read split some count good rising few = record {
+later_points version t pages found front last points rest_count e place read split some count good rising few = record {
   good = good;
   few = let n = count_pages e place pages found.entries.items read.say in omega (arith, n, count, few);
   later = λ first others is.
@@ -117,8 +108,8 @@ some_each t [] good = tt
 some_each t (p ∷ ps) good = (good.0.0.some, some_each t ps good.1)
 
 -- behind pages stands no later one
-pub none_later : (t : DataType) (e : Encoding) (rest left : Rest) (found : Pages) → PagesSoFar t e rest left found → BeginsWithMark 80 left.bytes.now → BeginsWithNone (page_bytes e) (AreLaterPoints t found) left.bytes.now → (m : List ℕ) → StopsBehind (FilePart.Chunk m t e) rest left.at
-none_later t e rest left found so_far mark none m = λ before are.
+pub none_later : (version : ℕ) (t : DataType) (e : Encoding) (rest left : Rest) (found : Pages) → PagesSoFar version t e rest left found → BeginsWithMark 80 left.bytes.now → BeginsWithNone (page_bytes e) (AreLaterPoints t found) left.bytes.now → (m : List ℕ) → StopsBehind (FilePart.Chunk m t e) rest left.at
+none_later version t e rest left found so_far mark none m = λ before are.
     let pages = so_far.pages in
     let r = so_far.read in
     let each : AllByRecursion (λ (p : Page). All IsInRange p.points) so_far.pages = of_each_page so_far.pages r.ranges in
@@ -147,12 +138,12 @@ none_later t e rest left found so_far mark none m = λ before are.
     both_of t (p ∷ ps) a b = ((a.0, b.0), both_of t ps a.1 b.1)
 
     next_of : (t : DataType) (e : Encoding) (place : ℕ) (pages : List Page) (found : Pages) (front last : List Point) (rest : List FilePart) (bytes : List ℕ) → BeginsWithMark 80 bytes → BeginsWithNone (page_bytes e) (AreLaterPoints t found) bytes
-        → ArePagesRead t e place pages found → page_points pages ≡ front ++ last → 0 < length last → 1 + page_count rest ≡ length pages
+        → ArePagesRead version t e place pages found → page_points pages ≡ front ++ last → 0 < length last → 1 + page_count rest ≡ length pages
         → (part : FilePart) (behind : List ℕ) → MayFollow (FilePart.Page t e last ∷ rest) part → bytes ≡ part_field part ++ behind → ⊥
     next_of t e place pages found front last rest bytes mark none read split some count (FilePart.Group device) behind may is = other_part 80 71 bytes mark.0 (plain_text device ++ behind) (λ same. absurd (omega (arith, same))) mark.1 is
     next_of t e place pages found front last rest bytes mark none read split some count (FilePart.Chunk name kind form) behind may is = other_part 80 67 bytes mark.0 _ (λ same. absurd (omega (arith, same))) mark.1 is
     next_of t e place pages found front last rest bytes mark none read split some count (FilePart.Page kind form points) behind may is =
-        none points behind (later_points t pages found front last points (page_count rest) e place read split some count may.2 may.3 may.4) (is ∙ ap (λ (k : Encoding). page_bytes k points ++ behind) may.1)
+        none points behind (later_points version t pages found front last points (page_count rest) e place read split some count may.2 may.3 may.4) (is ∙ ap (λ (k : Encoding). page_bytes k points ++ behind) may.1)
 
 -- a part that cannot be read, where reading then stops
 pub stop : {A B T : Type 0} (spelling : A → List ℕ) (IsIt : A → Type 0) (left : Rest) (view : B → A) (fault : FieldFault) (answer : ReadFault) (at : ℕ) (Is : T → Type 0) (Stop : ℕ → Type 0)

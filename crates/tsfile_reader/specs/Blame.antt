@@ -8,7 +8,7 @@ use Rattle.tsdb_index.specs.declared.pointer.Pointer.{Pointer}
 use Rattle.tsdb_base.specs.Limits.{max_leaf_entries}
 use Rattle.tsdb_pages.specs.declared.tree.Group.{Group}
 use Rattle.tsdb_pages.specs.declared.tree.Tree.{Tree}
-use Rattle.tsdb_pages.specs.File.{AreEntriesIn, IsFile, group_field, head}
+use Rattle.tsdb_pages.specs.File.{AreEntriesIn, HasSums, IsFile, group_field, head_length, version_in}
 use Rattle.tsdb_pages.specs.Trees.{HasParts, IsBefore, IsGroup, IsMade, IsTree, chunks_of}
 use Rattle.tsdb_path.specs.Nodes.{IsPath}
 use Rattle.tsfile_reader.specs.Meta.{IsMetaOf}
@@ -17,7 +17,7 @@ use Rattle.tsfile_reader.specs.Parts.{AreParts, MayEnd, MayFollow, FilePart, par
 
 -- the bytes between the head and the first leaf, which stands at this place
 abbrev pub data_in : ℕ → List ℕ → List ℕ
-data_in place bytes = between (length head) place bytes
+data_in place bytes = between head_length place bytes
 
 -- From a place on these bytes begin with parts, each of which may stand behind those before it. Behind them, at this
 -- place, stands no part that may, nor may the parts end there.
@@ -38,11 +38,12 @@ pub record AreGroups (groups : List Group) : Type 0 where
   pub devices : All (λ group. IsPath group.device) groups
   pub chunks : All HasParts (chunks_of groups)
 
--- the bytes behind the head are the groups of the tree, of which an index says this
-pub record HasGroups (bytes : List ℕ) (tree : Tree) (said : List IndexEntry) : Type 0 where
+-- the bytes behind the head are the groups of the tree, of which an index of the version says this
+pub record HasGroups (version : ℕ) (bytes : List ℕ) (tree : Tree) (said : List IndexEntry) : Type 0 where
   pub good : AreGroups tree.groups
   pub bytes_are : bytes ≡ flat_map group_field tree.groups
   pub say : AreEntriesIn tree said
+  pub sums : All (HasSums version) said
 
 -- the first so many entries are the same in both lists, and behind them one list ends or the next entries differ
 pub record AreAlike (entries said : List IndexEntry) (count : ℕ) : Type 0 where
@@ -74,11 +75,11 @@ pub data IsBlamed (bytes : List ℕ) : ℕ → Type 0 where
   -- a group, a chunk or a page between the head and the first leaf
   part : (root place : ℕ) (pointers : List Pointer) (entries : List IndexEntry)
       → HasOutline bytes root place pointers entries
-      → (at : ℕ) → IsFirstBadPart (length head) (data_in place bytes) at → IsBlamed bytes at
+      → (at : ℕ) → IsFirstBadPart head_length (data_in place bytes) at → IsBlamed bytes at
   -- a leaf whose entries are not what the groups say
   leaf : (root place : ℕ) (pointers : List Pointer) (entries : List IndexEntry)
       → HasOutline bytes root place pointers entries
-      → (tree : Tree) (said : List IndexEntry) → HasGroups (data_in place bytes) tree said
+      → (tree : Tree) (said : List IndexEntry) → HasGroups (version_in bytes) (data_in place bytes) tree said
       → (at : ℕ) → IsFirstWrongLeaf pointers entries said at → IsBlamed bytes at
 
 -- no tree has this file

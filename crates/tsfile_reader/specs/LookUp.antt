@@ -2,9 +2,10 @@
 use Rattle.std.specs.Prelude.{◌≡◌, ℕ, List, Contains, Option, None, Some}
 use Rattle.tsdb_index.specs.declared.index.IndexEntry.{IndexEntry}
 use Rattle.tsdb_index.specs.declared.pointer.Pointer.{Pointer}
-use Rattle.tsdb_index.specs.Entries.{names_of}
+use Rattle.tsdb_index.specs.Entries.{IsEntry, names_of}
 use Rattle.tsdb_index.specs.Finding.{AreBehind, IsEntryFor, IsLeafFor}
 use Rattle.tsdb_index.specs.Parts.{IsLeaf, leaf_end}
+use Rattle.tsdb_pages.specs.File.{HasSums, version_in}
 use Rattle.tsdb_pages.specs.declared.tree.Chunk.{Chunk}
 use Rattle.tsdb_pages.specs.declared.tree.Group.{Group}
 use Rattle.tsdb_pages.specs.declared.tree.Tree.{Tree}
@@ -23,7 +24,8 @@ pub data IsLookedUp (bytes : List ℕ) (names : List ℕ × List ℕ) : Option I
   -- the leaf that may have the names has this of them
   in_leaf : (root place : ℕ) (pointers : List Pointer) → HasFront bytes root place pointers
       → (pointer : Pointer) (behind : List Pointer) → IsLeafFor names pointers pointer behind
-      → (entries : List IndexEntry) → IsLeaf pointer behind (leaf_bytes root pointer behind bytes) entries
+      → (entries : List IndexEntry)
+      → IsLeaf (version_in bytes) pointer behind (leaf_bytes root pointer behind bytes) entries
       → (found : Option IndexEntry) → IsEntryFor names entries found → IsLookedUp bytes names found
 
 -- The first of the parts that a look-up takes that is not as defined begins at this place.
@@ -33,11 +35,17 @@ pub data IsBadLookUp (bytes : List ℕ) (names : List ℕ × List ℕ) : ℕ →
   -- the leaf that may have the names
   no_leaf : (root place : ℕ) (pointers : List Pointer) → HasFront bytes root place pointers
       → (pointer : Pointer) (behind : List Pointer) → IsLeafFor names pointers pointer behind
-      → ((entries : List IndexEntry) → IsLeaf pointer behind (leaf_bytes root pointer behind bytes) entries → ⊥)
+      → ((entries : List IndexEntry)
+      → IsLeaf (version_in bytes) pointer behind (leaf_bytes root pointer behind bytes) entries → ⊥)
       → (at : ℕ) → at ≡ pointer.place → IsBadLookUp bytes names at
 
--- the entry of the tree's index that has the names, or none where no chunk of the tree has them
-abbrev pub IsEntryInTree : Tree → List ℕ × List ℕ → Option IndexEntry → Type 0
-IsEntryInTree tree names None = (group : Group) (chunk : Chunk) → Contains tree.groups group
+-- the entry of the tree's index in this version that has the names, or none where no chunk of the tree has them
+abbrev pub IsEntryInTree : ℕ → Tree → List ℕ × List ℕ → Option IndexEntry → Type 0
+IsEntryInTree version tree names None = (group : Group) (chunk : Chunk) → Contains tree.groups group
     → Contains group.chunks chunk → group.device ≡ names.0 → chunk.measurement ≡ names.1 → ⊥
-IsEntryInTree tree names (Some entry) = IsEntryOf tree entry × (names_of entry ≡ names)
+IsEntryInTree version tree names (Some entry) =
+    IsEntryOf tree entry × (names_of entry ≡ names) × HasSums version entry
+
+-- an entry as an index of some version has it, also where the file does not tell its bytes
+abbrev pub IsFormedEntry : IndexEntry → Type 0
+IsFormedEntry entry = (version : ℕ) × IsEntry version entry

@@ -5,7 +5,8 @@ use Rattle.tsdb_index.specs.declared.index.IndexEntry.{IndexEntry}
 use Rattle.tsdb_index.specs.declared.pointer.Pointer.{Pointer}
 use Rattle.tsdb_index.specs.Faults.{IsIndexRead}
 use Rattle.tsdb_index.specs.Parts.{IsFirstBadLeaf, IsRoot}
-use Rattle.tsdb_pages.specs.File.{head, magic}
+use Rattle.tsdb_index.specs.Versions.{IsVersion}
+use Rattle.tsdb_pages.specs.File.{head, head_length, magic, version_in}
 
 -- the fewest bytes that a head and a tail have together
 abbrev pub least_length : ℕ
@@ -22,7 +23,7 @@ between from to bytes = take (to - from) (drop from bytes)
 -- these bytes are the tail of a file of so many bytes: the place of the root, behind the head and in the file, and
 -- `TsFile`
 pub record IsTail (size : ℕ) (bytes : List ℕ) (root : ℕ) : Type 0 where
-  pub behind_head : length head ≤ root
+  pub behind_head : head_length ≤ root
   pub inside : root < size
   pub bytes_are : bytes ≡ number64 root ++ magic
 
@@ -30,18 +31,19 @@ pub record IsTail (size : ℕ) (bytes : List ℕ) (root : ℕ) : Type 0 where
 abbrev pub HasTail : List ℕ → ℕ → Type 0
 HasTail bytes root = IsTail (length bytes) (drop (tail_place bytes) bytes) root
 
--- the file begins with a head
+-- the file begins with a head of one of the versions
 abbrev pub HasHead : List ℕ → Type 0
-HasHead bytes = take (length head) bytes ≡ head
+HasHead bytes = IsVersion (version_in bytes) × (take head_length bytes ≡ head (version_in bytes))
 
 -- from the root's place to the tail stands a root with these pointers, the first one at this place behind the head
 pub record HasRoot (bytes : List ℕ) (root place : ℕ) (pointers : List Pointer) : Type 0 where
-  pub behind_head : length head ≤ place
+  pub behind_head : head_length ≤ place
   pub is : IsRoot place root (between root (tail_place bytes) bytes) pointers
 
--- from the place of the first leaf to the tail stands an index with these entries
+-- from the place of the first leaf to the tail stands an index of the file's version with these entries
 abbrev pub HasIndex : List ℕ → ℕ → ℕ → List IndexEntry → Type 0
-HasIndex bytes root place entries = IsIndexRead place root (between place (tail_place bytes) bytes) entries
+HasIndex bytes root place entries =
+    IsIndexRead (version_in bytes) place root (between place (tail_place bytes) bytes) entries
 
 -- all of these parts are as defined
 pub record HasOutline (bytes : List ℕ) (root place : ℕ) (pointers : List Pointer)
@@ -78,4 +80,5 @@ pub data IsBadOutline (bytes : List ℕ) : ℕ → Type 0 where
   -- at this place, which the root gives, stands no leaf, and at those before it one does
   no_leaf : least_length ≤ length bytes → (root : ℕ) → HasTail bytes root → HasHead bytes
       → (place : ℕ) (pointers : List Pointer) → HasRoot bytes root place pointers
-      → (at : ℕ) → IsFirstBadLeaf root pointers (between place root bytes) at → IsBadOutline bytes at
+      → (at : ℕ) → IsFirstBadLeaf (version_in bytes) root pointers (between place root bytes) at
+      → IsBadOutline bytes at

@@ -17,7 +17,8 @@ use Rattle.tsdb_index.specs.Parts.{IsRoot}
 use Rattle.tsdb_index.specs.declared.marks.TheConstants.{PAGE}
 use Rattle.tsdb_pages.specs.declared.tree.Chunk.{Chunk}
 use Rattle.tsdb_pages.specs.declared.tree.Page.{Page}
-use Rattle.tsdb_pages.specs.File.{ArePageEntries, AreEntries, IsChunkEntry, chunk_field, head, page_field}
+use Rattle.tsdb_pages.specs.File.{ArePageEntries, AreEntries, HasSum, HasSums, IsChunkEntry, chunk_field, page_field}
+use Rattle.tsdb_pages.specs.File.{version_in}
 use Rattle.tsdb_base.specs.Points.{IsRising}
 use Rattle.tsdb_pages.specs.Pages.{ArePoints, IsInRange}
 use Rattle.tsdb_pages.specs.Trees.{HasParts, IsBefore, IsChunk, page_points}
@@ -77,9 +78,9 @@ pub record StopsAt (before : List FilePart) (left : Rest) (at : ℕ) : Type 0 wh
 abbrev pub StopsBehind : FilePart → Rest → ℕ → Type 0
 StopsBehind part left at = (before : List FilePart) → AreParts (part ∷ before) → StopsAt (part ∷ before) left at
 
--- this is read of pages of one chunk, of which the first stands at this place
-pub record ArePagesRead (data_type : DataType) (encoding : Encoding) (place : ℕ) (pages : List Page) (found : Pages)
-    : Type 0 where
+-- this is read of pages of one chunk in a file of the version, of which the first stands at this place
+pub record ArePagesRead (version : ℕ) (data_type : DataType) (encoding : Encoding) (place : ℕ) (pages : List Page)
+    (found : Pages) : Type 0 where
   pub some : 0 < length pages
   pub few : length pages ≤ max_pages
   pub good : All (λ page. ArePoints data_type page.points) pages
@@ -87,6 +88,8 @@ pub record ArePagesRead (data_type : DataType) (encoding : Encoding) (place : �
   pub rising : IsRising (page_points pages)
   pub stats : AreStatsOf (page_points pages) found.stats
   pub say : ArePageEntries encoding place pages found.entries.items
+  pub sum : HasSum version data_type found.stats
+  pub sums : All (λ entry. HasSum version data_type entry.stats) found.entries.items
 
 -- points of a page that may stand behind these pages
 pub record AreLaterPoints (data_type : DataType) (before : Pages) (points : List Point) : Type 0 where
@@ -99,15 +102,16 @@ abbrev pub IsLaterHead : List ℕ → ChunkHead → Type 0
 IsLaterHead last head = IsChunkHead head × IsBefore last head.measurement
 
 -- all pages of a chunk are read
-pub record ReadsPages (data_type : DataType) (encoding : Encoding) (left behind : Rest) (found : Pages) : Type 0 where
+pub record ReadsPages (version : ℕ) (data_type : DataType) (encoding : Encoding) (left behind : Rest) (found : Pages)
+    : Type 0 where
   pub pages : List Page
-  pub read : ArePagesRead data_type encoding left.at pages found
+  pub read : ArePagesRead version data_type encoding left.at pages found
   pub takes : TakesBytes left (flat_map (page_field encoding) pages) behind
   pub ends : BeginsWithMark PAGE behind.bytes.now → ⊥
 
 -- all pages of a chunk with this head are read, which stands at this place
-pub record ReadsChunk (device : List ℕ) (head : ChunkHead) (place : ℕ) (left behind : Rest) (entry : IndexEntry)
-    : Type 0 where
+pub record ReadsChunk (version : ℕ) (device : List ℕ) (head : ChunkHead) (place : ℕ) (left behind : Rest)
+    (entry : IndexEntry) : Type 0 where
   pub chunk : Chunk
   pub measurement_is : chunk.measurement ≡ head.measurement
   pub type_is : chunk.data_type ≡ head.data_type
@@ -115,21 +119,24 @@ pub record ReadsChunk (device : List ℕ) (head : ChunkHead) (place : ℕ) (left
   pub good : IsChunk chunk
   pub parts : HasParts chunk
   pub say : IsChunkEntry device place chunk entry
+  pub sums : HasSums version entry
   pub takes : TakesBytes left (flat_map (page_field chunk.encoding) chunk.pages) behind
   pub ends : BeginsWithMark PAGE behind.bytes.now → ⊥
 
 -- this is read of chunks of one group, of which the first stands at this place
-pub record AreChunksRead (device : List ℕ) (place : ℕ) (chunks : List Chunk) (entries : List IndexEntry) : Type 0 where
+pub record AreChunksRead (version : ℕ) (device : List ℕ) (place : ℕ) (chunks : List Chunk) (entries : List IndexEntry)
+    : Type 0 where
   pub some : 0 < length chunks
   pub good : All IsChunk chunks
   pub parts : All HasParts chunks
   pub rising : AllPairs (λ a b. IsBefore a.measurement b.measurement) chunks
   pub say : AreEntries device place chunks entries
+  pub sums : All (HasSums version) entries
 
 -- all chunks of a group are read
-pub record ReadsChunks (device : List ℕ) (left behind : Rest) (entries : List IndexEntry) : Type 0 where
+pub record ReadsChunks (version : ℕ) (device : List ℕ) (left behind : Rest) (entries : List IndexEntry) : Type 0 where
   pub chunks : List Chunk
-  pub read : AreChunksRead device left.at chunks entries
+  pub read : AreChunksRead version device left.at chunks entries
   pub takes : TakesBytes left (flat_map chunk_field chunks) behind
   pub no_page : BeginsWithMark PAGE behind.bytes.now → ⊥
   pub no_chunk : BeginsWithMark 67 behind.bytes.now → ⊥
@@ -140,11 +147,13 @@ pub record HasFileEnds (bytes : List ℕ) (ends : Ends) : Type 0 where
   pub long : least_length ≤ length bytes
   pub tail : HasTail bytes ends.root
   pub starts : HasHead bytes
+  pub version_is : ends.version ≡ version_in bytes
 
 -- the file has this length, tail, head and root
 abbrev pub IsFrontIn : List ℕ → Front → Type 0
 IsFrontIn bytes front = (front.ends.size ≡ length bytes)
     × HasFront bytes front.ends.root front.root.place front.root.pointers.items
+    × (front.ends.version ≡ version_in bytes)
 
 -- the pointers are those of a root, also where the file does not tell its bytes
 abbrev pub HasSomeRoot : Front → Type 0
@@ -154,6 +163,7 @@ HasSomeRoot front = (bytes : List ℕ) × IsRoot front.root.place front.ends.roo
 abbrev pub IsOutlineIn : List ℕ → Ends → ℕ → List Pointer → Index → Type 0
 IsOutlineIn bytes ends place pointers index =
     (ends.size ≡ length bytes) × HasOutline bytes ends.root place pointers index.entries
+    × (ends.version ≡ version_in bytes)
 
 -- these bytes, which begin with a page's first five, say that the page has so many
 abbrev pub SaysSize : List ℕ → ℕ → Type 0

@@ -3,11 +3,12 @@ ghost use Rattle.std.specs.Prelude.{◌<◌, ◌≤◌, ◌^◌};
 
 use tsdb_index::{Index, Pointer};
 
-/// Where a file ends, and where its root begins.
+/// Where a file ends, where its root begins, and the version that its head says.
 #[derive(Clone, Copy)]
 pub struct Ends {
     pub size: u64,
     pub root: u64,
+    pub version: u8,
     pub ghost long: { 21 ≤ size },
     pub ghost inside: { root < size },
     pub ghost limit: { size < 2 ^ 63 },

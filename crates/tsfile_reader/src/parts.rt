@@ -1,14 +1,18 @@
 //! Groups, chunks and pages from the left, and what an index says of them. Depends on `page`, `fault`, tsdb_stats and
 //! tsdb_index.
-ghost use Rattle.std.specs.Prelude.{◌≡◌, ℕ, ◌<◌, ◌+◌, ◌^◌, [], ◌∷◌, ◌++◌, List, true, length, IfOk, OnOk};
+ghost use Rattle.std.specs.Prelude.{◌≡◌, ℕ, ◌<◌, ◌+◌, [], ◌∷◌, ◌++◌, List, None, true, length, IfOk, OnOk};
+ghost use Rattle.std.specs.Prelude.{if◌then◌else◌};
 ghost use Rattle.std.specs.List.{flat_map};
 ghost use Rattle.tsdb_base.specs.declared.value.DataType.{DataType as Kind};
 ghost use Rattle.tsdb_base.specs.declared.value.Encoding.{Encoding as Form};
 ghost use Rattle.tsdb_base.specs.Values.{is_suitable};
 ghost use Rattle.tsdb_fields.specs.Reading.{ReadsParts};
+ghost use Rattle.tsdb_index.specs.Versions.{has_sums as sums};
+ghost use Rattle.tsdb_stats.specs.Folds.{sum_of};
+ghost use Rattle.tsdb_stats.specs.Statistics.{AreStatsOf};
 ghost use Rattle.tsdb_pages.specs.declared.tree.Page.{Page};
 ghost use Rattle.tsdb_pages.specs.declared.tree.Tree.{Tree};
-ghost use Rattle.tsdb_pages.specs.File.{head as head_bytes, page_bytes, page_field};
+ghost use Rattle.tsdb_pages.specs.File.{head_length, page_bytes, page_field};
 ghost use Rattle.tsdb_path.specs.Nodes.{IsPath};
 ghost use Rattle.tsdb_pages.specs.Trees.{IsBefore};
 ghost use Rattle.tsfile_reader.specs.Blame.{HasGroups, IsFirstBadPart};
@@ -26,9 +30,9 @@ use tsdb_base::limits::MAX_PAGES;
 use tsdb_base::{DataType, Encoding, List, Memory, Point, Stats};
 use tsdb_fields::{FieldFault, Rest};
 use tsdb_index::marks::{CHUNK, PAGE};
-use tsdb_index::{IndexEntry, PageEntry};
+use tsdb_index::{IndexEntry, PageEntry, has_sums};
 use tsdb_path::{Name, Path};
-use tsdb_stats::{join, stats_of};
+use tsdb_stats::{join_whole, stats_of};
 
 /// What an index says of pages that stand one behind another, and the statistics of all their points.
 #[derive(Drop)]
@@ -37,33 +41,46 @@ struct Pages {
     stats: Stats,
 }
 
+/// The statistics of points, as a file of the version has them.
+fn stats_in(version: u8, points: &[Point]) -> Result<Stats, Memory>
+    requires { 0 < length points.now }
+    ensures found { IfOk result (AreStatsOf points.now) }
+    ensures sum { IfOk result (λ stats. stats.sum ≡ (if sums version then sum_of points.now else None)) }
+{
+    let mut stats = stats_of(points)?;
+    if !has_sums(version) {
+        stats.sum = None;
+    }
+    Ok(stats)
+}
+
 /// One page, which stands at this place.
-fn first_page(alloc: Global, place: u64, points: &[Point]) -> Result<Pages, Memory>
+fn first_page(alloc: Global, version: u8, place: u64, points: &[Point]) -> Result<Pages, Memory>
     requires { 0 < length points.now }
     ensures { IfOk result (λ found. (data_type : Kind) (encoding : Form) (page : Page) → page.points ≡ points.now
-        → AreGood data_type points.now → ArePagesRead data_type encoding place (page ∷ []) found) }
+        → AreGood data_type points.now → ArePagesRead version data_type encoding place (page ∷ []) found) }
 {
+    let stats = stats_in(version, points)?;
     let entry = PageEntry {
         place,
-        stats: stats_of(points)?,
+        stats: stats.copy()?,
     };
     Ok(Pages {
         entries: vec![in alloc; entry]?,
-        stats: stats_of(points)?,
+        stats,
     })
 }
 
 /// Adds a page that stands at this place.
-fn add_page(place: u64, points: &[Point], pages: &mut Pages) -> Result<(), Memory>
+fn add_page(version: u8, place: u64, points: &[Point], pages: &mut Pages) -> Result<(), Memory>
     requires some { 0 < length points.now }
-    requires room { pages.old.stats.count + length points.now < 2 ^ 64 }
     ensures { OnOk result ((data_type : Kind) (encoding : Form) (from : ℕ) (before : List Page) (page : Page)
-        → page.points ≡ points.now → ArePagesRead data_type encoding from before pages.old
+        → page.points ≡ points.now → ArePagesRead version data_type encoding from before pages.old
         → AreLaterPoints data_type pages.old points.now → place ≡ from + length (flat_map (page_field encoding) before)
-        → ArePagesRead data_type encoding from (before ++ page ∷ []) pages.new) }
+        → ArePagesRead version data_type encoding from (before ++ page ∷ []) pages.new) }
 {
-    let stats = stats_of(points)?;
-    pages.stats = join(&pages.stats, &stats)?;
+    let stats = stats_in(version, points)?;
+    pages.stats = join_whole(&pages.stats, &stats)?;
     pages.entries.push(PageEntry { place, stats })?;
     Ok(())
 }
@@ -88,27 +105,28 @@ fn read_next_page<'a>(
     Ok((points, behind))
 }
 
-/// Reads the pages of a chunk.
+/// Reads the pages of a chunk in a file of the version.
 fn read_pages<'a>(
     alloc: Global,
+    version: u8,
     data_type: DataType,
     encoding: Encoding,
     rest: Rest<'a>,
 ) -> Result<(Pages, Rest<'a>), ReadFault>
     requires suits { is_suitable data_type encoding ≡ true }
-    ensures { ReadsOrStops (λ r. ReadsPages data_type encoding rest.entry r.1 r.0)
+    ensures { ReadsOrStops (λ r. ReadsPages version data_type encoding rest.entry r.1 r.0)
         (λ at. (measurement : List ℕ) → StopsBehind (FilePart.Chunk measurement data_type encoding) rest.entry at) result }
 {
     let (points, behind) = match read_marked_page(alloc, data_type, encoding, rest) {
         Ok(read) => read,
         Err(fault) => return Err(ReadFault::of_part(fault, rest.at)),
     };
-    let mut pages = first_page(alloc, rest.at, &points)?;
+    let mut pages = first_page(alloc, version, rest.at, &points)?;
     let mut left = behind;
     'pages: while begins_with_mark(PAGE, left) {
         match read_next_page(alloc, data_type, encoding, &pages, left) {
             Ok((points, behind)) => {
-                add_page(left.at, &points, &mut pages)?;
+                add_page(version, left.at, &points, &mut pages)?;
                 left = behind;
             }
             Err(fault) => return Err(ReadFault::of_part(fault, left.at)),
@@ -120,6 +138,7 @@ fn read_pages<'a>(
 /// Reads the pages of the chunk with this head, which stands at this place.
 fn read_chunk<'a>(
     alloc: Global,
+    version: u8,
     device: &Path,
     head: ChunkHead,
     place: u64,
@@ -127,10 +146,10 @@ fn read_chunk<'a>(
 ) -> Result<(IndexEntry, Rest<'a>), ReadFault>
     requires head { IsChunkHead head }
     requires behind { rest.at ≡ place + length (part_field (chunk_part head)) }
-    ensures { ReadsOrStops (λ r. ReadsChunk device.now head place rest.entry r.1 r.0)
+    ensures { ReadsOrStops (λ r. ReadsChunk version device.now head place rest.entry r.1 r.0)
         (StopsBehind (chunk_part head) rest.entry) result }
 {
-    let (pages, behind) = read_pages(alloc, head.data_type, head.encoding, rest)?;
+    let (pages, behind) = read_pages(alloc, version, head.data_type, head.encoding, rest)?;
     let entry = IndexEntry {
         device: device.copy()?,
         measurement: head.measurement,
@@ -162,17 +181,18 @@ fn read_next_head<'a>(
 /// Reads the chunks of a group.
 fn read_chunks<'a>(
     alloc: Global,
+    version: u8,
     device: &Path,
     rest: Rest<'a>,
 ) -> Result<(Vec<IndexEntry>, Rest<'a>), ReadFault>
-    ensures { ReadsOrStops (λ r. ReadsChunks device.now rest.entry r.1 r.0.items)
+    ensures { ReadsOrStops (λ r. ReadsChunks version device.now rest.entry r.1 r.0.items)
         (StopsBehind (FilePart.Group device.now) rest.entry) result }
 {
     let (head, behind) = match read_chunk_head(alloc, rest) {
         Ok(read) => read,
         Err(fault) => return Err(ReadFault::of_part(fault, rest.at)),
     };
-    let (entry, behind) = read_chunk(alloc, device, head, rest.at, behind)?;
+    let (entry, behind) = read_chunk(alloc, version, device, head, rest.at, behind)?;
     let mut entries = vec![in alloc; entry]?;
     let mut left = behind;
     'chunks: while begins_with_mark(CHUNK, left) {
@@ -181,7 +201,7 @@ fn read_chunks<'a>(
             Ok(read) => read,
             Err(fault) => return Err(ReadFault::of_part(fault, left.at)),
         };
-        let (entry, behind) = read_chunk(alloc, device, head, left.at, behind)?;
+        let (entry, behind) = read_chunk(alloc, version, device, head, left.at, behind)?;
         entries.push(entry)?;
         left = behind;
     }
@@ -204,23 +224,27 @@ fn read_next_group<'a>(
     Ok((device, behind))
 }
 
-/// What an index says of the groups that all of these bytes are.
-pub fn read_groups<'a>(alloc: Global, rest: Rest<'a>) -> Result<Vec<IndexEntry>, ReadFault>
-    requires { rest.at ≡ length head_bytes }
-    ensures { ReadsOrStops (λ entries. (tree : Tree) × HasGroups rest.entry.bytes.now tree entries.items)
-        (IsFirstBadPart (length head_bytes) rest.entry.bytes.now) result }
+/// What an index of the version says of the groups that all of these bytes are.
+pub fn read_groups<'a>(
+    alloc: Global,
+    version: u8,
+    rest: Rest<'a>,
+) -> Result<Vec<IndexEntry>, ReadFault>
+    requires { rest.at ≡ head_length }
+    ensures { ReadsOrStops (λ entries. (tree : Tree) × HasGroups version rest.entry.bytes.now tree entries.items)
+        (IsFirstBadPart head_length rest.entry.bytes.now) result }
 {
     let (mut last, behind) = match read_group_head(alloc, rest) {
         Ok(read) => read,
         Err(fault) => return Err(ReadFault::of_part(fault, rest.at)),
     };
-    let (mut entries, mut left) = read_chunks(alloc, &last, behind)?;
+    let (mut entries, mut left) = read_chunks(alloc, version, &last, behind)?;
     'groups: while !left.bytes.is_empty() {
         let (device, behind) = match read_next_group(alloc, &last, left) {
             Ok(read) => read,
             Err(fault) => return Err(ReadFault::of_part(fault, left.at)),
         };
-        let (mut more, behind) = read_chunks(alloc, &device, behind)?;
+        let (mut more, behind) = read_chunks(alloc, version, &device, behind)?;
         entries.append(&mut more)?;
         last = device;
         left = behind;

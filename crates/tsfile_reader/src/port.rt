@@ -8,7 +8,7 @@ ghost use Rattle.tsfile_reader.specs.Steps.{HasFileEnds, HasSomeRoot, IsFrontIn,
 
 use crate::ends::{Ends, Front, Outline};
 use crate::fault::ReadFault;
-use crate::outline::{HEAD_BYTES, TAIL_BYTES, is_head, root_in, root_in_tail};
+use crate::outline::{HEAD_BYTES, TAIL_BYTES, root_in, root_in_tail, version_of};
 use std::alloc::Global;
 use tsdb_base::List;
 use tsdb_index::Index;
@@ -54,10 +54,14 @@ fn read_ends<P: Port>(alloc: Global, port: &mut P, right: &P::Right) -> Result<E
         Err(fault) => return Err(ReadFault::of_part(fault, size - TAIL_BYTES)),
     };
     let head = read_part(alloc, port, right, 0, HEAD_BYTES)?;
-    if !is_head(&head) {
+    let Some(version) = version_of(&head) else {
         return Err(ReadFault::Damaged { at: 0 });
-    }
-    Ok(Ends { size, root })
+    };
+    Ok(Ends {
+        size,
+        root,
+        version,
+    })
 }
 
 /// Reads the root of a file with these ends.
@@ -122,7 +126,8 @@ fn read_leaves<P: Port>(
 {
     let (place, root) = (front.root.place, front.ends.root);
     let bytes = read_part(alloc, port, right, place, root - place)?;
-    match tsdb_index::read_leaves(alloc, &bytes, &front.root.pointers, root) {
+    let version = front.ends.version;
+    match tsdb_index::read_leaves(alloc, &bytes, version, &front.root.pointers, root) {
         Ok(entries) => Ok(Index {
             entries: List::of(entries),
         }),

@@ -42,7 +42,7 @@ const POINT_BYTES: u64 = 24;
 
 const OTHER_BYTES: u64 = 64;
 
-/// Reads the length and the index of a file, by its tail, head, root and leaves alone.
+/// Reads the length, the version and the index of a file, by its tail, head, root and leaves alone.
 pub fn read_meta<P: Port>(
     alloc: Global,
     port: &mut P,
@@ -58,6 +58,7 @@ pub fn read_meta<P: Port>(
     let outline = read_outline(alloc, port, right)?;
     Ok(FileMeta {
         size: outline.ends.size,
+        version: outline.ends.version,
         index: outline.index,
     })
 }
@@ -257,13 +258,14 @@ pub fn check_file<P: Port>(
         at: HEAD_BYTES,
         bytes: &data,
     };
-    let said = read_groups(alloc, rest)?;
+    let said = read_groups(alloc, outline.ends.version, rest)?;
     if let Some(leaf) = wrong_leaf(outline.index.entries.items(), &said) {
         let at = leaf_place(&outline, leaf);
         return Err(ReadFault::Damaged { at });
     }
     Ok(FileMeta {
         size: outline.ends.size,
+        version: outline.ends.version,
         index: outline.index,
     })
 }

@@ -36,6 +36,7 @@ fn are_same_stats(stats: &Stats, other: &Stats) -> bool
         && is_same_value(&stats.last, &other.last)
         && is_same_extreme(&stats.least, &other.least)
         && is_same_extreme(&stats.greatest, &other.greatest)
+        && stats.sum == other.sum
 }
 
 fn is_same_page(page: &PageEntry, other: &PageEntry) -> bool

@@ -38,7 +38,7 @@ returns-in_err-entries-clause-answers g c =
     let p = err_from_is_err_and c.from_residual-in_err-entries.result c.from_residual-in_err-entries.ensures.1 in
     let e = c.in_err-entries in
     let s = c.in-Some in
-    let bad = leaf_refused {T = Vec IndexEntry Global} {S = Option IndexEntry} (λ bytes entries. IsLeaf c.in-Some.pointer.now c.in-Some.behind.now (leaf_bytes c.in_ok-front.front.ends.root c.in-Some.pointer.now c.in-Some.behind.now bytes) entries.items)
+    let bad = leaf_refused {T = Vec IndexEntry Global} {S = Option IndexEntry} (λ bytes entries. IsLeaf c.in_ok-front.front.ends.version c.in-Some.pointer.now c.in-Some.behind.now (leaf_bytes c.in_ok-front.front.ends.root c.in-Some.pointer.now c.in-Some.behind.now bytes) entries.items)
     (λ bytes. IsLookedUp bytes (c.args.device.now, c.args.measurement.now)) (g.P.Right.ReadRight.file c.args.right.now).bytes c.in_ok-front.front (c.args.device.now, c.args.measurement.now) c.deref.result.now s.pointer.now s.behind.now e.field-0.0 c.deref.ensures.value c.in_ok-front.ensures.answers s.ensures e.ensures.answers in
     rw (p.1, p.2) bad
 
@@ -62,7 +62,7 @@ read_one_leaf-requires-clause-to g c =
     λ lifetimes lives. (leaf_bounds c.in_ok-front.front (c.args.device.now, c.args.measurement.now) c.deref.result.now c.in-Some.pointer.now c.in-Some.behind.now c.deref.ensures.value c.in_ok-front.ensures.root c.in-Some.ensures).to
 
 pub returns-clause-formed : goal.returns-clause-formed
-returns-clause-formed g c = entry_formed (c.args.device.now, c.args.measurement.now) c.in_ok-entries.entries.items c.entry_for.result c.entry_for.ensures c.in_ok-entries.ensures.formed
+returns-clause-formed g c = entry_formed c.in_ok-front.front.ends.version (c.args.device.now, c.args.measurement.now) c.in_ok-entries.entries.items c.entry_for.result c.entry_for.ensures c.in_ok-entries.ensures.formed
 
 pub returns-clause-named : goal.returns-clause-named
 returns-clause-named g c = entry_named (c.args.device.now, c.args.measurement.now) c.in_ok-entries.entries.items c.entry_for.result c.entry_for.ensures

@@ -14,8 +14,8 @@ use Rattle.tsfile_reader.proofs.reader.check_file.Goals as goal
 abbrev Is : List ℕ → Outline → Type 0
 Is bytes outline = IsOutlineIn bytes outline.ends outline.place outline.pointers.items outline.index
 
-abbrev IsSaid : List ℕ → Vec IndexEntry Global → Type 0
-IsSaid bytes said = (tree : Tree) × HasGroups bytes tree said.items
+abbrev IsSaid : ℕ → List ℕ → Vec IndexEntry Global → Type 0
+IsSaid version bytes said = (tree : Tree) × HasGroups version bytes tree said.items
 
 pub returns-in_err-outline-clause-answers : goal.returns-in_err-outline-clause-answers
 returns-in_err-outline-clause-answers g c =
@@ -49,7 +49,7 @@ returns-in_err-said-clause-answers g c =
     let has = c.in_ok-outline.ensures.answers in
     let stretch = c.deref.result.now in
     let e = c.in_err-said in
-    let lacks = stopped o (IsSaid stretch) r.ends r.place r.pointers.items r.index stretch e.field-0.0 has (moved o r.place stretch c.in_ok-data.data.items c.deref.ensures.value c.in_ok-data.ensures.bytes) e.ensures in
+    let lacks = stopped o (IsSaid r.ends.version stretch) r.ends r.place r.pointers.items r.index stretch e.field-0.0 has (moved o r.place stretch c.in_ok-data.data.items c.deref.ensures.value c.in_ok-data.ensures.bytes) e.ensures in
     rw (p.1, p.2) lacks
 
 pub returns-in_err-said-clause-bad : goal.returns-in_err-said-clause-bad
@@ -60,7 +60,7 @@ returns-in_err-said-clause-bad g c =
     let has = c.in_ok-outline.ensures.answers in
     let stretch = c.deref.result.now in
     let e = c.in_err-said in
-    let blamed = stopped o (IsSaid stretch) r.ends r.place r.pointers.items r.index stretch e.field-0.0 has (moved o r.place stretch c.in_ok-data.data.items c.deref.ensures.value c.in_ok-data.ensures.bytes) e.ensures in
+    let blamed = stopped o (IsSaid r.ends.version stretch) r.ends r.place r.pointers.items r.index stretch e.field-0.0 has (moved o r.place stretch c.in_ok-data.data.items c.deref.ensures.value c.in_ok-data.ensures.bytes) e.ensures in
     let lacks = no_file o e.field-0.0 blamed (limited o e.field-0.0 (is_limited o r.ends r.place r.pointers.items r.index has)) in
     rw (p.1, p.2) lacks
 
@@ -72,7 +72,7 @@ returns-in_err-said-clause-tree g c =
     let has = c.in_ok-outline.ensures.answers in
     let stretch = c.deref.result.now in
     let e = c.in_err-said in
-    let blamed = stopped o (IsSaid stretch) r.ends r.place r.pointers.items r.index stretch e.field-0.0 has (moved o r.place stretch c.in_ok-data.data.items c.deref.ensures.value c.in_ok-data.ensures.bytes) e.ensures in
+    let blamed = stopped o (IsSaid r.ends.version stretch) r.ends r.place r.pointers.items r.index stretch e.field-0.0 has (moved o r.place stretch c.in_ok-data.data.items c.deref.ensures.value c.in_ok-data.ensures.bytes) e.ensures in
     let lacks = no_tree o e.field-0.0 (no_file o e.field-0.0 blamed (limited o e.field-0.0 (is_limited o r.ends r.place r.pointers.items r.index has))) in
     rw (p.1, p.2) lacks
 
