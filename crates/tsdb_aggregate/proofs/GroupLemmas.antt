@@ -12,18 +12,19 @@ use Rattle.std.proofs.lemmas.List.Sums.{sum_by-append, sum_by-cons}
 use Rattle.tsdb_base.specs.declared.answers.Aggregate.{Aggregate}
 use Rattle.tsdb_base.specs.declared.point.Point.{Point}
 use Rattle.tsdb_base.specs.declared.point.Range.{Range}
-use Rattle.tsdb_base.specs.declared.value.Value.{Value}
+use Rattle.tsdb_base.specs.declared.answers.Figure.{Figure}
 use Rattle.tsdb_model.specs.World.{is_in}
 use Rattle.tsdb_merge.specs.Winners.{HasNoneAt, IsMergeOf}
 use Rattle.tsdb_merge.proofs.MergeLemmas.{All-from_contains, All-left, All-right, Contains-head}
 use Rattle.tsdb_aggregate.specs.Loads.{Held}
-use Rattle.tsdb_aggregate.specs.Pieces.{ArePiecesApart, ArePiecesSound, HasOrder, IsCleanIn, HeldPiece, cost_in, hull, overlap, most_loads, piece_points}
-use Rattle.tsdb_aggregate.specs.Steps.{AddsWinners, End, HasTally, IsCut, IsPieceGroup, IsTally, answer_of, cost_of, held_piece, held_parts}
+use Rattle.tsdb_aggregate.specs.Pieces.{ArePiecesApart, ArePiecesSound, HasOrder, IsCleanIn, HeldPiece, cost_in, has_asked, hull, overlap, most_loads, piece_points}
+use Rattle.tsdb_aggregate.specs.Steps.{AddsWinners, End, HasTally, IsCut, IsPieceGroup, IsTally, answer_of, cost_of, held_piece, held_parts, kept_value}
 use Rattle.tsdb_aggregate.specs.Winners.{AreWinners, IsAggregate}
 use Rattle.tsdb_aggregate.specs.declared.entry.PieceEntry.{PieceEntry}
 use Rattle.tsdb_aggregate.specs.declared.tally.Tally.{Tally}
 use Rattle.tsdb_stats.specs.Statistics.{AreStatsOf}
 use Rattle.tsdb_aggregate.proofs.ListFacts.{AllPairs-left, AllPairs-right, AllPairs-map, AllPairs-of_map, AllPairs-permutation, Contains-from_drop, Contains-from_take, Contains-of_map, drop_two, take_two}
+use Rattle.tsdb_aggregate.proofs.TallyLemmas.{tally_answers}
 use Rattle.tsdb_aggregate.proofs.WinnerLemmas.{Before, IsBelow, same_filtered, same_permuted, winners_append, winners_clean, winners_of_merge, winners_of_same}
 
 -- ---- one group
@@ -63,17 +64,17 @@ winners_of_group held range group entries all perm sources apart merge =
 
 -- ---- a clean piece alone
 
-pub adds_clean : (held : List Held) (range : Range) (name : Aggregate) (group : List PieceEntry) (x : PieceEntry) (before now next : Tally) → IsPieceGroup group → ArePiecesSound range (held_parts held group)
-    → IsTrue (get_or group 0 x).piece.now.clean → ((points : List Point) → AreStatsOf points (get_or group 0 x).piece.now.stats → IsTally name points next)
+pub adds_clean : (held : List Held) (range : Range) (name : Aggregate) (group : List PieceEntry) (x : PieceEntry) (before now next : Tally) → IsPieceGroup group → ArePiecesSound name range (held_parts held group)
+    → IsTrue (get_or group 0 x).piece.now.clean → ((points : List Point) → AreStatsOf points (get_or group 0 x).piece.now.stats → IsTrue (has_asked name (get_or group 0 x).piece.now.stats) → IsTally name points next)
     → ((xs ys : List Point) → IsTally name xs before → IsTally name ys next → IsTally name (xs ++ ys) now) → AddsWinners held range name group before now
 adds_clean held range name [] x before now next some sound clean of_stats join = absurd (omega (arith, some.0))
 adds_clean held range name (y ∷ []) x before now next some sound clean of_stats join =
     let order : HasOrder (held_piece held y) = All-contains HasOrder (held_piece held y ∷ []) (held_piece held y) sound.order (Contains-head (held_piece held y) []) in
-    let own : IsCleanIn range (held_piece held y) = All-contains (λ part. IsTrue part.0.clean → IsCleanIn range part) (held_piece held y ∷ []) (held_piece held y) sound.clean (Contains-head (held_piece held y) []) clean in
+    let own : IsCleanIn name range (held_piece held y) = All-contains (λ part. IsTrue part.0.clean → IsCleanIn name range part) (held_piece held y ∷ []) (held_piece held y) sound.clean (Contains-head (held_piece held y) []) clean in
     record {
       points = piece_points (held_piece held y);
-      winners = winners_clean range (held_piece held y) order own;
-      adds = λ earlier first. join earlier (piece_points (held_piece held y)) first (of_stats (piece_points (held_piece held y)) own.statistics);
+      winners = winners_clean name range (held_piece held y) order own;
+      adds = λ earlier first. join earlier (piece_points (held_piece held y)) first (of_stats (piece_points (held_piece held y)) own.statistics own.asked);
     }
 adds_clean held range name (y ∷ z ∷ zs) x before now next (some, inl one) sound clean of_stats join = absurd (omega (arith, one))
 adds_clean held range name (y ∷ z ∷ zs) x before now next (some, inr unclean) sound clean of_stats join = absurd (false≢true (sym (All-head (λ (e : PieceEntry). e.piece.now.clean ≡ false) y (z ∷ zs) unclean) ∙ clean))
@@ -120,29 +121,29 @@ parts_split held m entries = sym (map-append (held_piece held) (take m entries) 
 pub order_of_first : (held : List Held) (m : ℕ) (entries : List PieceEntry) → All HasOrder (held_parts held entries) → All HasOrder (held_parts held (take m entries))
 order_of_first held m entries all = All-left HasOrder (held_parts held (take m entries)) (held_parts held (drop m entries)) (subst (λ ps. All HasOrder ps) (sym (parts_split held m entries)) all)
 
-pub sound_first : (range : Range) (held : List Held) (m : ℕ) (entries : List PieceEntry) → ArePiecesSound range (held_parts held entries) → ArePiecesSound range (held_parts held (take m entries))
-sound_first range held m entries sound =
+pub sound_first : (name : Aggregate) (range : Range) (held : List Held) (m : ℕ) (entries : List PieceEntry) → ArePiecesSound name range (held_parts held entries) → ArePiecesSound name range (held_parts held (take m entries))
+sound_first name range held m entries sound =
     let e = sym (parts_split held m entries) in
     record {
       order = order_of_first held m entries sound.order;
-      clean = All-left (λ part. IsTrue part.0.clean → IsCleanIn range part) (held_parts held (take m entries)) (held_parts held (drop m entries)) (subst (λ ps. All (λ part. IsTrue part.0.clean → IsCleanIn range part) ps) e sound.clean);
+      clean = All-left (λ part. IsTrue part.0.clean → IsCleanIn name range part) (held_parts held (take m entries)) (held_parts held (drop m entries)) (subst (λ ps. All (λ part. IsTrue part.0.clean → IsCleanIn name range part) ps) e sound.clean);
       apart = AllPairs-left ArePiecesApart (held_parts held (take m entries)) (held_parts held (drop m entries)) (subst (λ ps. AllPairs ArePiecesApart ps) e sound.apart);
     }
 
-pub sound_rest : (range : Range) (held : List Held) (m : ℕ) (entries : List PieceEntry) → ArePiecesSound range (held_parts held entries) → ArePiecesSound range (held_parts held (drop m entries))
-sound_rest range held m entries sound =
+pub sound_rest : (name : Aggregate) (range : Range) (held : List Held) (m : ℕ) (entries : List PieceEntry) → ArePiecesSound name range (held_parts held entries) → ArePiecesSound name range (held_parts held (drop m entries))
+sound_rest name range held m entries sound =
     let e = sym (parts_split held m entries) in
     record {
       order = All-right HasOrder (held_parts held (take m entries)) (held_parts held (drop m entries)) (subst (λ ps. All HasOrder ps) e sound.order);
-      clean = All-right (λ part. IsTrue part.0.clean → IsCleanIn range part) (held_parts held (take m entries)) (held_parts held (drop m entries)) (subst (λ ps. All (λ part. IsTrue part.0.clean → IsCleanIn range part) ps) e sound.clean);
+      clean = All-right (λ part. IsTrue part.0.clean → IsCleanIn name range part) (held_parts held (take m entries)) (held_parts held (drop m entries)) (subst (λ ps. All (λ part. IsTrue part.0.clean → IsCleanIn name range part) ps) e sound.clean);
       apart = AllPairs-right ArePiecesApart (held_parts held (take m entries)) (held_parts held (drop m entries)) (subst (λ ps. AllPairs ArePiecesApart ps) e sound.apart);
     }
 
-pub tally_more : (held : List Held) (range : Range) (name : Aggregate) (m n : ℕ) (entries : List PieceEntry) (before now : Tally) → ArePiecesSound range (held_parts held entries) → IsCut m entries
+pub tally_more : (held : List Held) (range : Range) (name : Aggregate) (m n : ℕ) (entries : List PieceEntry) (before now : Tally) → ArePiecesSound name range (held_parts held entries) → IsCut m entries
     → HasTally held range name (take m entries) before → AddsWinners held range name (take n (drop m entries)) before now → HasTally held range name (take (m + n) entries) now
 tally_more held range name m n entries before now sound cut first second =
     let apart : Before (held_parts held (take m entries)) (held_parts held (take n (drop m entries))) =
-    before_from_end held (take m entries) (take n (drop m entries)) (sound_first range held m entries sound).order (sound_first range held n (drop m entries) (sound_rest range held m entries sound)).order
+    before_from_end held (take m entries) (take n (drop m entries)) (sound_first name range held m entries sound).order (sound_first name range held n (drop m entries) (sound_rest name range held m entries sound)).order
     (λ a b ha hb. cut a b ha (Contains-from_take n (drop m entries) b hb)) in
     record {
       points = first.points ++ second.points;
@@ -188,13 +189,13 @@ pub cost_of_all : (range : Range) (parts : List HeldPiece) (held : List Held) (e
     → sum_by cost_of (held_parts held entries) ≡ most_loads range parts
 cost_of_all range parts held entries perm = sum_by-IsPermutation cost_of (filter (λ part. overlap range (hull part.0)) parts) (held_parts held entries) perm ∙ cost_filtered range parts
 
-pub sound_entries : (range : Range) (parts : List HeldPiece) (held : List Held) (entries : List PieceEntry) → IsPermutation (filter (λ part. overlap range (hull part.0)) parts) (held_parts held entries)
-    → ArePiecesSound range parts → ArePiecesSound range (held_parts held entries)
-sound_entries range parts held entries perm sound =
+pub sound_entries : (name : Aggregate) (range : Range) (parts : List HeldPiece) (held : List Held) (entries : List PieceEntry) → IsPermutation (filter (λ part. overlap range (hull part.0)) parts) (held_parts held entries)
+    → ArePiecesSound name range parts → ArePiecesSound name range (held_parts held entries)
+sound_entries name range parts held entries perm sound =
     let test : HeldPiece → Bool = λ part. overlap range (hull part.0) in
     record {
       order = All-permutation HasOrder (filter test parts) (held_parts held entries) perm (All-filter test HasOrder parts sound.order);
-      clean = All-permutation (λ part. IsTrue part.0.clean → IsCleanIn range part) (filter test parts) (held_parts held entries) perm (All-filter test (λ part. IsTrue part.0.clean → IsCleanIn range part) parts sound.clean);
+      clean = All-permutation (λ part. IsTrue part.0.clean → IsCleanIn name range part) (filter test parts) (held_parts held entries) perm (All-filter test (λ part. IsTrue part.0.clean → IsCleanIn name range part) parts sound.clean);
       apart = apart_permuted (filter test parts) (held_parts held entries) perm (AllPairs-filter ArePiecesApart test parts sound.apart);
     }
 
@@ -204,8 +205,8 @@ meet_entries range parts held entries perm =
     let test : HeldPiece → Bool = λ part. overlap range (hull part.0) in
     All-permutation (λ part. test part ≡ true) (filter test parts) (held_parts held entries) perm (filter_passes test parts)
 
-pub aggregate_of_all : (range : Range) (parts : List HeldPiece) (held : List Held) (entries : List PieceEntry) (tally : Tally) (name : Aggregate) (answer : Option Value)
-    → IsPermutation (filter (λ part. overlap range (hull part.0)) parts) (held_parts held entries) → ArePiecesSound range parts → HasTally held range name entries tally → answer ≡ answer_of name tally → IsAggregate parts range name answer
+pub aggregate_of_all : (range : Range) (parts : List HeldPiece) (held : List Held) (entries : List PieceEntry) (tally : Tally) (name : Aggregate) (answer : Option Figure)
+    → IsPermutation (filter (λ part. overlap range (hull part.0)) parts) (held_parts held entries) → ArePiecesSound name range parts → HasTally held range name entries tally → answer ≡ answer_of name tally → IsAggregate parts range name answer
 aggregate_of_all range parts held entries tally name answer perm sound found is =
     let test : HeldPiece → Bool = λ part. overlap range (hull part.0) in
     let kept = winners_of_same range (held_parts held entries) (filter test parts) found.points
@@ -213,5 +214,5 @@ aggregate_of_all range parts held entries tally name answer perm sound found is 
     record {
       points = found.points;
       winners = winners_of_same range (filter test parts) parts found.points (same_filtered range parts sound.order) kept;
-      is = is ∙ found.tally_is;
+      is = is ∙ tally_answers name found.points tally.count (kept_value tally.kept) tally.sum found.tally_is;
     }

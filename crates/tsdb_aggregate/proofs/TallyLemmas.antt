@@ -1,20 +1,22 @@
 -- The aggregate of two lists, one behind the other, from those of each.
 use Rattle.std.proofs.Common.{◌≡◌, ◌⊎◌, ℕ, ◌+◌, ◌-◌, Bool, true, false, List, [], ◌∷◌, ◌++◌, length, get_or, Option, None, Some, inl, inr, refl, sym, ap, ◌∙◌, cond, arith}
-use Rattle.std.specs.Prelude.{pos, slice_get, option_map, option_and_then}
+use Rattle.std.specs.Prelude.{ℤ, pos, slice_get, option_map, option_and_then, is_some, IfSome}
 use Rattle.std.specs.List.{cons_option, fold, reduce, AllByRecursion}
 use Rattle.std.proofs.lemmas.List.{append-nil, length-append}
 use Rattle.std.proofs.lemmas.Option.{slice_get-get_or}
 use Rattle.tsdb_base.specs.declared.answers.Aggregate.{Aggregate}
-use Rattle.tsdb_base.specs.declared.answers.Aggregate.TheVariants.{Count, FirstValue, LastValue, MinValue, MaxValue, MinTime, MaxTime}
+use Rattle.tsdb_base.specs.declared.answers.Aggregate.TheVariants.{Count, FirstValue, LastValue, MinValue, MaxValue, MinTime, MaxTime, Sum}
+use Rattle.tsdb_base.specs.declared.answers.Figure.TheVariants as figure
 use Rattle.tsdb_base.specs.declared.point.Point.{Point}
 use Rattle.tsdb_base.specs.declared.point.Stats.{Stats}
 use Rattle.tsdb_base.specs.declared.value.Value.{Value}
 use Rattle.tsdb_base.specs.declared.value.Value.TheVariants as value
-use Rattle.tsdb_model.specs.Folds.{aggregate_of, greater, is_less, lesser_value, numbers}
+use Rattle.tsdb_model.specs.Folds.{aggregate_of, greater, is_less, lesser_value, numbers, sum_of, value_of_points}
 use Rattle.tsdb_stats.specs.Statistics.{AreStatsOf}
-use Rattle.tsdb_stats.specs.Steps.{join_options, number_in}
+use Rattle.tsdb_stats.specs.Steps.{join_options, number_in, plus}
 use Rattle.tsdb_stats.proofs.Joining.{stats-append}
-use Rattle.tsdb_aggregate.specs.Steps.{answer_with, choice}
+use Rattle.tsdb_stats.proofs.Sums.{sum-both}
+use Rattle.tsdb_aggregate.specs.Steps.{IsTallied, answer_with, choice}
 
 -- ---- the chosen number of points is a number
 
@@ -70,8 +72,9 @@ stats_at p ps = record {
   end = (last_of p ps).time;
   first = p.value;
   last = (last_of p ps).value;
-  least = aggregate_of MinValue (p ∷ ps);
-  greatest = aggregate_of MaxValue (p ∷ ps);
+  least = value_of_points MinValue (p ∷ ps);
+  greatest = value_of_points MaxValue (p ∷ ps);
+  sum = None;
 }
 
 are_stats : (p : Point) (ps : List Point) → AreStatsOf (p ∷ ps) (stats_at p ps)
@@ -83,6 +86,7 @@ are_stats p ps = record {
   last = ap (option_map (λ point. point.value)) (last_is p ps);
   least = refl;
   greatest = refl;
+  sum = tt;
 }
 
 abbrev both : Point → List Point → Point → List Point → Stats
@@ -92,12 +96,13 @@ both p ps q qs = record {
   end = (last_of q qs).time;
   first = p.value;
   last = (last_of q qs).value;
-  least = join_options lesser_value (option_and_then number_in (aggregate_of MinValue (p ∷ ps))) (option_and_then number_in (aggregate_of MinValue (q ∷ qs)));
-  greatest = join_options greater (option_and_then number_in (aggregate_of MaxValue (p ∷ ps))) (option_and_then number_in (aggregate_of MaxValue (q ∷ qs)));
+  least = join_options lesser_value (option_and_then number_in (value_of_points MinValue (p ∷ ps))) (option_and_then number_in (value_of_points MinValue (q ∷ qs)));
+  greatest = join_options greater (option_and_then number_in (value_of_points MaxValue (p ∷ ps))) (option_and_then number_in (value_of_points MaxValue (q ∷ qs)));
+  sum = None;
 }
 
 both_are : (p : Point) (ps : List Point) (q : Point) (qs : List Point) → AreStatsOf ((p ∷ ps) ++ (q ∷ qs)) (both p ps q qs)
-both_are p ps q qs = stats-append (p ∷ ps) (q ∷ qs) (stats_at p ps) (stats_at q qs) (both p ps q qs) (are_stats p ps) (are_stats q qs) refl refl refl refl refl refl refl
+both_are p ps q qs = stats-append (p ∷ ps) (q ∷ qs) (stats_at p ps) (stats_at q qs) (both p ps q qs) (are_stats p ps) (are_stats q qs) refl refl refl refl refl refl refl refl
 
 -- ---- two lists
 
@@ -107,10 +112,10 @@ join_none f (Some a) = refl
 
 -- the value of both lists, where it is no count
 abbrev Joins : Aggregate → List Point → List Point → Type 0
-Joins name xs ys = aggregate_of name (xs ++ ys) ≡ join_options (choice name) (aggregate_of name xs) (aggregate_of name ys)
+Joins name xs ys = value_of_points name (xs ++ ys) ≡ join_options (choice name) (value_of_points name xs) (value_of_points name ys)
 
-none_behind : (name : Aggregate) (xs : List Point) → aggregate_of name [] ≡ None → Joins name xs []
-none_behind name xs none = ap (aggregate_of name) (append-nil xs) ∙ sym (ap (join_options (choice name) (aggregate_of name xs)) none ∙ join_none (choice name) (aggregate_of name xs))
+none_behind : (name : Aggregate) (xs : List Point) → value_of_points name [] ≡ None → Joins name xs []
+none_behind name xs none = ap (value_of_points name) (append-nil xs) ∙ sym (ap (join_options (choice name) (value_of_points name xs)) none ∙ join_none (choice name) (value_of_points name xs))
 
 first_joins : (xs ys : List Point) → Joins FirstValue xs ys
 first_joins [] ys = refl
@@ -125,12 +130,12 @@ start_joins (p ∷ ps) (q ∷ qs) = refl
 last_joins : (xs ys : List Point) → Joins LastValue xs ys
 last_joins [] ys = refl
 last_joins (p ∷ ps) [] = none_behind LastValue (p ∷ ps) refl
-last_joins (p ∷ ps) (q ∷ qs) = (both_are p ps q qs).last ∙ sym (ap (λ (b : Option Value). join_options (choice LastValue) (aggregate_of LastValue (p ∷ ps)) b) (are_stats q qs).last ∙ ap (λ (a : Option Value). join_options (choice LastValue) a (Some (last_of q qs).value)) (are_stats p ps).last)
+last_joins (p ∷ ps) (q ∷ qs) = (both_are p ps q qs).last ∙ sym (ap (λ (b : Option Value). join_options (choice LastValue) (value_of_points LastValue (p ∷ ps)) b) (are_stats q qs).last ∙ ap (λ (a : Option Value). join_options (choice LastValue) a (Some (last_of q qs).value)) (are_stats p ps).last)
 
 end_joins : (xs ys : List Point) → Joins MaxTime xs ys
 end_joins [] ys = refl
 end_joins (p ∷ ps) [] = none_behind MaxTime (p ∷ ps) refl
-end_joins (p ∷ ps) (q ∷ qs) = (both_are p ps q qs).end ∙ sym (ap (λ (b : Option Value). join_options (choice MaxTime) (aggregate_of MaxTime (p ∷ ps)) b) (are_stats q qs).end ∙ ap (λ (a : Option Value). join_options (choice MaxTime) a (Some (value.I64 (last_of q qs).time))) (are_stats p ps).end)
+end_joins (p ∷ ps) (q ∷ qs) = (both_are p ps q qs).end ∙ sym (ap (λ (b : Option Value). join_options (choice MaxTime) (value_of_points MaxTime (p ∷ ps)) b) (are_stats q qs).end ∙ ap (λ (a : Option Value). join_options (choice MaxTime) a (Some (value.I64 (last_of q qs).time))) (are_stats p ps).end)
 
 least_joins : (xs ys : List Point) → Joins MinValue xs ys
 least_joins [] ys = refl
@@ -138,7 +143,7 @@ least_joins (p ∷ ps) [] = none_behind MinValue (p ∷ ps) refl
 least_joins (p ∷ ps) (q ∷ qs) =
     let a = reduce_self lesser_value lesser_chooses (numbers (p ∷ ps)) (numbers_are (p ∷ ps)) in
     let b = reduce_self lesser_value lesser_chooses (numbers (q ∷ qs)) (numbers_are (q ∷ qs)) in
-    (both_are p ps q qs).least ∙ ap (λ l. join_options lesser_value l (option_and_then number_in (aggregate_of MinValue (q ∷ qs)))) a ∙ ap (λ r. join_options lesser_value (aggregate_of MinValue (p ∷ ps)) r) b
+    (both_are p ps q qs).least ∙ ap (λ l. join_options lesser_value l (option_and_then number_in (value_of_points MinValue (q ∷ qs)))) a ∙ ap (λ r. join_options lesser_value (value_of_points MinValue (p ∷ ps)) r) b
 
 greatest_joins : (xs ys : List Point) → Joins MaxValue xs ys
 greatest_joins [] ys = refl
@@ -146,23 +151,33 @@ greatest_joins (p ∷ ps) [] = none_behind MaxValue (p ∷ ps) refl
 greatest_joins (p ∷ ps) (q ∷ qs) =
     let a = reduce_self greater greater_chooses (numbers (p ∷ ps)) (numbers_are (p ∷ ps)) in
     let b = reduce_self greater greater_chooses (numbers (q ∷ qs)) (numbers_are (q ∷ qs)) in
-    (both_are p ps q qs).greatest ∙ ap (λ l. join_options greater l (option_and_then number_in (aggregate_of MaxValue (q ∷ qs)))) a ∙ ap (λ r. join_options greater (aggregate_of MaxValue (p ∷ ps)) r) b
+    (both_are p ps q qs).greatest ∙ ap (λ l. join_options greater l (option_and_then number_in (value_of_points MaxValue (q ∷ qs)))) a ∙ ap (λ r. join_options greater (value_of_points MaxValue (p ∷ ps)) r) b
 
 -- ---- tallies
 
-count_of : (n : ℕ) (points : List Point) → answer_with Count n None ≡ aggregate_of Count points → n ≡ length points
-count_of n points e = cc
+pub joined : (name : Aggregate) (xs ys : List Point) (n m k : ℕ) (a b c : Option Value) (p q r : Option ℤ) → k ≡ n + m → c ≡ join_options (choice name) a b → r ≡ join_options plus p q
+    → IsTallied name xs n a p → IsTallied name ys m b q → IsTallied name (xs ++ ys) k c r
+joined Count xs ys n m k a b c p q r count is sum first second = omega (arith, count, first, second, length-append xs ys)
+joined FirstValue xs ys n m k a b c p q r count is sum first second = rw (is, first, second) (sym (first_joins xs ys))
+joined LastValue xs ys n m k a b c p q r count is sum first second = rw (is, first, second) (sym (last_joins xs ys))
+joined MinValue xs ys n m k a b c p q r count is sum first second = rw (is, first, second) (sym (least_joins xs ys))
+joined MaxValue xs ys n m k a b c p q r count is sum first second = rw (is, first, second) (sym (greatest_joins xs ys))
+joined MinTime xs ys n m k a b c p q r count is sum first second = rw (is, first, second) (sym (start_joins xs ys))
+joined MaxTime xs ys n m k a b c p q r count is sum first second = rw (is, first, second) (sym (end_joins xs ys))
+joined Sum xs ys n m k a b c p q r count is sum first second = rw (sum, first, second) (sym (sum-both xs ys))
 
-pub joined : (name : Aggregate) (xs ys : List Point) (n m k : ℕ) (a b c : Option Value) → k ≡ n + m → c ≡ join_options (choice name) a b
-    → answer_with name n a ≡ aggregate_of name xs → answer_with name m b ≡ aggregate_of name ys → answer_with name k c ≡ aggregate_of name (xs ++ ys)
-joined Count xs ys n m k a b c sum is first second =
-    let x = count_of n xs first in
-    let y = count_of m ys second in
-    let total : k ≡ length (xs ++ ys) = omega (arith, sum, x, y, length-append xs ys) in
-    ap (λ i. Some (value.I64 (pos i))) total
-joined FirstValue xs ys n m k a b c sum is first second = rw (is, first, second) (sym (first_joins xs ys))
-joined LastValue xs ys n m k a b c sum is first second = rw (is, first, second) (sym (last_joins xs ys))
-joined MinValue xs ys n m k a b c sum is first second = rw (is, first, second) (sym (least_joins xs ys))
-joined MaxValue xs ys n m k a b c sum is first second = rw (is, first, second) (sym (greatest_joins xs ys))
-joined MinTime xs ys n m k a b c sum is first second = rw (is, first, second) (sym (start_joins xs ys))
-joined MaxTime xs ys n m k a b c sum is first second = rw (is, first, second) (sym (end_joins xs ys))
+-- what a tally of points answers is their aggregate
+pub tally_answers : (name : Aggregate) (points : List Point) (count : ℕ) (kept : Option Value) (sum : Option ℤ) → IsTallied name points count kept sum → answer_with name count kept sum ≡ aggregate_of name points
+tally_answers Count points count kept sum is = ap (λ n. Some (figure.Value (value.I64 (pos n)))) is
+tally_answers FirstValue points count kept sum is = ap (option_map figure.Value) is
+tally_answers LastValue points count kept sum is = ap (option_map figure.Value) is
+tally_answers MinValue points count kept sum is = ap (option_map figure.Value) is
+tally_answers MaxValue points count kept sum is = ap (option_map figure.Value) is
+tally_answers MinTime points count kept sum is = ap (option_map figure.Value) is
+tally_answers MaxTime points count kept sum is = ap (option_map figure.Value) is
+tally_answers Sum points count kept sum is = ap (option_map figure.Sum) is
+
+-- the sum that statistics have is that of their points
+pub sum_said : (sum total : Option ℤ) → IfSome sum (λ s. total ≡ Some s) → is_some sum ≡ true → sum ≡ total
+sum_said None total is some = absurd cc
+sum_said (Some s) total is some = sym is

@@ -35,12 +35,12 @@ walk_none range name a p entries tally none = record {
 
 -- one group more
 pub walk_more : (range : Range) (name : Aggregate) (a b c : LoaderState) (p q r : ℕ) (m n : ℕ) (entries rest group : List PieceEntry) (before now : Tally) → rest ≡ drop m entries → group ≡ take n rest → length group ≡ n → n ≤ length rest
-    → (AllPairs ComesBefore rest → IsCut n rest) → (ArePiecesSound range (held_parts b.held group) → AddsWinners b.held range name group before now) → Spends {T = ⊤} (sum_by cost_of (held_parts b.held group)) b c q r (Ok tt)
+    → (AllPairs ComesBefore rest → IsCut n rest) → (ArePiecesSound name range (held_parts b.held group) → AddsWinners b.held range name group before now) → Spends {T = ⊤} (sum_by cost_of (held_parts b.held group)) b c q r (Ok tt)
     → HasWalked range name a b p q entries m before → HasWalked range name a c p r entries (m + length group) now
 walk_more range name a b c p q r m n entries rest group before now er eg long within cut adds spends walked =
     let own : group ≡ take n (drop m entries) = eg ∙ ap (λ xs. take n xs) er in
-    let added : ArePiecesSound range (held_parts a.held (take n (drop m entries))) → AddsWinners a.held range name (take n (drop m entries)) before now =
-    subst (λ g. ArePiecesSound range (held_parts a.held g) → AddsWinners a.held range name g before now) own (subst (λ h. ArePiecesSound range (held_parts h group) → AddsWinners h range name group before now) walked.spends.held adds) in
+    let added : ArePiecesSound name range (held_parts a.held (take n (drop m entries))) → AddsWinners a.held range name (take n (drop m entries)) before now =
+    subst (λ g. ArePiecesSound name range (held_parts a.held g) → AddsWinners a.held range name g before now) own (subst (λ h. ArePiecesSound name range (held_parts h group) → AddsWinners h range name group before now) walked.spends.held adds) in
     let amount : sum_by cost_of (held_parts b.held group) ≡ sum_by cost_of (held_parts a.held (take n (drop m entries))) = ap (λ h. sum_by cost_of (held_parts h group)) walked.spends.held ∙ ap (λ g. sum_by cost_of (held_parts a.held g)) own in
     let cost = cost_more a.held m n entries in
     let drops = length-drop m entries in
@@ -50,7 +50,7 @@ walk_more range name a b c p q r m n entries rest group before now er eg long wi
       found = λ sound order.
           let done = walked.found sound order in
           let next : IsCut n (drop m entries) = subst (λ xs. AllPairs ComesBefore xs → IsCut n xs) er cut (order_rest m entries order) in
-          let second = added (sound_first range a.held n (drop m entries) (sound_rest range a.held m entries sound)) in
+          let second = added (sound_first name range a.held n (drop m entries) (sound_rest name range a.held m entries sound)) in
           (tally_more a.held range name m n entries before now sound done.1 done.0 second, cut_more m n entries done.1 next);
       spends = spends_then (sum_by cost_of (held_parts a.held (take m entries))) (sum_by cost_of (held_parts b.held group)) (sum_by cost_of (held_parts a.held (take (m + n) entries))) a b c p q r tt (Ok tt) (omega (arith, cost, amount)) walked.spends spends;
     })

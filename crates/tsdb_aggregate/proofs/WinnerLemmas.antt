@@ -6,6 +6,7 @@ use Rattle.std.proofs.lemmas.Int.{ints}
 use Rattle.std.proofs.lemmas.List.Kept.{AllPairs-filter}
 use Rattle.std.proofs.lemmas.List.Elements.{All-head, All-tail, All-contains, filter_passes, Contains-append_left, Contains-append_right, Contains-append_cases}
 use Rattle.std.proofs.lemmas.List.Sorted.{Contains-permutation, IsPermutation-sym}
+use Rattle.tsdb_base.specs.declared.answers.Aggregate.{Aggregate}
 use Rattle.tsdb_base.specs.declared.point.Point.{Point}
 use Rattle.tsdb_base.specs.declared.point.Range.{Range}
 use Rattle.tsdb_model.specs.World.{is_in}
@@ -131,8 +132,8 @@ same_filtered range xs order = record {
 in_between : (range : Range) (a b t : ℤ) → IsTrue (is_in range a) → IsTrue (is_in range b) → IsTrue (int_le a t && int_le t b) → IsTrue (is_in range t)
 in_between range a b t x y z = grind (arith, ints)
 
-pub winners_clean : (range : Range) (part : HeldPiece) → HasOrder part → IsCleanIn range part → AreWinners (part ∷ []) range (piece_points part)
-winners_clean range part order clean = record {
+pub winners_clean : (name : Aggregate) (range : Range) (part : HeldPiece) → HasOrder part → IsCleanIn name range part → AreWinners (part ∷ []) range (piece_points part)
+winners_clean name range part order clean = record {
   rising = order.rising;
   only = All-from_contains (λ p. IsWinnerOfPieces (part ∷ []) p × IsTrue (is_in range p.time)) (piece_points part) (λ p h. (
     record {

@@ -1,8 +1,11 @@
 -- Pieces with what a loader holds of them: their hulls, what has to be so of them, and what may be loaded.
 use Rattle.std.specs.Prelude.{◌≡◌, ℕ, Bool, false, not, ◌&&◌, ◌||◌, List, [], All, AllPairs, IsTrue, if◌then◌else◌}
-use Rattle.std.specs.Prelude.{Option, None, Some, sum_by}
+use Rattle.std.specs.Prelude.{Option, None, Some, is_some, sum_by, true}
+use Rattle.tsdb_base.specs.declared.answers.Aggregate.{Aggregate}
+use Rattle.tsdb_base.specs.declared.answers.Aggregate.TheVariants.{Sum}
 use Rattle.tsdb_base.specs.declared.point.Point.{Point}
 use Rattle.tsdb_base.specs.declared.point.Range.{Range}
+use Rattle.tsdb_base.specs.declared.point.Stats.{Stats}
 use Rattle.tsdb_model.specs.World.{is_in}
 use Rattle.tsdb_base.specs.Points.{IsRising}
 use Rattle.tsdb_merge.specs.Winners.{HasNoneAt}
@@ -36,9 +39,15 @@ pub record HasOrder (part : HeldPiece) : Type 0 where
   pub rising : IsRising (piece_points part)
   pub within : All (λ point. IsTrue (is_in (hull part.0) point.time)) (piece_points part)
 
--- a piece that is clean has the statistics of its points, and its hull is in the range
-pub record IsCleanIn (range : Range) (part : HeldPiece) : Type 0 where
+-- statistics answer an aggregate: they may lack the sum
+abbrev pub has_asked : Aggregate → Stats → Bool
+has_asked Sum stats = is_some stats.sum
+has_asked aggregate stats = true
+
+-- a piece that is clean has the statistics of its points, and these answer the aggregate; its hull is in the range
+pub record IsCleanIn (name : Aggregate) (range : Range) (part : HeldPiece) : Type 0 where
   pub statistics : AreStatsOf (piece_points part) part.0.stats
+  pub asked : IsTrue (has_asked name part.0.stats)
   pub from : IsTrue (is_in range part.0.stats.start)
   pub to : IsTrue (is_in range part.0.stats.end)
 
@@ -48,9 +57,9 @@ pub record ArePiecesApart (a b : HeldPiece) : Type 0 where
   pub hulls : IsTrue (a.0.clean || b.0.clean) → overlap (hull a.0) (hull b.0) ≡ false
 
 -- what has to be so of the pieces, all of which are told, for the answer to be the aggregate of the winners
-pub record ArePiecesSound (range : Range) (parts : List HeldPiece) : Type 0 where
+pub record ArePiecesSound (name : Aggregate) (range : Range) (parts : List HeldPiece) : Type 0 where
   pub order : All HasOrder parts
-  pub clean : All (λ part. IsTrue part.0.clean → IsCleanIn range part) parts
+  pub clean : All (λ part. IsTrue part.0.clean → IsCleanIn name range part) parts
   pub apart : AllPairs ArePiecesApart parts
 
 -- a piece that meets the range and is not clean may be loaded

@@ -1,15 +1,17 @@
 -- Private steps: entries in order of time, and the statistics of a list that may be empty.
 use Rattle.std.specs.Prelude.{◌≡◌, ◌⊎◌, ℕ, ◌<◌, ◌≤◌, ◌≤ℤ◌, ◌<ℤ◌, pos, Bool, true, false, List, [], All, AllPairs, Contains}
 use Rattle.std.specs.Prelude.{filter, Option, Some, None, Ok, ⊤, length, map, sum_by, ◌||◌, ◌∷◌, ◌++◌, if◌then◌else◌, IsTrue}
-use Rattle.std.specs.Prelude.{take, drop}
+use Rattle.std.specs.Prelude.{take, drop, option_map, ℤ}
 use Rattle.tsdb_base.specs.declared.answers.Aggregate.{Aggregate}
 use Rattle.tsdb_base.specs.declared.answers.Aggregate.TheVariants.{Count, FirstValue, LastValue, MinValue, MaxValue}
-use Rattle.tsdb_base.specs.declared.answers.Aggregate.TheVariants.{MinTime, MaxTime}
+use Rattle.tsdb_base.specs.declared.answers.Aggregate.TheVariants.{MinTime, MaxTime, Sum}
+use Rattle.tsdb_base.specs.declared.answers.Figure.{Figure}
+use Rattle.tsdb_base.specs.declared.answers.Figure.TheVariants as figure
 use Rattle.tsdb_base.specs.declared.point.Point.{Point}
 use Rattle.tsdb_base.specs.declared.point.Range.{Range}
 use Rattle.tsdb_base.specs.declared.value.Value.{Value}
 use Rattle.tsdb_base.specs.declared.value.Value.TheVariants as value
-use Rattle.tsdb_model.specs.Folds.{aggregate_of, greater, lesser_value}
+use Rattle.tsdb_model.specs.Folds.{greater, lesser_value, sum_of, value_of_points}
 use Rattle.tsdb_model.specs.World.{is_in}
 use Rattle.tsdb_merge.specs.Winners.{IsMergeOf}
 use Rattle.tsdb_stats.specs.Steps.{join_options}
@@ -57,22 +59,24 @@ kept_value Nothing = None
 kept_value (Lent value) = Some value.now
 kept_value (Own value) = Some value
 
--- what a count, or the value that is kept, answers
-abbrev pub answer_with : Aggregate → ℕ → Option Value → Option Value
-answer_with Count count kept = Some (value.I64 (pos count))
-answer_with FirstValue count kept = kept
-answer_with LastValue count kept = kept
-answer_with MinValue count kept = kept
-answer_with MaxValue count kept = kept
-answer_with MinTime count kept = kept
-answer_with MaxTime count kept = kept
+-- what a count, the value that is kept, or the sum answers
+abbrev pub answer_with : Aggregate → ℕ → Option Value → Option ℤ → Option Figure
+answer_with Count count kept sum = Some (figure.Value (value.I64 (pos count)))
+answer_with Sum count kept sum = option_map figure.Sum sum
+answer_with name count kept sum = option_map figure.Value kept
 
-abbrev pub answer_of : Aggregate → Tally → Option Value
-answer_of name tally = answer_with name tally.count (kept_value tally.kept)
+abbrev pub answer_of : Aggregate → Tally → Option Figure
+answer_of name tally = answer_with name tally.count (kept_value tally.kept) tally.sum
+
+-- what the aggregate asks of the points is this count, this value or this sum
+abbrev pub IsTallied : Aggregate → List Point → ℕ → Option Value → Option ℤ → Type 0
+IsTallied Count points count kept sum = count ≡ length points
+IsTallied Sum points count kept sum = sum ≡ sum_of points
+IsTallied name points count kept sum = kept ≡ value_of_points name points
 
 -- the tally is that of the points
 abbrev pub IsTally : Aggregate → List Point → Tally → Type 0
-IsTally name points tally = answer_of name tally ≡ aggregate_of name points
+IsTally name points tally = IsTallied name points tally.count (kept_value tally.kept) tally.sum
 
 -- which of the values of two lists, one behind the other, is kept
 abbrev pub choice : Aggregate → Value → Value → Value
@@ -83,6 +87,7 @@ choice MinValue a b = lesser_value a b
 choice MaxValue a b = greater a b
 choice MinTime a b = a
 choice MaxTime a b = b
+choice Sum a b = a
 
 -- the later value is kept, or the one before it
 abbrev pub IsChosen : Aggregate → Option Value → Option Value → Bool → Type 0
@@ -130,7 +135,7 @@ pub record AddsMerge (range : Range) (name : Aggregate) (lists : List (List Poin
 pub record HasWalked (range : Range) (name : Aggregate) (before now : LoaderState) (pages pages_now : ℕ)
     (entries : List PieceEntry) (m : ℕ) (tally : Tally) : Type 0 where
   pub within : m ≤ length entries
-  pub found : ArePiecesSound range (held_parts before.held entries) → AllPairs ComesBefore entries
+  pub found : ArePiecesSound name range (held_parts before.held entries) → AllPairs ComesBefore entries
       → HasTally before.held range name (take m entries) tally × IsCut m entries
   pub spends : Spends {T = ⊤} (sum_by cost_of (held_parts before.held (take m entries))) before now pages pages_now
       (Ok tt)

@@ -3,7 +3,7 @@ use Rattle.std.specs.Prelude.{◌≡◌, ℕ, ◌≤◌, List, Option, All, Cont
 use Rattle.tsdb_base.specs.declared.answers.Aggregate.{Aggregate}
 use Rattle.tsdb_base.specs.declared.point.Point.{Point}
 use Rattle.tsdb_base.specs.declared.point.Range.{Range}
-use Rattle.tsdb_base.specs.declared.value.Value.{Value}
+use Rattle.tsdb_base.specs.declared.answers.Figure.{Figure}
 use Rattle.tsdb_model.specs.Folds.{aggregate_of}
 use Rattle.tsdb_model.specs.World.{is_in}
 use Rattle.tsdb_base.specs.Points.{IsRising}
@@ -29,7 +29,8 @@ pub record AreWinners (parts : List HeldPiece) (range : Range) (points : List Po
   pub complete : (point : Point) → IsWinnerOfPieces parts point → IsTrue (is_in range point.time) → Contains points point
 
 -- the aggregate of the winners in the range
-pub record IsAggregate (parts : List HeldPiece) (range : Range) (name : Aggregate) (answer : Option Value) : Type 0 where
+pub record IsAggregate (parts : List HeldPiece) (range : Range) (name : Aggregate)
+    (answer : Option Figure) : Type 0 where
   pub points : List Point
   pub winners : AreWinners parts range points
   pub is : answer ≡ aggregate_of name points

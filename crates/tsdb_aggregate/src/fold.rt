@@ -15,7 +15,7 @@ use crate::piece::Piece;
 use crate::tally::Tally;
 use std::alloc::Global;
 use std::sync::ledger::Ledger;
-use tsdb_base::{Aggregate, Range, Steps, Value};
+use tsdb_base::{Aggregate, Figure, Range, Steps};
 use tsdb_merge::PullFault;
 
 /// Adds the winners of a group in the range to a tally: by the statistics of a clean piece, or by points.
@@ -30,7 +30,7 @@ fn add_winners<'a, D: Loader, L: Ledger>(
 ) -> Result<(), PullFault>
     requires places { All (λ entry. entry.place < length (D.state loader.old).held) group.now }
     requires group { IsPieceGroup group.now }
-    ensures added { OnOk result (ArePiecesSound range.now (held_parts (D.state loader.old).held group.now) →
+    ensures added { OnOk result (ArePiecesSound name range.now (held_parts (D.state loader.old).held group.now) →
         AddsWinners (D.state loader.old).held range.now name group.now tally.old tally.new) }
     ensures spends { Spends (sum_by cost_of (held_parts (D.state loader.old).held group.now))
         (D.state loader.old) (D.state loader.new) pages.old pages.new result }
@@ -52,7 +52,7 @@ fn tally_of<'a, D: Loader, L: Ledger>(
     pages: &mut Steps<L>,
 ) -> Result<Tally<'a>, PullFault>
     requires places { All (λ entry. entry.place < length (D.state loader.old).held) entries.now }
-    ensures found { IfOk result (λ tally. ArePiecesSound range.now (held_parts (D.state loader.old).held entries.now) →
+    ensures found { IfOk result (λ tally. ArePiecesSound name range.now (held_parts (D.state loader.old).held entries.now) →
         AllPairs ComesBefore entries.now → HasTally (D.state loader.old).held range.now name entries.now tally) }
     ensures spends { Spends (sum_by cost_of (held_parts (D.state loader.old).held entries.now))
         (D.state loader.old) (D.state loader.new) pages.old pages.new result }
@@ -79,9 +79,9 @@ pub fn aggregate<D: Loader, L: Ledger>(
     range: &Range,
     loader: &mut D,
     pages: &mut Steps<L>,
-) -> Result<Option<Value>, PullFault>
+) -> Result<Option<Figure>, PullFault>
     requires one_each { length (D.state loader.old).held ≡ length pieces.now }
-    ensures found { IfOk result (λ answer. ArePiecesSound range.now (zip pieces.now (D.state loader.old).held) →
+    ensures found { IfOk result (λ answer. ArePiecesSound name range.now (zip pieces.now (D.state loader.old).held) →
         IsAggregate (zip pieces.now (D.state loader.old).held) range.now name answer) }
     ensures spends { Spends (most_loads range.now (zip pieces.now (D.state loader.old).held))
         (D.state loader.old) (D.state loader.new) pages.old pages.new result }

@@ -17,4 +17,4 @@ mod tally;
 pub use fold::{aggregate, winners_are_one};
 pub use loader::Loader;
 pub use piece::{Piece, overlap};
-pub use tally::Tally;
+pub use tally::{Tally, has_asked};

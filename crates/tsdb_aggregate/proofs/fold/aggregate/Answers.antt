@@ -30,9 +30,9 @@ returns-clause-found g c = λ sound.
     let parts = zip c.args.pieces.now held in
     let entries = c.in_ok-entries.entries.items in
     let perm = c.in_ok-entries.ensures.all held c.requires.one_each in
-    let inside = sound_entries range parts held entries perm sound in
+    let inside = sound_entries c.args.name range parts held entries perm sound in
     let order : AllPairs ComesBefore entries = in_order range held entries c.in_ok-entries.ensures.order inside.apart (meet_entries range parts held entries perm) in
-    let found = subst (λ es. ArePiecesSound range (held_parts held es) → AllPairs ComesBefore es → HasTally held range c.args.name es c.in_ok-tally.tally) c.deref.ensures.value c.in_ok-tally.ensures.found in
+    let found = subst (λ es. ArePiecesSound c.args.name range (held_parts held es) → AllPairs ComesBefore es → HasTally held range c.args.name es c.in_ok-tally.tally) c.deref.ensures.value c.in_ok-tally.ensures.found in
     aggregate_of_all range parts held entries c.in_ok-tally.tally c.args.name c.in_ok-answer.field-0 perm sound (found inside order) c.in_ok-answer.ensures
 
 pub returns-clause-spends : goal.returns-clause-spends
