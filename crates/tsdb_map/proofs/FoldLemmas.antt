@@ -1,17 +1,21 @@
 -- Aggregates of a list of points, as a walk along it finds them.
-use Rattle.std.proofs.Common.{◌≡◌, ℕ, suc, ◌+◌, ◌-◌, ℤ, List, [], ◌∷◌, ◌++◌, map, length, Option, None, Some, refl, sym, ap, ◌∙◌, arith}
+use Rattle.std.proofs.Common.{◌≡◌, ◌≢◌, ℕ, suc, ◌+◌, ◌-◌, ℤ, ◌+ℤ◌, List, [], ◌∷◌, ◌++◌, map, length, Option, None, Some, refl, sym, ap, ◌∙◌, arith}
 use Rattle.std.specs.Prelude.{slice_get, option_map}
 use Rattle.std.specs.List.{fold, reduce, filter_map, cons_option}
 use Rattle.std.specs.Map.Iter.{TakesFirst, TakesLast, deref_pair}
 use Rattle.std.proofs.lemmas.List.{length-append, map-append}
+use Rattle.std.proofs.lemmas.List.Elements.{filter_map-append}
 use Rattle.std.specs.FinMap.{entries}
 use denote.Bor.{Bor}
 use Rattle.tsdb_base.specs.declared.answers.Aggregate.{Aggregate}
+use Rattle.tsdb_base.specs.declared.answers.Aggregate.TheVariants.{Count, FirstValue, LastValue, MinValue, MaxValue}
+use Rattle.tsdb_base.specs.declared.answers.Aggregate.TheVariants.{MinTime, MaxTime, Sum}
+use Rattle.tsdb_base.specs.declared.answers.Figure.TheVariants as figure
 use Rattle.tsdb_base.specs.declared.point.Point.{Point}
 use Rattle.tsdb_base.specs.declared.value.Value.{Value}
 use Rattle.tsdb_model.specs.World.{PointMap}
-use Rattle.tsdb_model.specs.Folds.{aggregate_of, if_number, in_order, as_number, numbers}
-use Rattle.tsdb_map.specs.Model.{better, points_of_entries}
+use Rattle.tsdb_model.specs.Folds.{aggregate_of, if_number, in_order, as_number, numbers, sum_of, value_of_points}
+use Rattle.tsdb_map.specs.Model.{add_number, better, points_of_entries}
 
 abbrev Seen : Type 0
 Seen = Bor ℤ × Bor Value
@@ -19,28 +23,27 @@ Seen = Bor ℤ × Bor Value
 abbrev Choose : Type 0
 Choose = Value → Value → Value
 
-fold-push : (f : Choose) (a : Value) (xs : List Value) (x : Value) → fold f a (xs ++ x ∷ []) ≡ f (fold f a xs) x
+fold-push : {A : Type 0} (f : A → A → A) (a : A) (xs : List A) (x : A) → fold f a (xs ++ x ∷ []) ≡ f (fold f a xs) x
 fold-push f a [] x = refl
 fold-push f a (y ∷ xs) x = fold-push f (f a y) xs x
+
+append-none : {A : Type 0} (xs : List A) → xs ++ [] ≡ xs
+append-none [] = refl
+append-none (x ∷ xs) = ap (λ l. x ∷ l) (append-none xs)
 
 -- one more number
 reduce-push : (f : Choose) (xs : List Value) (n : Option ℤ) (x : Value) → reduce f (xs ++ filter_map (λ y. if_number n y) (x ∷ [])) ≡ better f n (reduce f xs) x
 reduce-push f [] None x = refl
 reduce-push f [] (Some n) x = refl
 reduce-push f (y ∷ xs) None x = ap (λ l. reduce f (y ∷ l)) (append-none xs)
-  where
-    append-none : (xs : List Value) → xs ++ [] ≡ xs
-    append-none [] = refl
-    append-none (x ∷ xs) = ap (λ l. x ∷ l) (append-none xs)
 reduce-push f (y ∷ xs) (Some n) x = ap Some (fold-push f y xs x)
 
-cons-append : (o : Option Value) (xs ys : List Value) → cons_option o (xs ++ ys) ≡ cons_option o xs ++ ys
-cons-append None xs ys = refl
-cons-append (Some x) xs ys = refl
-
-filter_map-append : (h : Point → Option Value) (xs ys : List Point) → filter_map h (xs ++ ys) ≡ filter_map h xs ++ filter_map h ys
-filter_map-append h [] ys = refl
-filter_map-append h (x ∷ xs) ys = ap (cons_option (h x)) (filter_map-append h xs ys) ∙ cons-append (h x) (filter_map h xs) (filter_map h ys)
+-- one more number to a sum
+sum-push : (xs : List ℤ) (n : Option ℤ) → reduce (λ a b. a +ℤ b) (xs ++ cons_option n []) ≡ add_number (reduce (λ a b. a +ℤ b) xs) n
+sum-push [] None = refl
+sum-push [] (Some n) = refl
+sum-push (y ∷ xs) None = ap (λ l. reduce (λ a b. a +ℤ b) (y ∷ l)) (append-none xs)
+sum-push (y ∷ xs) (Some n) = ap Some (fold-push (λ a b. a +ℤ b) y xs n)
 
 pub reduce-more : (f : Choose) (xs : List Seen) (x : Seen)
     → reduce f (numbers (points_of_entries (map deref_pair (xs ++ x ∷ [])))) ≡ better f (as_number x.1.now) (reduce f (numbers (points_of_entries (map deref_pair xs)))) x.1.now
@@ -49,6 +52,14 @@ reduce-more f xs x =
     ∙ ap (λ l. reduce f (numbers l)) (map-append (λ (e : ℤ × Value). record { time = e.0; value = e.1 }) (map deref_pair xs) (map deref_pair (x ∷ [])))
     ∙ ap (reduce f) (filter_map-append (λ (p : Point). if_number (as_number p.value) p.value) (points_of_entries (map deref_pair xs)) (points_of_entries (map deref_pair (x ∷ []))))
     ∙ reduce-push f (numbers (points_of_entries (map deref_pair xs))) (as_number x.1.now) x.1.now
+
+pub sum-more : (xs : List Seen) (x : Seen)
+    → sum_of (points_of_entries (map deref_pair (xs ++ x ∷ []))) ≡ add_number (sum_of (points_of_entries (map deref_pair xs))) (as_number x.1.now)
+sum-more xs x =
+    ap (λ (l : List (ℤ × Value)). sum_of (points_of_entries l)) (map-append deref_pair xs (x ∷ []))
+    ∙ ap sum_of (map-append (λ (e : ℤ × Value). record { time = e.0; value = e.1 }) (map deref_pair xs) (map deref_pair (x ∷ [])))
+    ∙ ap (reduce (λ a b. a +ℤ b)) (filter_map-append (λ (p : Point). as_number p.value) (points_of_entries (map deref_pair xs)) (points_of_entries (map deref_pair (x ∷ []))))
+    ∙ sum-push (filter_map (λ (p : Point). as_number p.value) (points_of_entries (map deref_pair xs))) (as_number x.1.now)
 
 -- the first point, and the last
 pub first_of : (g : ℤ → Value → Value) (s t : List (ℤ × Value)) (r : Option Seen) → TakesFirst deref_pair s r t
@@ -80,5 +91,23 @@ length-points_of_entries [] = refl
 length-points_of_entries (e ∷ es) = ap (λ n. suc n) (length-points_of_entries es)
 
 -- the aggregate of the points that were walked
-pub of_range : (a b : Aggregate) (es : List (ℤ × Value)) (p : PointMap) → a ≡ b → es ≡ entries p → aggregate_of b (points_of_entries es) ≡ aggregate_of a (in_order p)
-of_range a b es p is same = ap (λ a. aggregate_of a (points_of_entries es)) (sym is) ∙ ap (λ (es : List (ℤ × Value)). aggregate_of a (points_of_entries es)) same
+pub of_range : (a b : Aggregate) (es : List (ℤ × Value)) (p : PointMap) → a ≡ b → es ≡ entries p
+    → value_of_points b (points_of_entries es) ≡ value_of_points a (in_order p)
+of_range a b es p is same = ap (λ a. value_of_points a (points_of_entries es)) (sym is) ∙ ap (λ (es : List (ℤ × Value)). value_of_points a (points_of_entries es)) same
+
+pub sum_in_range : (a : Aggregate) (es : List (ℤ × Value)) (p : PointMap) (sum : Option ℤ) → a ≡ Sum → es ≡ entries p → sum ≡ sum_of (points_of_entries es)
+    → option_map figure.Sum sum ≡ aggregate_of a (in_order p)
+sum_in_range a es p sum is same summed =
+    ap (option_map figure.Sum) (summed ∙ ap (λ (es : List (ℤ × Value)). sum_of (points_of_entries es)) same) ∙ ap (λ a. aggregate_of a (in_order p)) (sym is)
+
+-- a value is the aggregate, unless that is a sum
+pub value_in_range : (a : Aggregate) (points : List Point) (value : Option Value) → a ≢ Sum → value ≡ value_of_points a points
+    → option_map figure.Value value ≡ aggregate_of a points
+value_in_range Count points value other is = ap (option_map figure.Value) is
+value_in_range FirstValue points value other is = ap (option_map figure.Value) is
+value_in_range LastValue points value other is = ap (option_map figure.Value) is
+value_in_range MinValue points value other is = ap (option_map figure.Value) is
+value_in_range MaxValue points value other is = ap (option_map figure.Value) is
+value_in_range MinTime points value other is = ap (option_map figure.Value) is
+value_in_range MaxTime points value other is = ap (option_map figure.Value) is
+value_in_range Sum points value other is = absurd (other refl)

@@ -1,5 +1,5 @@
 -- What the ordered maps of the program stand for in the plain model.
-use Rattle.std.specs.Prelude.{◌≡◌, ℕ, ℤ, Bool, true, false, List, Option, None, Some, map, flat_map, All, ◌==◌}
+use Rattle.std.specs.Prelude.{◌≡◌, ℕ, ℤ, ◌+ℤ◌, false, List, Option, None, Some, map, flat_map, All, ◌==◌}
 use Rattle.std.proofs.Common.{ap}
 use Rattle.std.specs.BTreeMap.{BTreeMap, IsOrdered, keys, values}
 use Rattle.std.specs.Ordering.{nat_cmp}
@@ -9,9 +9,6 @@ use Rattle.std.specs.FinMap.{from_entries, remove}
 use Rattle.std.specs.FinMap as finite
 use Rattle.tsdb_base.specs.declared.value.DataType.{DataType}
 use Rattle.tsdb_base.specs.declared.value.Value.{Value}
-use Rattle.tsdb_base.specs.declared.answers.Aggregate.{Aggregate}
-use Rattle.tsdb_base.specs.declared.answers.Aggregate.TheVariants.{Count, FirstValue, LastValue, MinValue, MaxValue}
-use Rattle.tsdb_base.specs.declared.answers.Aggregate.TheVariants.{MinTime, MaxTime}
 use Rattle.tsdb_base.specs.declared.point.Point.{Point}
 use Rattle.tsdb_model.specs.World.{PointMap, Series, World, put}
 use Rattle.tsdb_path.specs.Nodes.{child_of, dot}
@@ -65,13 +62,8 @@ better choose None best value = best
 better choose (Some number) None value = Some value
 better choose (Some number) (Some best) value = Some (choose best value)
 
--- an aggregate is of the order of numbers
-abbrev pub is_number_aggregate : Option Aggregate → Bool
-is_number_aggregate None = false
-is_number_aggregate (Some Count) = false
-is_number_aggregate (Some FirstValue) = false
-is_number_aggregate (Some LastValue) = false
-is_number_aggregate (Some MinValue) = true
-is_number_aggregate (Some MaxValue) = true
-is_number_aggregate (Some MinTime) = false
-is_number_aggregate (Some MaxTime) = false
+-- the sum so far and one more number
+abbrev pub add_number : Option ℤ → Option ℤ → Option ℤ
+add_number sum None = sum
+add_number None (Some number) = Some number
+add_number (Some sum) (Some number) = Some (sum +ℤ number)

@@ -4,10 +4,11 @@ ghost use Rattle.std.specs.Prelude.{◌≡◌, ◌<◌, ◌^◌, IfOk, length, o
 ghost use Rattle.std.specs.Option.{option_copied};
 ghost use Rattle.std.specs.List.{reduce};
 ghost use Rattle.tsdb_model.specs.Folds as folds;
-ghost use Rattle.tsdb_map.specs.Model.{better, points_of_entries};
+ghost use Rattle.tsdb_base.specs.declared.answers.Figure.{Figure};
+ghost use Rattle.tsdb_map.specs.Model.{add_number, better, points_of_entries};
 
 use std::collections::btree_map;
-use tsdb_base::{Memory, Time, Value};
+use tsdb_base::{Figure, Memory, Time, Value};
 
 /// The number that a value is, if it is one.
 fn number_of(value: &Value) -> Option<i64>
@@ -82,6 +83,51 @@ pub fn greatest_number(points: btree_map::Range<'_, Time, Value>) -> Result<Opti
         greatest = greater(greatest, value);
     }
     copy_option(greatest)
+}
+
+/// The sum of the values that are numbers. So few do not come to more than 128 bits hold, which would be out of memory.
+pub fn sum(points: btree_map::Range<'_, Time, Value>) -> Result<Option<i128>, Memory>
+    ensures { IfOk result (λ sum. sum ≡ folds.sum_of (points_of_entries points.entry)) }
+{
+    let mut sum = None;
+    for (_, value) in points {
+        sum = add(sum, number_of(value))?;
+    }
+    Ok(sum)
+}
+
+/// The sum and a number, each if there is one.
+fn add(sum: Option<i128>, number: Option<i64>) -> Result<Option<i128>, Memory>
+    ensures { IfOk result (λ both. both ≡ add_number sum number) }
+{
+    match (sum, number) {
+        (sum, None) => Ok(sum),
+        (None, Some(number)) => Ok(Some(i128::from(number))),
+        (Some(sum), Some(number)) => match sum.checked_add(i128::from(number)) {
+            Some(both) => Ok(Some(both)),
+            None => Err(Memory),
+        },
+    }
+}
+
+/// What a sum is as a figure, if there is one.
+pub fn sum_figure(sum: Option<i128>) -> Option<Figure>
+    ensures { result ≡ option_map Figure.Sum sum }
+{
+    match sum {
+        None => None,
+        Some(sum) => Some(Figure::Sum(sum)),
+    }
+}
+
+/// What a value is as a figure, if there is one.
+pub fn value_figure(value: Option<Value>) -> Option<Figure>
+    ensures { result ≡ option_map Figure.Value value.entry }
+{
+    match value {
+        None => None,
+        Some(value) => Some(Figure::Value(value)),
+    }
 }
 
 /// The lesser of two numbers, of which the first may not be there; another value is passed over.

@@ -1,17 +1,16 @@
 //! What a select returns: rows, or aggregates. Depends on `catalog` and `rows`.
-ghost use Rattle.std.specs.Prelude.{◌≡◌, IfOk, IfSome, IfNone, map, if◌then◌else◌, true, false};
+ghost use Rattle.std.specs.Prelude.{◌≡◌, IfOk, IfSome, IfNone, Some, map, if◌then◌else◌, true, false};
 ghost use Rattle.tsdb_model.specs.declared.reply.Reply.{Reply};
 ghost use Rattle.tsdb_base.specs.declared.answers.Answer.{Answer};
 ghost use Rattle.tsdb_model.specs.Apply as apply;
 ghost use Rattle.tsdb_model.specs.World.{points_of_series};
 ghost use Rattle.tsdb_model.specs.Folds.{within};
-ghost use Rattle.tsdb_map.specs.Model.{is_number_aggregate};
 
 use crate::catalog::Catalog;
 use crate::rows::rows;
 use crate::series::Series;
 use std::alloc::Global;
-use tsdb_base::{Aggregate, Answer, DataType, List, Memory, Range, Value};
+use tsdb_base::{Aggregate, Answer, DataType, Figure, List, Memory, Range};
 use tsdb_model::{Item, Reply, ask_aggregates};
 use tsdb_path::Path;
 
@@ -77,7 +76,7 @@ fn aggregates(
         let Some(series) = catalog.get(device, &item.measurement) else {
             return Ok(Reply::Plain(Answer::NoPath));
         };
-        if is_unfit(item.aggregate, series.data_type()) {
+        if is_unfit(item.aggregate, series) {
             return Ok(Reply::Plain(Answer::WrongType));
         }
         values.push(item_value(item.aggregate, series, range)?)?;
@@ -85,12 +84,17 @@ fn aggregates(
     Ok(Reply::Values(List::of(values)))
 }
 
-/// The least or the greatest value is asked of a series that has no numbers.
-fn is_unfit(aggregate: Option<Aggregate>, data_type: DataType) -> bool
-    ensures { result ≡ (if is_number_aggregate aggregate then apply.is_unordered data_type else false) }
+/// An aggregate that only numbers have is asked of a series that has none.
+fn is_unfit(aggregate: Option<Aggregate>, series: &Series) -> bool
+    ensures { result ≡ apply.is_unfit aggregate (Some series.now) }
 {
-    matches!(aggregate, Some(Aggregate::MinValue | Aggregate::MaxValue))
-        && matches!(data_type, DataType::Boolean | DataType::Text)
+    match aggregate {
+        None => false,
+        Some(aggregate) => {
+            aggregate.needs_numbers()
+                && matches!(series.data_type(), DataType::Boolean | DataType::Text)
+        }
+    }
 }
 
 /// The aggregate that an item asks for, over the points in the range.
@@ -98,8 +102,8 @@ fn item_value(
     aggregate: Option<Aggregate>,
     series: &Series,
     range: &Range,
-) -> Result<Option<Value>, Memory>
-    ensures { IfOk result (λ value. value ≡ apply.item_value aggregate (within range.now series.now.points)) }
+) -> Result<Option<Figure>, Memory>
+    ensures { IfOk result (λ figure. figure ≡ apply.item_value aggregate (within range.now series.now.points)) }
 {
     match aggregate {
         None => Ok(None),

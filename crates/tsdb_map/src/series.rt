@@ -5,14 +5,14 @@ ghost use Rattle.std.specs.Ordering.{int_cmp};
 ghost use Rattle.std.specs.FinMap as map;
 ghost use Rattle.std.specs.BTreeSet as set;
 ghost use Rattle.tsdb_model.specs.World.{cut, new_series};
-ghost use Rattle.tsdb_model.specs.Folds.{aggregate_of, in_order, within};
+ghost use Rattle.tsdb_model.specs.Folds.{aggregate_of, in_order, value_of_points, within};
 ghost use Rattle.tsdb_map.specs.Model.{set_at};
 
 use crate::fold;
 use std::alloc::Global;
 use std::collections::{BTreeMap, BTreeSet, btree_map};
 use std::marker::Model;
-use tsdb_base::{Aggregate, DataType, Memory, Range, Time, Value};
+use tsdb_base::{Aggregate, DataType, Figure, Memory, Range, Time, Value};
 
 /// The type of a series' values, and its values by their times.
 #[derive(Drop)]
@@ -129,8 +129,25 @@ impl Series {
     }
 
     /// An aggregate of the points in the range.
-    pub fn aggregate(&self, aggregate: Aggregate, range: &Range) -> Result<Option<Value>, Memory>
-        ensures { IfOk result (λ value. value ≡ aggregate_of aggregate (in_order (within range.now self.now.points))) }
+    pub fn aggregate(&self, aggregate: Aggregate, range: &Range) -> Result<Option<Figure>, Memory>
+        ensures { IfOk result (λ figure. figure ≡ aggregate_of aggregate (in_order (within range.now self.now.points))) }
+    {
+        match aggregate {
+            Aggregate::Sum => {
+                let points = self.points_in(range);
+                let sum = fold::sum(points)?;
+                Ok(fold::sum_figure(sum))
+            }
+            _ => {
+                let value = self.one_value(aggregate, range)?;
+                Ok(fold::value_figure(value))
+            }
+        }
+    }
+
+    /// An aggregate of the points in the range that is a value; a sum is none.
+    fn one_value(&self, aggregate: Aggregate, range: &Range) -> Result<Option<Value>, Memory>
+        ensures { IfOk result (λ value. value ≡ value_of_points aggregate (in_order (within range.now self.now.points))) }
     {
         let mut points = self.points_in(range);
         match aggregate {
@@ -141,6 +158,7 @@ impl Series {
             Aggregate::MaxTime => Ok(fold::time(points.next_back())),
             Aggregate::MinValue => fold::least_number(points),
             Aggregate::MaxValue => fold::greatest_number(points),
+            Aggregate::Sum => Ok(None),
         }
     }
 }
