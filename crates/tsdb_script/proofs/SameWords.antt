@@ -50,6 +50,7 @@ aggregates_differ aggregate.MinValue aggregate.MinValue same = refl
 aggregates_differ aggregate.MaxValue aggregate.MaxValue same = refl
 aggregates_differ aggregate.MinTime aggregate.MinTime same = refl
 aggregates_differ aggregate.MaxTime aggregate.MaxTime same = refl
+aggregates_differ aggregate.Sum aggregate.Sum same = refl
 aggregates_differ one other same = absurd (true≢false (sym same))
 
 pub one_encoding : (word : List ℕ) (one other : Encoding) → SpellsName word (encoding_name one) → SpellsName word (encoding_name other) → one ≡ other

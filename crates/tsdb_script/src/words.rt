@@ -197,6 +197,8 @@ pub fn read_aggregate(word: &WordToken) -> Result<Aggregate, LineFault>
         Ok(Aggregate::MinTime)
     } else if word.is(b"max_time") {
         Ok(Aggregate::MaxTime)
+    } else if word.is(b"sum") {
+        Ok(Aggregate::Sum)
     } else {
         Err(NO_NAME)
     }
