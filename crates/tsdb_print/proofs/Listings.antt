@@ -15,7 +15,7 @@ use Rattle.tsdb_model.specs.declared.reply.Listing.{Listing}
 use Rattle.tsdb_print.specs.Text.{file_text, line, listing_text, same_space, space_name, working_text}
 use Rattle.tsdb_print.specs.Alike.{IsFileInRange, IsListingInRange, files_in_space, shown_listing}
 use Rattle.tsdb_print.proofs.Pieces.{file_lines}
-use Rattle.tsdb_print.proofs.Words.{Begins, tail_of, Stops, IsWord, same_word, after_decimal, after_signed}
+use Rattle.tsdb_print.proofs.Words.{Begins, tail_of, Stops, IsWord, same_word, after_decimal, after_signed, fits_wide}
 
 -- what stands behind the space of a file, up to the end of its line, and what follows
 abbrev behind_space : FileLine → List ℕ → List ℕ
@@ -66,8 +66,8 @@ same_file a b x y ra rb e =
     let n = after_decimal a.number.0 b.number.0 _ _ ra.number rb.number blank blank (append_cancel_left (codes " ") _ _ s.1) in
     let m = after_decimal a.born.0 b.born.0 _ _ ra.born rb.born blank blank (append_cancel_left (codes " born ") _ _ n.1) in
     let p = after_decimal a.points b.points _ _ ra.points rb.points blank blank (append_cancel_left (codes " points ") _ _ m.1) in
-    let f = after_signed a.from b.from _ _ ra.from rb.from blank blank (append_cancel_left (codes " from ") _ _ p.1) in
-    let t = after_signed a.to b.to (10 ∷ x) (10 ∷ y) ra.to rb.to end_of_line end_of_line (append_cancel_left (codes " to ") _ _ f.1) in
+    let f = after_signed a.from b.from _ _ (fits_wide a.from ra.from) (fits_wide b.from rb.from) blank blank (append_cancel_left (codes " from ") _ _ p.1) in
+    let t = after_signed a.to b.to (10 ∷ x) (10 ∷ y) (fits_wide a.to ra.to) (fits_wide b.to rb.to) end_of_line end_of_line (append_cancel_left (codes " to ") _ _ f.1) in
     (same_fields a b (same_space_name a.space b.space s.0) n.0 m.0 p.0 f.0 t.0, tail_of 10 10 x y t.1)
 
 -- no file of this space begins the list

@@ -7,10 +7,12 @@ use Rattle.std.proofs.lemmas.Bool.{false≢true}
 use Rattle.std.proofs.lemmas.List.{append_cancel_left, length-map}
 use Rattle.std.proofs.lemmas.List.Elements.{recursion_from_All}
 use Rattle.tsdb_base.specs.declared.answers.Aggregate.{Aggregate}
-use Rattle.tsdb_base.specs.declared.answers.Aggregate.TheVariants.{Count, FirstValue, LastValue, MinValue, MaxValue, MinTime, MaxTime}
+use Rattle.tsdb_base.specs.declared.answers.Aggregate.TheVariants.{Count, FirstValue, LastValue, MinValue, MaxValue, MinTime, MaxTime, Sum}
 use Rattle.tsdb_base.specs.Notation.{aggregate_name}
 use Rattle.tsdb_base.specs.declared.answers.Answer.{Answer}
 use Rattle.tsdb_base.specs.declared.answers.Answer.TheVariants.{Done, NoPath, WrongType, Exists, Device, Memory, Full}
+use Rattle.tsdb_base.specs.declared.answers.Figure.{Figure}
+use Rattle.tsdb_base.specs.declared.answers.Figure.TheVariants as figure
 use Rattle.tsdb_base.specs.declared.value.Value.{Value}
 use Rattle.tsdb_base.specs.declared.value.Value.TheVariants as value
 use Rattle.tsdb_model.specs.declared.command.Command.{Command}
@@ -24,10 +26,10 @@ use Rattle.tsdb_model.specs.Commands.{AreItems, IsWellFormed}
 use Rattle.tsdb_model.specs.History.{IsAllowed}
 use Rattle.tsdb_model.specs.State.{State}
 use Rattle.tsdb_model.specs.World.{World}
-use Rattle.tsdb_print.specs.Alike.{IsReplyInRange, IsRowInRange, IsCellInRange, as_printed, shown_answer, shown_value, shown_values, shown_row}
-use Rattle.tsdb_print.specs.Text.{answer_text, cell_text, column_text, item_text, items_of, join_with_commas, line, reply_text, row_text, rows_text, values_text}
+use Rattle.tsdb_print.specs.Alike.{IsReplyInRange, IsRowInRange, IsFigureInRange, as_printed, shown_answer, shown_figure, shown_figures, shown_value, shown_values, shown_row}
+use Rattle.tsdb_print.specs.Text.{answer_text, cell_text, column_text, figure_text, item_text, items_of, join_with_commas, line, reply_text, row_text, rows_text, values_text}
 use Rattle.tsdb_print.proofs.Words.{Begins, IsWord, Stops, apart_by_stop}
-use Rattle.tsdb_print.proofs.Cells.{rows_lines, same_rows, same_values}
+use Rattle.tsdb_print.proofs.Cells.{rows_lines, same_figures, same_rows}
 use Rattle.tsdb_print.proofs.Listings.{listing_begins, listing_shown, same_listing}
 
 answer_word : (answer : Answer) → IsWord (answer_text answer)
@@ -75,6 +77,7 @@ aggregate_word LastValue = (omega arith, (omega arith, (omega arith, (omega arit
 aggregate_word MinValue = (omega arith, (omega arith, (omega arith, (omega arith, (omega arith, (omega arith, (omega arith, (omega arith, (omega arith, tt)))))))))
 aggregate_word MaxValue = (omega arith, (omega arith, (omega arith, (omega arith, (omega arith, (omega arith, (omega arith, (omega arith, (omega arith, tt)))))))))
 aggregate_word MinTime = (omega arith, (omega arith, (omega arith, (omega arith, (omega arith, (omega arith, (omega arith, (omega arith, tt))))))))
+aggregate_word Sum = (omega arith, (omega arith, (omega arith, tt)))
 aggregate_word MaxTime = (omega arith, (omega arith, (omega arith, (omega arith, (omega arith, (omega arith, (omega arith, (omega arith, tt))))))))
 
 -- rows are the reply to a select alone, which has items
@@ -88,14 +91,14 @@ items_of_rows world (CompactInner space) rows well e = absurd cc
 items_of_rows world CompactCross rows well e = absurd cc
 items_of_rows world ShowFiles rows well e = absurd cc
 
-asked : (there ask unfit : Bool) (a b : Answer) (rows : List Line) (values found : List (Option Value))
+asked : (there ask unfit : Bool) (a b : Answer) (rows : List Line) (values found : List (Option Figure))
     → Values values ≡ cond there (cond ask (cond unfit (Plain a) (Values found)) (Lines rows)) (Plain b) → ask ≡ true
 asked there true unfit a b rows values found e = refl
 asked true false unfit a b rows values found e = absurd cc
 asked false false unfit a b rows values found e = absurd cc
 
 -- aggregates are the reply to a select alone that asks for some
-items_of_values : (world : World) (command : Command) (values : List (Option Value)) → Values values ≡ reply_of world command → IsWellFormed command
+items_of_values : (world : World) (command : Command) (values : List (Option Figure)) → Values values ≡ reply_of world command → IsWellFormed command
     → AreItems (items_of command) × (ask_aggregates (items_of command) ≡ true)
 items_of_values world (Create schema) values e well = absurd cc
 items_of_values world (Insert device row) values e well = absurd cc
@@ -124,7 +127,7 @@ first_aggregate : (a : Option Aggregate) → IsSome a → (aggregate : Aggregate
 first_aggregate None some = absurd (false≢true some)
 first_aggregate (Some aggregate) some = (aggregate, refl)
 
-values_begin : (items : List Item) (values : List (Option Value)) → AreItems items → ask_aggregates items ≡ true → Begins 40 (values_text items values)
+values_begin : (items : List Item) (values : List (Option Figure)) → AreItems items → ask_aggregates items ≡ true → Begins 40 (values_text items values)
 values_begin [] values are ask = absurd (false≢true ask)
 values_begin (item ∷ items) values are ask =
     elim are.alike [
@@ -132,13 +135,13 @@ values_begin (item ∷ items) values are ask =
       | inr all ↦
           let found = first_aggregate item.aggregate (recursion_from_All (λ i. IsSome i.aggregate) (item ∷ items) all).0 in
           let others = flat_map (λ other. 44 ∷ other) (map item_text items) in
-          let begins = item_begins item (others ++ (10 ∷ line (join_with_commas (map cell_text values)))) found.0 found.1 in
+          let begins = item_begins item (others ++ (10 ∷ line (join_with_commas (map figure_text values)))) found.0 found.1 in
           record {
             word = begins.word;
             rest = begins.rest;
             letters = begins.letters;
-            is = append_assoc (item_text item ++ others) (10 ∷ []) (line (join_with_commas (map cell_text values)))
-                ∙ append_assoc (item_text item) others (10 ∷ line (join_with_commas (map cell_text values))) ∙ begins.is;
+            is = append_assoc (item_text item ++ others) (10 ∷ []) (line (join_with_commas (map figure_text values)))
+                ∙ append_assoc (item_text item) others (10 ∷ line (join_with_commas (map figure_text values))) ∙ begins.is;
           }
     ]
 
@@ -191,8 +194,8 @@ rows_apart items a b ra rb e =
     let whole = sym (append_assoc heading (rows_lines a) (114 ∷ behind_rows a)) ∙ e ∙ append_assoc heading (rows_lines b) (114 ∷ behind_rows b) in
     same_rows a b (behind_rows a) (behind_rows b) ra rb (append_cancel_left heading (rows_lines a ++ 114 ∷ behind_rows a) (rows_lines b ++ 114 ∷ behind_rows b) whole)
 
-values_apart : (items : List Item) (a b : List (Option Value)) → AllByRecursion IsCellInRange a → AllByRecursion IsCellInRange b → values_text items a ≡ values_text items b → shown_values a ≡ shown_values b
-values_apart items a b ra rb e = same_values a b ra rb (append_cancel_left (line (join_with_commas (map item_text items))) (line (join_with_commas (map cell_text a))) (line (join_with_commas (map cell_text b))) e)
+values_apart : (items : List Item) (a b : List (Option Figure)) → AllByRecursion IsFigureInRange a → AllByRecursion IsFigureInRange b → values_text items a ≡ values_text items b → shown_figures a ≡ shown_figures b
+values_apart items a b ra rb e = same_figures a b ra rb (append_cancel_left (line (join_with_commas (map item_text items))) (line (join_with_commas (map figure_text a))) (line (join_with_commas (map figure_text b))) e)
 
 pub apart : (command : Command) (a b : Reply) (state other : State) → IsWellFormed command → IsAllowed state command a → IsAllowed other command b → IsReplyInRange a → IsReplyInRange b
     → reply_text command a ≡ reply_text command b → as_printed a ≡ as_printed b
@@ -213,6 +216,15 @@ shown_cell-text (Some (value.Text bytes)) = refl
 cells_shown : (values : List (Option Value)) → map cell_text (shown_values values) ≡ map cell_text values
 cells_shown [] = refl
 cells_shown (v ∷ values) = let head = shown_cell-text v in let tail = cells_shown values in cc
+
+shown_figure-text : (f : Option Figure) → figure_text (option_map shown_figure f) ≡ figure_text f
+shown_figure-text None = refl
+shown_figure-text (Some (figure.Value v)) = shown_cell-text (Some v)
+shown_figure-text (Some (figure.Sum sum)) = refl
+
+figures_shown : (figures : List (Option Figure)) → map figure_text (shown_figures figures) ≡ map figure_text figures
+figures_shown [] = refl
+figures_shown (f ∷ figures) = let head = shown_figure-text f in let tail = figures_shown figures in cc
 
 rows_shown : (rows : List Line) → rows_lines (map shown_row rows) ≡ rows_lines rows
 rows_shown [] = refl
@@ -237,7 +249,7 @@ answer_shown (Full counter) = refl
 text_shown : (command : Command) (a : Reply) → reply_text command (as_printed a) ≡ reply_text command a
 text_shown command (Plain answer) = ap line (answer_shown answer)
 text_shown command (Lines rows) = rows_text_shown (items_of command) rows
-text_shown command (Values values) = ap (λ cells. line (join_with_commas (map item_text (items_of command))) ++ line (join_with_commas cells)) (cells_shown values)
+text_shown command (Values values) = ap (λ cells. line (join_with_commas (map item_text (items_of command))) ++ line (join_with_commas cells)) (figures_shown values)
 text_shown command (Files listing) = listing_shown listing
 
 pub alike : (command : Command) (a b : Reply) → as_printed a ≡ as_printed b → reply_text command a ≡ reply_text command b

@@ -1,10 +1,10 @@
 -- Words and numbers, followed by a byte that ends them.
-use Rattle.std.proofs.Common.{◌≡◌, ◌≢◌, ℕ, suc, ◌+◌, ◌%◌, ◌^◌, ◌<◌, ◌≤◌, List, [], ◌∷◌, ◌++◌, length, get_or, refl, ap, sym, ◌∙◌, arith}
+use Rattle.std.proofs.Common.{◌≡◌, ◌≢◌, ℕ, suc, ◌+◌, ◌%◌, ◌^◌, ◌<◌, ◌≤◌, List, [], ◌∷◌, ◌++◌, length, get_or, drop, refl, ap, sym, subst, ◌∙◌, arith}
 use Rattle.std.specs.Prelude.{ℤ, pos, negsuc, FitsSigned}
-use Rattle.std.specs.Int.{w64}
-use Rattle.std.specs.Int.Signed.{mag}
+use Rattle.std.specs.Int.{w64, w128}
 use Rattle.std.specs.Fmt.{decimal, signed_decimal}
-use Rattle.std.proofs.lemmas.Fmt.{decimal_by_steps, decimal_nonempty, decimal_injective, signed_decimal_injective}
+use Rattle.std.specs.Str.Parse.{digits_value}
+use Rattle.std.proofs.lemmas.Fmt.{decimal_by_steps_wide, decimal_injective, decimal_is_IsNumeral_wide}
 use Rattle.std.proofs.lemmas.Int.{ints}
 
 pub head_of : (b c : ℕ) (x y : List ℕ) → b ∷ x ≡ c ∷ y → b ≡ c
@@ -53,27 +53,54 @@ IsNumber-append : (a b : List ℕ) → IsNumber a → IsNumber b → IsNumber (a
 IsNumber-append [] b na nb = nb
 IsNumber-append (c ∷ a) b na nb = (na.0, na.1, IsNumber-append a b na.2 nb)
 
-pub decimal_number : (n : ℕ) → n < 2 ^ 64 → IsNumber (decimal n)
+-- a number of at most 64 digits
+decimal_number : (n : ℕ) → n < 10 ^ 64 → IsNumber (decimal n)
 decimal_number n small =
-    decimal_by_steps (λ n ds. IsNumber ds) (λ n h. (omega arith, omega arith, tt))
+    decimal_by_steps_wide (λ n ds. IsNumber ds) (λ n h. (omega arith, omega arith, tt))
     (λ n ds h front. IsNumber-append ds ((48 + n % 10) ∷ []) front (omega arith, omega arith, tt)) n small
 
 pub decimal_word : (n : ℕ) → n < 2 ^ 64 → IsWord (decimal n)
-decimal_word n small = IsWord-number (decimal n) (decimal_number n small)
+decimal_word n small = IsWord-number (decimal n) (decimal_number n (omega arith))
 
-pub signed_number : (z : ℤ) → FitsSigned w64 z → IsNumber (signed_decimal z)
+-- a number of 64 bits has 128
+pub fits_wide : (z : ℤ) → FitsSigned w64 z → FitsSigned w128 z
+fits_wide z fits = omega (arith, ints)
+
+pub signed_number : (z : ℤ) → FitsSigned w128 z → IsNumber (signed_decimal z)
 signed_number (pos n) fits = decimal_number n (omega (arith, ints))
 signed_number (negsuc n) fits = (omega arith, omega arith, decimal_number (suc n) (omega (arith, ints)))
 
-pub signed_word : (z : ℤ) → FitsSigned w64 z → IsWord (signed_decimal z)
+pub signed_word : (z : ℤ) → FitsSigned w128 z → IsWord (signed_decimal z)
 signed_word z fits = IsWord-number (signed_decimal z) (signed_number z fits)
 
-small_mag : (z : ℤ) → FitsSigned w64 z → mag z < 2 ^ 63
-small_mag (pos n) fits = omega (arith, ints)
-small_mag (negsuc n) fits = omega (arith, ints)
+same_decimal : (m n : ℕ) → m < 10 ^ 64 → n < 10 ^ 64 → decimal m ≡ decimal n → m ≡ n
+same_decimal m n fm fn e = sym (decimal_is_IsNumeral_wide m fm).1 ∙ ap (digits_value 10) e ∙ (decimal_is_IsNumeral_wide n fn).1
 
-pub same_signed : (y z : ℤ) → FitsSigned w64 y → FitsSigned w64 z → signed_decimal y ≡ signed_decimal z → y ≡ z
-same_signed y z fy fz e = signed_decimal_injective y z (small_mag y fy) (small_mag z fz) e
+-- it begins with a digit
+abbrev BeginsWithDigit : List ℕ → Type 0
+BeginsWithDigit [] = ⊥
+BeginsWithDigit (b ∷ bs) = 48 ≤ b
+
+digit_then : (a b : List ℕ) → BeginsWithDigit a → BeginsWithDigit (a ++ b)
+digit_then [] b begins = absurd begins
+digit_then (c ∷ a) b begins = begins
+
+first_digit : (n : ℕ) → n < 10 ^ 64 → BeginsWithDigit (decimal n)
+first_digit n small =
+    decimal_by_steps_wide (λ n ds. BeginsWithDigit ds) (λ n h. omega arith) (λ n ds h front. digit_then ds ((48 + n % 10) ∷ []) front) n small
+
+no_minus : (n : ℕ) (rest : List ℕ) → n < 10 ^ 64 → decimal n ≡ 45 ∷ rest → ⊥
+no_minus n rest small e =
+    let begins : 48 ≤ 45 = subst BeginsWithDigit e (first_digit n small) in
+    omega (arith, begins)
+
+pub same_signed : (y z : ℤ) → FitsSigned w128 y → FitsSigned w128 z → signed_decimal y ≡ signed_decimal z → y ≡ z
+same_signed (pos m) (pos n) fy fz e = ap pos (same_decimal m n (omega (arith, ints)) (omega (arith, ints)) e)
+same_signed (pos m) (negsuc n) fy fz e = absurd (no_minus m (decimal (suc n)) (omega (arith, ints)) e)
+same_signed (negsuc m) (pos n) fy fz e = absurd (no_minus n (decimal (suc m)) (omega (arith, ints)) (sym e))
+same_signed (negsuc m) (negsuc n) fy fz e =
+    let same : suc m ≡ suc n = same_decimal (suc m) (suc n) (omega (arith, ints)) (omega (arith, ints)) (ap (drop 1) e) in
+    ap negsuc (omega (arith, same))
 
 -- an unsigned number, and what follows it
 pub after_decimal : (m n : ℕ) (x y : List ℕ) → m < 2 ^ 64 → n < 2 ^ 64 → Stops x → Stops y → decimal m ++ x ≡ decimal n ++ y → (m ≡ n) × (x ≡ y)
@@ -82,7 +109,7 @@ after_decimal m n x y sm sn sx sy e =
     (decimal_injective m n sm sn same.0, same.1)
 
 -- a signed number, and what follows it
-pub after_signed : (m n : ℤ) (x y : List ℕ) → FitsSigned w64 m → FitsSigned w64 n → Stops x → Stops y → signed_decimal m ++ x ≡ signed_decimal n ++ y → (m ≡ n) × (x ≡ y)
+pub after_signed : (m n : ℤ) (x y : List ℕ) → FitsSigned w128 m → FitsSigned w128 n → Stops x → Stops y → signed_decimal m ++ x ≡ signed_decimal n ++ y → (m ≡ n) × (x ≡ y)
 after_signed m n x y sm sn sx sy e =
     let same = same_word (signed_decimal m) (signed_decimal n) x y (signed_word m sm) (signed_word n sn) sx sy e in
     (same_signed m n sm sn same.0, same.1)
@@ -93,8 +120,8 @@ no_letter [] [] rest letter number stops high e = absurd stops
 no_letter [] (d ∷ x) rest letter number stops high e = let first : letter ≡ d = cc in omega (arith, stops.0)
 no_letter (c ∷ text) x rest letter number stops high e = let first : letter ≡ c = cc in omega (arith, number.1)
 
-pub not_empty : (z : ℤ) → FitsSigned w64 z → 0 < length (signed_decimal z)
-not_empty (pos n) fits = decimal_nonempty n (omega (arith, ints))
+pub not_empty : (z : ℤ) → FitsSigned w128 z → 0 < length (signed_decimal z)
+not_empty (pos n) fits = (decimal_is_IsNumeral_wide n (omega (arith, ints))).0.0
 not_empty (negsuc n) fits = omega arith
 
 -- a text begins with a word and this byte

@@ -1,9 +1,11 @@
 -- What a reply shows: what is left of it when what is not printed is forgotten.
 use Rattle.std.specs.Prelude.{◌≡◌, ◌<◌, ◌^◌, FitsSigned, List, ◌++◌, Option, None, Some, map, filter, length, option_map}
-use Rattle.std.specs.Int.{w64}
+use Rattle.std.specs.Int.{w64, w128}
 use Rattle.std.specs.List.{AllByRecursion}
 use Rattle.tsdb_base.specs.declared.answers.Answer.{Answer}
 use Rattle.tsdb_base.specs.declared.answers.Answer.TheVariants as answer
+use Rattle.tsdb_base.specs.declared.answers.Figure.{Figure}
+use Rattle.tsdb_base.specs.declared.answers.Figure.TheVariants as figure
 use Rattle.tsdb_base.specs.declared.ids.Space.{Space}
 use Rattle.tsdb_base.specs.declared.ids.Space.TheVariants.{Sequence, Unsequence}
 use Rattle.tsdb_base.specs.declared.value.Value.{Value}
@@ -35,6 +37,14 @@ shown_value (value.Text bytes) = value.Text bytes
 abbrev pub shown_values : List (Option Value) → List (Option Value)
 shown_values values = map (option_map shown_value) values
 
+-- a sum prints as another whole number does
+abbrev pub shown_figure : Figure → Figure
+shown_figure (figure.Value value) = figure.Value (shown_value value)
+shown_figure (figure.Sum sum) = figure.Value (value.I64 sum)
+
+abbrev pub shown_figures : List (Option Figure) → List (Option Figure)
+shown_figures figures = map (option_map shown_figure) figures
+
 abbrev pub shown_row : Line → Line
 shown_row row = record { time = row.time; values = shown_values row.values }
 
@@ -55,7 +65,7 @@ shown_listing listing = record {
 abbrev pub as_printed : Reply → Reply
 as_printed (Plain answer) = Plain (shown_answer answer)
 as_printed (Lines rows) = Lines (map shown_row rows)
-as_printed (Values values) = Values (shown_values values)
+as_printed (Values values) = Values (shown_figures values)
 as_printed (Files listing) = Files (shown_listing listing)
 
 -- numbers are in the ranges of their types
@@ -68,6 +78,11 @@ IsValueInRange (value.Text bytes) = Unit {0}
 abbrev pub IsCellInRange : Option Value → Type 0
 IsCellInRange None = Unit {0}
 IsCellInRange (Some value) = IsValueInRange value
+
+abbrev pub IsFigureInRange : Option Figure → Type 0
+IsFigureInRange None = Unit {0}
+IsFigureInRange (Some (figure.Value value)) = IsValueInRange value
+IsFigureInRange (Some (figure.Sum sum)) = FitsSigned w128 sum
 
 pub record IsRowInRange (row : Line) : Type 0 where
   pub time : FitsSigned w64 row.time
@@ -90,5 +105,5 @@ pub record IsListingInRange (listing : Listing) : Type 0 where
 abbrev pub IsReplyInRange : Reply → Type 0
 IsReplyInRange (Plain answer) = Unit {0}
 IsReplyInRange (Lines rows) = AllByRecursion IsRowInRange rows
-IsReplyInRange (Values values) = AllByRecursion IsCellInRange values
+IsReplyInRange (Values values) = AllByRecursion IsFigureInRange values
 IsReplyInRange (Files listing) = IsListingInRange listing

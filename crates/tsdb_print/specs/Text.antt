@@ -7,6 +7,8 @@ use Rattle.tsdb_base.specs.Notation.{aggregate_name, escape}
 use Rattle.tsdb_base.specs.declared.answers.Aggregate.{Aggregate}
 use Rattle.tsdb_base.specs.declared.answers.Answer.{Answer}
 use Rattle.tsdb_base.specs.declared.answers.Answer.TheVariants as answer
+use Rattle.tsdb_base.specs.declared.answers.Figure.{Figure}
+use Rattle.tsdb_base.specs.declared.answers.Figure.TheVariants as figure
 use Rattle.tsdb_base.specs.declared.ids.Space.{Space}
 use Rattle.tsdb_base.specs.declared.ids.Space.TheVariants.{Sequence, Unsequence}
 use Rattle.tsdb_base.specs.declared.value.Value.{Value}
@@ -51,6 +53,12 @@ cell_text (Some (value.I32 number)) = signed_decimal number
 cell_text (Some (value.I64 number)) = signed_decimal number
 cell_text (Some (value.Text bytes)) = quote bytes
 
+-- what an aggregate comes to, or `null`
+abbrev pub figure_text : Option Figure → List ℕ
+figure_text None = codes "null"
+figure_text (Some (figure.Value value)) = cell_text (Some value)
+figure_text (Some (figure.Sum sum)) = signed_decimal sum
+
 -- an aggregate of a measurement, or the measurement alone
 abbrev pub column_text : Option Aggregate → List ℕ → List ℕ
 column_text None measurement = measurement
@@ -70,9 +78,9 @@ rows_text items rows = line (join_with_commas (codes "time" ∷ map item_text it
     ++ flat_map (λ row. line (row_text row)) rows ++ line (codes "rows " ++ decimal (length rows))
 
 -- the aggregates of a select: a heading, and a line with their values
-abbrev pub values_text : List Item → List (Option Value) → List ℕ
+abbrev pub values_text : List Item → List (Option Figure) → List ℕ
 values_text items values = line (join_with_commas (map item_text items))
-    ++ line (join_with_commas (map cell_text values))
+    ++ line (join_with_commas (map figure_text values))
 
 abbrev pub space_name : Space → List ℕ
 space_name Sequence = codes "sequence"

@@ -1,13 +1,15 @@
-//! Appends numbers, values and items to a text, and lists of them with commas between. Depends on `digits`.
+//! Appends numbers, values and items to a text, and lists of them with commas between. Depends on `digits`
+//! and `sum`.
 ghost use Rattle.std.specs.Prelude.{◌≡◌, ℕ, List, [], ◌∷◌, ◌++◌, OnOk, map};
 ghost use Rattle.std.specs.Fmt.{decimal, signed_decimal};
 ghost use Rattle.std.specs.List.{flat_map};
 ghost use Rattle.tsdb_base.specs.Notation.{aggregate_name, escape};
-ghost use Rattle.tsdb_print.specs.Text.{cell_text, item_text, join_with_commas, quote};
+ghost use Rattle.tsdb_print.specs.Text.{cell_text, figure_text, item_text, join_with_commas, quote};
 
 use crate::digits::{MAX_DIGITS, write_digits};
+use crate::sum::append_sum;
 use std::alloc::AllocError;
-use tsdb_base::{Aggregate, Value};
+use tsdb_base::{Aggregate, Figure, Value};
 use tsdb_model::Item;
 
 /// What has a text of its own.
@@ -27,6 +29,17 @@ impl Printed for Option<Value> {
         match self {
             None => into.extend_from_slice(b"null"),
             Some(value) => append_value(value, into),
+        }
+    }
+}
+
+impl Printed for Option<Figure> {
+    ghost text = { figure_text };
+
+    fn append(&self, into: &mut Vec<u8>) -> Result<(), AllocError> {
+        match self {
+            None => into.extend_from_slice(b"null"),
+            Some(figure) => append_figure(figure, into),
         }
     }
 }
@@ -111,6 +124,7 @@ fn name_of(aggregate: Aggregate) -> &'static [u8]
         Aggregate::MaxValue => b"max_value",
         Aggregate::MinTime => b"min_time",
         Aggregate::MaxTime => b"max_time",
+        Aggregate::Sum => b"sum",
     }
 }
 
@@ -146,4 +160,13 @@ fn append_escape(byte: u8, into: &mut Vec<u8>) -> Result<(), AllocError>
     }
     into.push(byte)?;
     Ok(())
+}
+
+fn append_figure(figure: &Figure, into: &mut Vec<u8>) -> Result<(), AllocError>
+    ensures { OnOk result (into.new.items ≡ into.old.items ++ figure_text (Some figure.now)) }
+{
+    match figure {
+        Figure::Value(value) => append_value(value, into),
+        Figure::Sum(sum) => append_sum(*sum, into),
+    }
 }

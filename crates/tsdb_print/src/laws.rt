@@ -9,8 +9,8 @@ ghost use Rattle.tsdb_print.specs.Alike.{IsReplyInRange, as_printed};
 ghost use Rattle.tsdb_print.specs.Text.{reply_text};
 
 /// Two replies that a command may have, each in some state, print alike exactly where they show the same. They show
-/// the same where they are the same but for the counter of `full`, the width of whole numbers, and the order of
-/// files of different spaces in a listing.
+/// the same where they are the same but for the counter of `full`, the width of whole numbers, among which are sums, and
+/// the order of files of different spaces in a listing.
 pub fn replies_that_print_alike()
     ensures apart { (command : Command) (a b : Reply) (state other : State) → IsWellFormed command
         → IsAllowed state command a → IsAllowed other command b → IsReplyInRange a → IsReplyInRange b

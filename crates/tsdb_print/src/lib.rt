@@ -8,6 +8,7 @@ mod laws;
 mod listing;
 mod order;
 mod reply;
+mod sum;
 
 pub use laws::replies_that_print_alike;
 pub use order::{print_order, print_session};

@@ -5,7 +5,7 @@ ghost use Rattle.tsdb_print.specs.Text.{answer_text, items_of, line, reply_text,
 use crate::append::{append_after_commas, append_list, append_signed, append_unsigned};
 use crate::listing::append_listing;
 use std::alloc::{AllocError, Global};
-use tsdb_base::{Answer, Memory, Value};
+use tsdb_base::{Answer, Figure, Memory};
 use tsdb_model::{Command, Item, Line, Reply};
 
 /// The lines of a reply to a command. Its time is linear in what it prints.
@@ -72,7 +72,7 @@ fn append_row(row: &Line, into: &mut Vec<u8>) -> Result<(), AllocError>
 
 fn append_values(
     items: &[Item],
-    values: &[Option<Value>],
+    values: &[Option<Figure>],
     into: &mut Vec<u8>,
 ) -> Result<(), AllocError>
     ensures { OnOk result (into.new.items ≡ into.old.items ++ values_text items.now values.now) }
