@@ -10,11 +10,12 @@ use Rattle.std.proofs.lemmas.List.Elements.{All-cons, All-head, All-tail}
 use Rattle.std.proofs.lemmas.List.Folds.{list_any-append}
 use Rattle.std.proofs.lemmas.Option.{slice_get-get_or}
 use Rattle.tsdb_aggregate.specs.Pieces.{overlap}
+use Rattle.tsdb_base.specs.declared.answers.Aggregate.{Aggregate}
 use Rattle.tsdb_base.specs.declared.point.Point.{Point}
 use Rattle.tsdb_base.specs.declared.point.Range.{Range}
 use Rattle.tsdb_base.specs.declared.point.Stats.{Stats}
 use Rattle.tsdb_streams.proofs.KeptLemmas.{common_time}
-use Rattle.tsdb_streams.specs.Clean.{any_meets, hull_of, is_clean, is_marked, others}
+use Rattle.tsdb_streams.specs.Clean.{any_meets, hull_of, is_apart, is_marked, others}
 use Rattle.tsdb_streams.specs.declared.survival.Kept.{Kept}
 use Rattle.tsdb_streams.specs.declared.lane.Lane.{Lane}
 use Rattle.tsdb_streams.specs.declared.lane.Lane.TheVariants.{Pages, Part}
@@ -237,7 +238,7 @@ met_behind f p n xs front back rest result is behind later none says =
 
 module _ (path : List ℕ) (range : Range) (marks : List Mark) (hulls : List (List Range)) (born : ℕ) (times : Range) where
   abbrev clean : Bool
-  clean = is_clean path range marks hulls born times
+  clean = is_apart path range marks hulls born times
 
   by_parts : (a b m o : Bool) → is_in range times.from ≡ a → is_in range times.to ≡ b → is_marked path marks born times ≡ m → list_any (any_meets times) hulls ≡ o → clean ≡ ((a && b) && (not m && not o))
   by_parts a b m o ea eb em eo = rw (ea, eb, em, eo) refl
@@ -324,22 +325,22 @@ pub passed_at : (flags : List Bool) (i : ℕ) → i < length flags → is_passed
 passed_at flags i low = ap (λ o. unwrap_or o false) (slice_get-get_or flags i (is_passed flags i) low)
 
 -- the pages of a source and whether they are one piece, as they were found
-pub as_cleaned : {R : Type 0} (kept : Kept) (hulls : List (List Range)) (flags : List Bool) (whole : Bool) (old new : Lane R) → flags ≡ flags_of kept hulls old → whole ≡ whole_of hulls flags old → IsFlagged flags whole old new → IsCleaned kept hulls old new
-as_cleaned kept hulls flags whole old new are is flagged =
-    subst (λ f. IsFlagged f (whole_of hulls f old) old new) are (subst (λ w. IsFlagged flags w old new) is flagged)
+pub as_cleaned : {R : Type 0} (name : Aggregate) (kept : Kept) (hulls : List (List Range)) (flags : List Bool) (whole : Bool) (old new : Lane R) → flags ≡ flags_of name kept hulls old → whole ≡ whole_of name hulls flags old → IsFlagged flags whole old new → IsCleaned name kept hulls old new
+as_cleaned name kept hulls flags whole old new are is flagged =
+    subst (λ f. IsFlagged f (whole_of name hulls f old) old new) are (subst (λ w. IsFlagged flags w old new) is flagged)
 
-module _ {R : Type 0} (kept : Kept) where
+module _ {R : Type 0} (name : Aggregate) (kept : Kept) where
   -- the first sources pass over their clean pages, and the rest are as before
   pub record IsPassing (old new : List (Lane R)) (place : ℕ) : Type 0 where
     pub long : length new ≡ length old
     pub hulls : map lane_hulls new ≡ map lane_hulls old
-    pub done : (k : ℕ) (d : Lane R) → k < length old → k < place → IsCleaned kept (others k (map lane_hulls old)) (get_or old k d) (get_or new k d)
+    pub done : (k : ℕ) (d : Lane R) → k < length old → k < place → IsCleaned name kept (others k (map lane_hulls old)) (get_or old k d) (get_or new k d)
     pub rest : (k : ℕ) (d : Lane R) → k < length old → place ≤ k → get_or new k d ≡ get_or old k d
 
   pub passing_none : (old : List (Lane R)) → IsPassing old old 0
   passing_none old = record { long = refl; hulls = refl; done = λ k d low none. absurd (omega (arith, none)); rest = λ k d low past. refl }
 
-  pub passing_more : (old new : List (Lane R)) (place : ℕ) (lane lane_now : Lane R) → IsPassing old new place → place < length new → lane ≡ get_or new place lane → IsCleaned kept (others place (map lane_hulls new)) lane lane_now
+  pub passing_more : (old new : List (Lane R)) (place : ℕ) (lane lane_now : Lane R) → IsPassing old new place → place < length new → lane ≡ get_or new place lane → IsCleaned name kept (others place (map lane_hulls new)) lane lane_now
       → IsPassing old (set new place lane_now) (place + 1)
   passing_more old new place lane lane_now was low is cleaned =
       let long = was.long in
@@ -347,7 +348,7 @@ module _ {R : Type 0} (kept : Kept) where
       let before : lane ≡ get_or old place lane = is ∙ was.rest place lane below (omega arith) in
       record {
         long = length-set new place lane_now ∙ was.long;
-        hulls = map_set lane_hulls new place lane_now low (same_hulls (flags_of kept (others place (map lane_hulls new)) lane) (whole_of (others place (map lane_hulls new)) (flags_of kept (others place (map lane_hulls new)) lane) lane) lane lane_now cleaned ∙ ap lane_hulls (is ∙ get_or_default new place lane lane_now low)) ∙ was.hulls;
+        hulls = map_set lane_hulls new place lane_now low (same_hulls (flags_of name kept (others place (map lane_hulls new)) lane) (whole_of name (others place (map lane_hulls new)) (flags_of name kept (others place (map lane_hulls new)) lane) lane) lane lane_now cleaned ∙ ap lane_hulls (is ∙ get_or_default new place lane lane_now low)) ∙ was.hulls;
         done = λ k d under less. by k d under (before_or_at k place less);
         rest = λ k d under past. get_or-set_other new place k lane_now d (apart k past) ∙ was.rest k d under (omega (arith, past));
       }
@@ -355,16 +356,16 @@ module _ {R : Type 0} (kept : Kept) where
       apart : (k : ℕ) → place + 1 ≤ k → k ≡ place → ⊥
       apart k past same = absurd (omega (arith, past, same))
 
-      by : (k : ℕ) (d : Lane R) → k < length old → (k < place) ⊎ (k ≡ place) → IsCleaned kept (others k (map lane_hulls old)) (get_or old k d) (get_or (set new place lane_now) k d)
-      by k d under (inl less) = subst (IsCleaned kept (others k (map lane_hulls old)) (get_or old k d)) (sym (get_or-set_other new place k lane_now d (λ same. absurd (omega (arith, less, same))))) (was.done k d under less)
+      by : (k : ℕ) (d : Lane R) → k < length old → (k < place) ⊎ (k ≡ place) → IsCleaned name kept (others k (map lane_hulls old)) (get_or old k d) (get_or (set new place lane_now) k d)
+      by k d under (inl less) = subst (IsCleaned name kept (others k (map lane_hulls old)) (get_or old k d)) (sym (get_or-set_other new place k lane_now d (λ same. absurd (omega (arith, less, same))))) (was.done k d under less)
       by k d under (inr same) =
           let here : lane ≡ get_or old k d = is ∙ get_or_default new place lane d low ∙ ap (λ n. get_or new n d) (sym same) ∙ was.rest k d under (omega (arith, same)) in
           let now : get_or (set new place lane_now) k d ≡ lane_now = ap (λ n. get_or (set new place lane_now) n d) same ∙ get_or-set_same new place lane_now d low in
           let hulls : others place (map lane_hulls new) ≡ others k (map lane_hulls old) = ap (others place) was.hulls ∙ ap (λ n. others n (map lane_hulls old)) (sym same) in
-          subst (λ z. IsCleaned kept (others k (map lane_hulls old)) z (get_or (set new place lane_now) k d)) here
-          (subst (IsCleaned kept (others k (map lane_hulls old)) lane) (sym now) (subst (λ h. IsCleaned kept h lane lane_now) hulls cleaned))
+          subst (λ z. IsCleaned name kept (others k (map lane_hulls old)) z (get_or (set new place lane_now) k d)) here
+          (subst (IsCleaned name kept (others k (map lane_hulls old)) lane) (sym now) (subst (λ h. IsCleaned name kept h lane lane_now) hulls cleaned))
 
-  pub passing_all : (old new : List (Lane R)) (place : ℕ) → IsPassing old new place → length new ≤ place → AreCleaned kept old new
+  pub passing_all : (old new : List (Lane R)) (place : ℕ) → IsPassing old new place → length new ≤ place → AreCleaned name kept old new
   passing_all old new place was past = record {
     long = was.long;
     hulls = was.hulls;

@@ -1,25 +1,30 @@
 -- How many pages of sources are due that pass over their clean pages.
 use Rattle.std.proofs.Common.{◌≡◌, ℕ, ℤ, suc, ◌+◌, ◌-◌, Bool, true, false, cond, not, List, [], ◌∷◌, ◌++◌, map, length, Option, None, Some, refl, sym, ap, subst, ◌∙◌, arith}
-use Rattle.std.specs.Prelude.{◌&&◌, All, filter, flat_map, slice_get, sum_by}
+use Rattle.std.specs.Prelude.{◌&&◌, All, filter, flat_map, is_some, slice_get, sum_by}
 use Rattle.std.specs.List.{AllZip, enumerate_from}
 use Rattle.std.specs.Option.{option_map, unwrap_or}
 use Rattle.std.proofs.lemmas.List.Elements.{All-head, All-tail}
 use Rattle.std.proofs.lemmas.List.Sums.{sum_by-cons}
-use Rattle.tsdb_aggregate.specs.Pieces.{overlap}
+use Rattle.tsdb_aggregate.specs.Pieces.{has_asked, overlap}
+use Rattle.tsdb_base.specs.declared.answers.Aggregate.{Aggregate}
+use Rattle.tsdb_base.specs.declared.answers.Aggregate.TheVariants.{Count, FirstValue, LastValue, MinValue, MaxValue, MinTime, MaxTime, Sum}
 use Rattle.tsdb_base.specs.declared.point.Point.{Point}
 use Rattle.tsdb_base.specs.declared.point.Range.{Range}
 use Rattle.tsdb_base.specs.declared.point.Stats.{Stats}
 use Rattle.tsdb_base.specs.declared.value.Value.{Value}
 use Rattle.tsdb_base.specs.declared.value.Value.TheVariants.{I64}
 use Rattle.tsdb_streams.proofs.LaneViews.{ArePages, IsPage, pages_by_number}
-use Rattle.tsdb_streams.specs.Clean.{count_read, hull_of, is_clean, others, source_hulls, source_read}
-use Rattle.tsdb_streams.specs.Cleaning.{IsCleaned, is_clean_page, lane_hulls, page_times}
-use Rattle.tsdb_streams.specs.Files.{FilePages, HasEntryPages}
+use Rattle.tsdb_streams.specs.Clean.{answers, count_read, hull_of, is_clean, others, page_of, source_hulls, source_pages, source_read}
+use Rattle.tsdb_streams.specs.Cleaning.{IsCleaned, is_clean_page, lane_hulls, page_times, said_page}
+use Rattle.tsdb_streams.specs.Files.{FilePages, HasEntryPages, sums_in}
+use Rattle.tsdb_model.specs.Folds.{sum_of}
 use Rattle.tsdb_streams.specs.KeptPoints.{stats_range}
 use Rattle.tsdb_streams.specs.Lanes.{IsTrueSource, OpensAs, count_due, is_due, lane_due, source_all}
 use Rattle.tsdb_streams.specs.declared.survival.Kept.{Kept}
 use Rattle.tsdb_streams.specs.declared.lane.Lane.{Lane}
 use Rattle.tsdb_streams.specs.declared.lane.Lane.TheVariants.{Pages, Part}
+use Rattle.tsdb_streams.specs.declared.lane.PageLane.{PageLane}
+use Rattle.tsdb_streams.specs.declared.lane.PartLane.{PartLane}
 use Rattle.tsdb_streams.specs.declared.source.StreamSource.{StreamSource}
 use Rattle.tsdb_streams.specs.declared.source.StreamSource.TheVariants as source
 use Rattle.tsdb_index.specs.declared.index.PageEntry.{PageEntry}
@@ -29,18 +34,18 @@ use Rattle.tsdb_stats.specs.Statistics.{AreStatsOf}
 
 -- ---- pages of an entry, of which the flags say whether they are clean
 
--- a page with these times is read
-abbrev is_read : Kept → List (List Range) → ℕ → Range → Bool
-is_read kept hulls born times = not (is_clean kept.series.now kept.range kept.marks.now.marks hulls born times) && overlap kept.range times
+-- a page is read
+abbrev is_read : Kept → List (List Range) → ℕ → Range × Bool → Bool
+is_read kept hulls born page = not (is_clean kept.series.now kept.range kept.marks.now.marks hulls born page) && overlap kept.range page.0
 
-pub due_count : (kept : Kept) (hulls : List (List Range)) (born : ℕ) (pages : List PageEntry)
-    → count_due kept.range (map (is_clean_page kept hulls born) pages) pages ≡ count_read kept.series.now kept.range kept.marks.now.marks hulls born (map page_times pages)
-due_count kept hulls born [] = refl
-due_count kept hulls born (page ∷ pages) = by (is_due kept.range (is_clean_page kept hulls born page) page) (due_count kept hulls born pages)
+pub due_count : (name : Aggregate) (kept : Kept) (hulls : List (List Range)) (born : ℕ) (pages : List PageEntry)
+    → count_due kept.range (map (is_clean_page name kept hulls born) pages) pages ≡ count_read kept.series.now kept.range kept.marks.now.marks hulls born (map (said_page name) pages)
+due_count name kept hulls born [] = refl
+due_count name kept hulls born (page ∷ pages) = by (is_due kept.range (is_clean_page name kept hulls born page) page) (due_count name kept hulls born pages)
   where
-    by : (b : Bool) → count_due kept.range (map (is_clean_page kept hulls born) pages) pages ≡ length (filter (is_read kept hulls born) (map page_times pages))
-        → cond b 1 0 + count_due kept.range (map (is_clean_page kept hulls born) pages) pages
-        ≡ length (cond b (page_times page ∷ filter (is_read kept hulls born) (map page_times pages)) (filter (is_read kept hulls born) (map page_times pages)))
+    by : (b : Bool) → count_due kept.range (map (is_clean_page name kept hulls born) pages) pages ≡ length (filter (is_read kept hulls born) (map (said_page name) pages))
+        → cond b 1 0 + count_due kept.range (map (is_clean_page name kept hulls born) pages) pages
+        ≡ length (cond b (said_page name page ∷ filter (is_read kept hulls born) (map (said_page name) pages)) (filter (is_read kept hulls born) (map (said_page name) pages)))
     by true rest = omega (arith, rest)
     by false rest = omega (arith, rest)
 
@@ -80,6 +85,52 @@ pages_hulls [] [] are = refl
 pages_hulls [] (points ∷ list) are = absurd are
 pages_hulls (page ∷ pages) [] are = absurd are
 pages_hulls (page ∷ pages) (points ∷ list) are = ap (λ l. page_times page ∷ l) (pages_hulls pages list are.1) ∙ ap (λ l. l ++ flat_map hull_of list) (page_hull page points are.0)
+
+-- ---- whether the statistics of pages answer an aggregate
+
+-- the sums that entries say are there where the file has sums and the points are numbers
+abbrev AreSummed : Bool → List PageEntry → List (List Point) → Type 0
+AreSummed sums [] list = Unit {0}
+AreSummed sums (page ∷ pages) [] = Unit {0}
+AreSummed sums (page ∷ pages) (points ∷ list) = (is_some page.stats.sum ≡ (sums && is_some (sum_of points))) × AreSummed sums pages list
+
+summed_by_number : (sums : Bool) (pages : List PageEntry) (list : List (List Point))
+    → ((number : ℕ) (page : PageEntry) (points : List Point) → slice_get pages number ≡ Some page → slice_get list number ≡ Some points → is_some page.stats.sum ≡ (sums && is_some (sum_of points)))
+    → AreSummed sums pages list
+summed_by_number sums [] list says = tt
+summed_by_number sums (page ∷ pages) [] says = tt
+summed_by_number sums (page ∷ pages) (points ∷ list) says = (says 0 page points refl refl, summed_by_number sums pages list (λ n p q a b. says (suc n) p q a b))
+
+asked_same : (name : Aggregate) (sums : Bool) (stats : Stats) (points : List Point) → is_some stats.sum ≡ (sums && is_some (sum_of points)) → has_asked name stats ≡ answers name sums points
+asked_same Count sums stats points is = refl
+asked_same FirstValue sums stats points is = refl
+asked_same LastValue sums stats points is = refl
+asked_same MinValue sums stats points is = refl
+asked_same MaxValue sums stats points is = refl
+asked_same MinTime sums stats points is = refl
+asked_same MaxTime sums stats points is = refl
+asked_same Sum sums stats points is = is
+
+page_said : (name : Aggregate) (sums : Bool) (page : PageEntry) (points : List Point) → IsPage page points → is_some page.stats.sum ≡ (sums && is_some (sum_of points))
+    → said_page name page ∷ [] ≡ page_of name sums points
+page_said name sums page points is summed =
+    ap (λ b. (page_times page, b) ∷ []) (asked_same name sums page.stats points summed)
+    ∙ ap (map (λ times. (times, answers name sums points))) (page_hull page points is)
+
+pages_said : (name : Aggregate) (sums : Bool) (pages : List PageEntry) (list : List (List Point)) → ArePages pages list → AreSummed sums pages list → map (said_page name) pages ≡ flat_map (page_of name sums) list
+pages_said name sums [] [] are summed = refl
+pages_said name sums [] (points ∷ list) are summed = absurd are
+pages_said name sums (page ∷ pages) [] are summed = absurd are
+pages_said name sums (page ∷ pages) (points ∷ list) are summed =
+    ap (λ l. said_page name page ∷ l) (pages_said name sums pages list are.1 summed.1) ∙ ap (λ l. l ++ flat_map (page_of name sums) list) (page_said name sums page points are.0 summed.0)
+
+none_said : (name : Aggregate) (sums : Bool) (list : List (List Point)) → filter (λ (p : Point). true) (joined list) ≡ [] → flat_map (page_of name sums) list ≡ []
+none_said name sums [] none = refl
+none_said name sums ([] ∷ list) none = none_said name sums list none
+none_said name sums ((p ∷ ps) ∷ list) none = absurd (cons_nil p (filter (λ (p : Point). true) (ps ++ joined list)) none)
+  where
+    cons_nil : (q : Point) (qs : List Point) → q ∷ qs ≡ [] → ⊥
+    cons_nil q qs e = cc
 
 no_hulls : (list : List (List Point)) → filter (λ (p : Point). true) (joined list) ≡ [] → flat_map hull_of list ≡ []
 no_hulls [] none = refl
@@ -144,19 +195,41 @@ module _ {R : Type 0} (file : R → NamedFile) (pages : FilePages) where
       ap (λ h. h ∷ map lane_hulls lanes) (hulls_are names from lane points zip.0 (All-head (IsTrueSource file names pages) from sources truth) first)
       ∙ ap (λ l. source_hulls file pages from ∷ l) (all_hulls_are names sources lanes lists zip.1 (All-tail (IsTrueSource file names pages) from sources truth) rest)
 
-  -- as many pages of a source are due as meet the range and are not clean
-  pub one_due : (kept : Kept) (names : List ℕ × List ℕ) (hulls : List (List Range)) (number : ℕ) (from : StreamSource R) (old new : Lane R) → OpensAs file names from old → lane_hulls old ≡ source_hulls file pages from
-      → IsCleaned kept (others number hulls) old new → lane_due kept.range new ≡ source_read file pages kept.series.now kept.range kept.marks.now.marks hulls number from
-  one_due kept names hulls number (source.File right born) (Pages old) (Pages new) opens same flagged =
+  -- what the entries of a source that was opened say of an aggregate is so of its points
+  pub pages_are : (name : Aggregate) (names : List ℕ × List ℕ) (right : _) (born : _) (lane : PageLane R) (points : List Point) → OpensAs file names (source.File right born) (Pages lane) → IsTrueSource file names pages (source.File right born)
+      → source_all file pages (source.File right born) ≡ Some points → map (said_page name) lane.entry.pages ≡ source_pages file pages name (source.File right born)
+  pages_are name names right born lane points opens truth all =
+      let list = unwrap_or (pages (file right.now).number) [] in
+      let told : pages (file lane.right.now).number ≡ Some list = ap (λ r. pages (file r.now).number) opens.new.0 ∙ told_list (pages (file right.now).number) points all in
+      let entry_pages : HasEntryPages lane.entry (file lane.right.now) list = opens.truth pages truth lane refl list told in
+      let are = pages_by_number lane.entry.pages list entry_pages.1 (λ number page ps a b. let h = entry_pages.2 number page ps a b in record { within = h.0; stats = h.2 }) in
+      let summed = summed_by_number (sums_in (file lane.right.now)) lane.entry.pages list (λ number page ps a b. (entry_pages.2 number page ps a b).3) in
+      pages_said name (sums_in (file lane.right.now)) lane.entry.pages list are summed
+      ∙ ap (λ r. flat_map (page_of name (sums_in (file r.now))) list) opens.new.0
+
+  -- a file without the series has no page of it
+  no_pages : (name : Aggregate) (names : List ℕ × List ℕ) (right : _) (born : _) (lane : PartLane) (points : List Point) → OpensAs file names (source.File right born) (Part lane) → IsTrueSource file names pages (source.File right born)
+      → source_all file pages (source.File right born) ≡ Some points → source_pages file pages name (source.File right born) ≡ []
+  no_pages name names right born lane points opens truth all =
+      let list = unwrap_or (pages (file right.now).number) [] in
+      let told = told_list (pages (file right.now).number) points all in
+      let left : Some (filter (λ (p : Point). true) lane.rest.now) ≡ Some (filter (λ (p : Point). true) (joined list)) =
+      opens.left pages truth (λ b p. true) (filter (λ (p : Point). true) (joined list)) (ap (option_map (λ (l : List (List Point)). filter (λ (p : Point). true) (joined l))) told) in
+      none_said name (sums_in (file right.now)) list (some_same (filter (λ (p : Point). true) (joined list)) [] (sym left ∙ ap (λ (l : List Point). Some (filter (λ (p : Point). true) l)) opens.new.0))
+
+  -- as many pages of a source are due as meet the range and are not clean for the aggregate
+  pub one_due : (name : Aggregate) (kept : Kept) (names : List ℕ × List ℕ) (hulls : List (List Range)) (number : ℕ) (from : StreamSource R) (old new : Lane R) (points : List Point) → OpensAs file names from old → IsTrueSource file names pages from
+      → source_all file pages from ≡ Some points → IsCleaned name kept (others number hulls) old new → lane_due kept.range new ≡ source_read file pages name kept.series.now kept.range kept.marks.now.marks hulls number from
+  one_due name kept names hulls number (source.File right born) (Pages old) (Pages new) points opens truth all flagged =
       ap (λ flags. count_due kept.range flags new.entry.pages) flagged.0
-      ∙ ap (λ e. count_due kept.range (map (is_clean_page kept (others number hulls) old.born.0) old.entry.pages) e.pages) flagged.3
-      ∙ due_count kept (others number hulls) old.born.0 old.entry.pages
-      ∙ ap (λ b. count_read kept.series.now kept.range kept.marks.now.marks (others number hulls) b.0 (map page_times old.entry.pages)) opens.new.1
-      ∙ ap (λ l. count_read kept.series.now kept.range kept.marks.now.marks (others number hulls) born.0 l) same
-  one_due kept names hulls number (source.File right born) (Pages old) (Part new) opens same flagged = absurd flagged
-  one_due kept names hulls number (source.File right born) (Part old) (Pages new) opens same flagged = absurd flagged
-  one_due kept names hulls number (source.File right born) (Part old) (Part new) opens same flagged =
-      ap (λ l. count_read kept.series.now kept.range kept.marks.now.marks (others number hulls) born.0 l) (sym (ap hull_of opens.new.0) ∙ same)
-  one_due kept names hulls number (source.Part parts born) (Pages old) new opens same flagged = absurd opens.new
-  one_due kept names hulls number (source.Part parts born) (Part old) (Pages new) opens same flagged = absurd flagged
-  one_due kept names hulls number (source.Part parts born) (Part old) (Part new) opens same flagged = refl
+      ∙ ap (λ e. count_due kept.range (map (is_clean_page name kept (others number hulls) old.born.0) old.entry.pages) e.pages) flagged.3
+      ∙ due_count name kept (others number hulls) old.born.0 old.entry.pages
+      ∙ ap (λ b. count_read kept.series.now kept.range kept.marks.now.marks (others number hulls) b.0 (map (said_page name) old.entry.pages)) opens.new.1
+      ∙ ap (λ l. count_read kept.series.now kept.range kept.marks.now.marks (others number hulls) born.0 l) (pages_are name names right born old points opens truth all)
+  one_due name kept names hulls number (source.File right born) (Pages old) (Part new) points opens truth all flagged = absurd flagged
+  one_due name kept names hulls number (source.File right born) (Part old) (Pages new) points opens truth all flagged = absurd flagged
+  one_due name kept names hulls number (source.File right born) (Part old) (Part new) points opens truth all flagged =
+      ap (λ l. count_read kept.series.now kept.range kept.marks.now.marks (others number hulls) born.0 l) (sym (no_pages name names right born old points opens truth all))
+  one_due name kept names hulls number (source.Part parts born) (Pages old) new points opens truth all flagged = absurd opens.new
+  one_due name kept names hulls number (source.Part parts born) (Part old) (Pages new) points opens truth all flagged = absurd flagged
+  one_due name kept names hulls number (source.Part parts born) (Part old) (Part new) points opens truth all flagged = refl

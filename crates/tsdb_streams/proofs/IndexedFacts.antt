@@ -1,6 +1,7 @@
 -- Files whose indexes were read: what is found of a series among the entries of an index is what a tree has.
 use Rattle.std.proofs.Common.{◌≡◌, ℕ, ◌+◌, ◌<◌, inl, inr, List, [], ◌∷◌, ◌++◌, length, map, take, get_or, Err, refl, sym, ap, subst, ◌∙◌}
-use Rattle.std.specs.Prelude.{IfSome, Option, None, Some, flat_map}
+use Rattle.std.specs.Prelude.{All, IfSome, Option, None, Some, flat_map}
+use Rattle.std.proofs.lemmas.List.Elements.{All-contains}
 use Rattle.std.specs.List.{AllZip}
 use Rattle.std.proofs.lemmas.List.{map-append, take_more}
 use Rattle.tsdb_streams.proofs.OpenFacts.{pages_of_store, part_of_store}
@@ -18,7 +19,7 @@ use Rattle.tsdb_index.specs.declared.index.IndexEntry.{IndexEntry}
 use Rattle.tsdb_base.proofs.Lists.{among_left, among_right}
 use Rattle.tsdb_base.specs.Lists.{Among}
 use Rattle.tsdb_outside.specs.Files.{NamedFile, Store}
-use Rattle.tsdb_pages.specs.File.{AreEntries, AreEntriesIn, AreEntriesOf, IsFile, chunk_field, group_field, group_head, head}
+use Rattle.tsdb_pages.specs.File.{AreEntries, AreEntriesIn, AreEntriesOf, HasSums, IsFile, chunk_field, group_field, group_head, head_length, version_in}
 use Rattle.tsdb_pages.specs.Trees.{IsMade, IsTree}
 use Rattle.tsdb_pages.specs.declared.tree.Chunk.{Chunk}
 use Rattle.tsdb_pages.specs.declared.tree.Group.{Group}
@@ -36,9 +37,9 @@ Names = List ℕ × List ℕ
 -- what was read of a file is its index
 pub index_of : (o : Option (List ℕ)) (meta : FileMeta) → IfSome o (λ b. IsMetaIn b meta)
     → IfSome o (λ b. (tree : Tree) → IsTree tree → IsMade tree → IsFile tree b → Unit {0} × IsMetaOf tree b meta)
-    → IfSome o (λ b. AreInOrder AreNamesBefore (map names_of meta.index.entries) × ((tree : Tree) → IsTree tree → IsMade tree → IsFile tree b → AreEntriesIn tree meta.index.entries))
+    → IfSome o (λ b. AreInOrder AreNamesBefore (map names_of meta.index.entries) × ((tree : Tree) → IsTree tree → IsMade tree → IsFile tree b → AreEntriesIn tree meta.index.entries × All (HasSums (version_in b)) meta.index.entries))
 index_of None meta has tree = tt
-index_of (Some b) meta has tree = (has.outline.index.index.rising, λ t is made file. (tree t is made file).1.entries)
+index_of (Some b) meta has tree = (has.outline.index.index.rising, λ t is made file. let says = (tree t is made file).1 in (says.entries, says.sums))
 
 -- the index of a whole file is not damaged
 pub undamaged_whole : (T : Type 0) (o : Option (List ℕ)) (fault : ReadFault) (P : List ℕ → Tree → Type 0)
@@ -91,34 +92,36 @@ named_group names place (g ∷ gs) (es ∷ others) group chunk say (inr among) i
     record { entry = rest.entry; there = among_right es (flat_map (λ list. list) others) rest.entry rest.there; named = rest.named }
 
 -- what is found among the entries of a tree's index is what the tree has
-found_in_tree : (tree : Tree) (names : Names) (entries : List IndexEntry) (found : Option IndexEntry) → AreEntriesIn tree entries
-    → IsEntryFor names entries found → IsEntryInTree tree names found
-found_in_tree tree names entries None say has = λ group chunk there inside device measurement.
-    let named = named_group names (length head) tree.groups say.by_group group chunk say.say (among_of group tree.groups there)
+found_in_tree : (version : ℕ) (tree : Tree) (names : Names) (entries : List IndexEntry) (found : Option IndexEntry) → AreEntriesIn tree entries
+    → All (HasSums version) entries → IsEntryFor names entries found → IsEntryInTree version tree names found
+found_in_tree version tree names entries None say sums has = λ group chunk there inside device measurement.
+    let named = named_group names head_length tree.groups say.by_group group chunk say.say (among_of group tree.groups there)
     (among_of chunk group.chunks inside) device measurement in
     has named.entry (contains_of named.entry entries (subst (Among named.entry) say.all named.there)) named.named
-found_in_tree tree names entries (Some entry) say has = (record { entries = entries; say = say; there = has.0 }, has.1)
+found_in_tree version tree names entries (Some entry) say sums has =
+    (record { entries = entries; say = say; there = has.0 }, has.1, All-contains (HasSums version) entries entry sums has.0)
 
 -- what a search among the entries in their order finds
 pub found_in : (o : Option (List ℕ)) (names : Names) (entries : List IndexEntry) (found : Option IndexEntry)
-    → IfSome o (λ b. AreInOrder AreNamesBefore (map names_of entries) × ((tree : Tree) → IsTree tree → IsMade tree → IsFile tree b → AreEntriesIn tree entries))
+    → IfSome o (λ b. AreInOrder AreNamesBefore (map names_of entries) × ((tree : Tree) → IsTree tree → IsMade tree → IsFile tree b → AreEntriesIn tree entries × All (HasSums (version_in b)) entries))
     → (AreInOrder AreNamesBefore (map names_of entries) → IsEntryFor names entries found)
-    → IfSome o (λ b. (tree : Tree) → IsTree tree → IsMade tree → IsFile tree b → IsEntryInTree tree names found)
+    → IfSome o (λ b. (tree : Tree) → IsTree tree → IsMade tree → IsFile tree b → IsEntryInTree (version_in b) tree names found)
 found_in None names entries found index search_is = tt
 found_in (Some b) names entries found index search_is = λ tree is made file.
-    found_in_tree tree names entries found (index.1 tree is made file) (search_is index.0)
+    let says = index.1 tree is made file in
+    found_in_tree (version_in b) tree names entries found says.0 says.1 (search_is index.0)
 
 -- ---- what a look-up of one series finds
 
 pub finds : (o : Option (List ℕ)) (names : Names) (found : Option IndexEntry)
-    → IfSome o (λ b. (tree : Tree) → IsTree tree → IsMade tree → IsFile tree b → IsEntryInTree tree names found)
-    → IfSome o (λ b. (tree : Tree) → IsTree tree → IsMade tree → IsFile tree b → Unit {0} × IsEntryInTree tree names found)
+    → IfSome o (λ b. (tree : Tree) → IsTree tree → IsMade tree → IsFile tree b → IsEntryInTree (version_in b) tree names found)
+    → IfSome o (λ b. (tree : Tree) → IsTree tree → IsMade tree → IsFile tree b → Unit {0} × IsEntryInTree (version_in b) tree names found)
 finds None names found has = tt
 finds (Some b) names found has = λ tree is made file. (tt, has tree is made file)
 
 pub found_by : (o : Option (List ℕ)) (names : Names) (found : Option IndexEntry)
-    → IfSome o (λ b. (tree : Tree) → IsTree tree → IsMade tree → IsFile tree b → Unit {0} × IsEntryInTree tree names found)
-    → IfSome o (λ b. (tree : Tree) → IsTree tree → IsMade tree → IsFile tree b → IsEntryInTree tree names found)
+    → IfSome o (λ b. (tree : Tree) → IsTree tree → IsMade tree → IsFile tree b → Unit {0} × IsEntryInTree (version_in b) tree names found)
+    → IfSome o (λ b. (tree : Tree) → IsTree tree → IsMade tree → IsFile tree b → IsEntryInTree (version_in b) tree names found)
 found_by None names found has = tt
 found_by (Some b) names found has = λ tree is made file. (has tree is made file).1
 

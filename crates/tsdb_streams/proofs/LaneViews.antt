@@ -18,7 +18,7 @@ use Rattle.tsdb_streams.proofs.CleanFacts.{both, inside, inside_test}
 use Rattle.tsdb_streams.proofs.KeptLemmas.{common_time}
 use Rattle.tsdb_streams.proofs.Views.{AreApart, IsFit, Seen}
 use Rattle.tsdb_streams.proofs.ViewMerges.{left_part, points_of, right_part, rising_back}
-use Rattle.tsdb_streams.specs.Clean.{any_meets, hull_of, is_clean, is_marked}
+use Rattle.tsdb_streams.specs.Clean.{any_meets, hull_of, is_apart, is_marked}
 use Rattle.tsdb_streams.specs.Cleaning.{page_times, picked}
 use Rattle.tsdb_streams.specs.KeptPoints.{is_kept, stats_range}
 use Rattle.tsdb_streams.specs.Lanes.{left_pages}
@@ -26,7 +26,7 @@ use Rattle.tsdb_index.specs.declared.index.PageEntry.{PageEntry}
 use Rattle.tsdb_base.specs.Lists.{EachPair, if_some}
 use Rattle.tsdb_state.specs.Marks.{is_over, survives}
 use Rattle.tsdb_state.specs.Places.{is_path}
-use Rattle.tsdb_model.specs.Folds.{aggregate_of}
+use Rattle.tsdb_model.specs.Folds.{value_of_points}
 use Rattle.tsdb_model.specs.World.{is_in}
 use Rattle.tsdb_marks.specs.declared.marks.Mark.{Mark}
 use Rattle.tsdb_base.specs.Points.{IsRising}
@@ -105,14 +105,14 @@ picked_seen (flag ∷ flags) (page ∷ pages) (points ∷ list) are = by flag (p
 
 -- ---- pages of one file are apart
 
-first_of : (points : List Point) (start : ℤ) → aggregate_of MinTime points ≡ Some (I64 start) → (p : Point) × Contains points p × (p.time ≡ start)
+first_of : (points : List Point) (start : ℤ) → value_of_points MinTime points ≡ Some (I64 start) → (p : Point) × Contains points p × (p.time ≡ start)
 first_of [] start e = absurd (none_some e)
   where
     none_some : ◌≡◌ {A = Option Value} None (Some (I64 start)) → ⊥
     none_some e = cc
 first_of (p ∷ ps) start e = (p, Contains-head p ps, let same : p.time ≡ start = cc in same)
 
-last_of : (points : List Point) (end : ℤ) → aggregate_of MaxTime points ≡ Some (I64 end) → (p : Point) × Contains points p × (p.time ≡ end)
+last_of : (points : List Point) (end : ℤ) → value_of_points MaxTime points ≡ Some (I64 end) → (p : Point) × Contains points p × (p.time ≡ end)
 last_of points end e = by (slice_get points (length points - 1)) refl e
   where
     none_some : ◌≡◌ {A = Option Value} None (Some (I64 end)) → ⊥
@@ -202,7 +202,7 @@ pub record IsCleanPage (path : List ℕ) (range : Range) (marks : List Mark) (hu
   pub unmarked : is_marked path marks born times ≡ false
   pub unmet : list_any (any_meets times) hulls ≡ false
 
-pub clean_page : (path : List ℕ) (range : Range) (marks : List Mark) (hulls : List (List Range)) (born : ℕ) (times : Range) → is_clean path range marks hulls born times ≡ true → IsCleanPage path range marks hulls born times
+pub clean_page : (path : List ℕ) (range : Range) (marks : List Mark) (hulls : List (List Range)) (born : ℕ) (times : Range) → is_apart path range marks hulls born times ≡ true → IsCleanPage path range marks hulls born times
 clean_page path range marks hulls born times e =
     let one = both (is_in range times.from && is_in range times.to) (not (is_marked path marks born times) && not (list_any (any_meets times) hulls)) e in
     let two = both (is_in range times.from) (is_in range times.to) one.0 in

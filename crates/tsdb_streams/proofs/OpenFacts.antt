@@ -1,6 +1,7 @@
 -- A file that is opened: the pages of a tree's chunk are those of its entry.
 use Rattle.std.proofs.Common.{◌≡◌, ℕ, Bool, zero, suc, ◌+◌, List, [], ◌∷◌, ◌++◌, length, map, get_or, Result, Ok, Err, refl, sym, ap, subst, ◌∙◌, arith}
-use Rattle.std.specs.Prelude.{Option, None, Some, IfSome, Contains, filter, option_map, slice_get}
+use Rattle.std.specs.Prelude.{◌&&◌, All, Option, None, Some, IfSome, Contains, filter, is_some, option_map, slice_get}
+use Rattle.std.specs.Option.{unwrap_or}
 use Rattle.std.proofs.lemmas.List.{length-map}
 use Rattle.std.proofs.lemmas.List.Elements.{All-contains}
 use Rattle.tsdb_base.specs.declared.point.Point.{Point}
@@ -8,7 +9,7 @@ use Rattle.tsdb_base.specs.declared.value.Encoding.{Encoding}
 use Rattle.std.proofs.lemmas.Option.{get_or_from_slice_get, slice_get_within}
 use Rattle.tsdb_streams.proofs.PageFacts.{at_some, some_same, there}
 use Rattle.tsdb_stats.specs.Statistics.{AreStatsOf}
-use Rattle.tsdb_streams.specs.Files.{FilePages, HasEntryPages, HasPages, IsSeriesChunk, IsTold, IsTruth}
+use Rattle.tsdb_streams.specs.Files.{FilePages, HasEntryPages, HasPages, IsSeriesChunk, IsTold, IsTruth, sums_in}
 use Rattle.tsdb_streams.specs.Lanes.{ArePagesOf, IsLaneOfStore, IsTrueLane}
 use Rattle.tsdb_streams.specs.declared.lane.Lane.TheVariants.{Pages, Part}
 use Rattle.tsdb_streams.specs.declared.lane.PageLane.{PageLane}
@@ -16,10 +17,13 @@ use Rattle.tsdb_streams.specs.declared.lane.PartLane.{PartLane}
 use Rattle.tsdb_index.specs.Entries.{names_of}
 use Rattle.tsdb_index.specs.declared.index.IndexEntry.{IndexEntry}
 use Rattle.tsdb_index.specs.declared.index.PageEntry.{PageEntry}
+use Rattle.tsdb_index.specs.Versions.{has_sums}
+use Rattle.tsdb_model.specs.Folds.{sum_of}
 use Rattle.tsdb_outside.specs.Files.{NamedFile, Store}
-use Rattle.tsdb_pages.specs.File.{ArePageEntries, IsChunkEntry, page_field}
-use Rattle.tsdb_pages.specs.File.{IsFile}
+use Rattle.tsdb_pages.specs.File.{ArePageEntries, HasSum, HasSums, IsChunkEntry, IsFile, page_field, version_in}
+use Rattle.tsdb_pages.proofs.Statistics.{sum_there}
 use Rattle.tsdb_pages.specs.Places.{HasPlaces}
+use Rattle.tsdb_pages.specs.Pages.{ArePoints}
 use Rattle.tsdb_pages.specs.Trees.{IsMade, IsTree, page_points}
 use Rattle.tsdb_pages.specs.declared.tree.Chunk.{Chunk}
 use Rattle.tsdb_pages.specs.declared.tree.Group.{Group}
@@ -57,8 +61,8 @@ chunk_of tree names entry group chunk named in_tree in_group says = record {
 }
 
 -- a caller tells the pages of the entry that was found
-entry_pages : (names : List ℕ × List ℕ) (name : NamedFile) (entry : IndexEntry) (list : List (List Point)) (h : HasPages names name list) → IsEntryOf h.tree entry → names_of entry ≡ names → HasEntryPages entry name list
-entry_pages names name entry list h of named = (
+entry_pages : (names : List ℕ × List ℕ) (name : NamedFile) (entry : IndexEntry) (list : List (List Point)) (h : HasPages names name list) → IsEntryOf h.tree entry → names_of entry ≡ names → HasSums (version_in h.bytes) entry → HasEntryPages entry name list
+entry_pages names name entry list h of named sums = (
   rw h.told refl,
   ap length (h.pages_are.of_chunk place.chunk (chunk_of h.tree names entry place.group place.chunk named place.in_tree place.in_group place.says))
       ∙ length-map place.chunk.pages (λ (page : Page). page.points) ∙ same_count _ _ place.chunk.pages entry.pages place.says.pages,
@@ -74,12 +78,23 @@ entry_pages names name entry list h of named = (
               λ none. subst (λ bs. HasNoPage bs entry said) b none st.page.points st.stands,
             ),
         stats_of number said points says got,
+        sum_of_page number said points says (subst (ArePoints entry.data_type) (sym same) st.stands.stands.good.0),
       ),
   subst (λ (q : List Point). AreStatsOf q entry.stats) (sym all_points) place.says.stats,
 )
   where
     place : HasPlaces h.tree h.bytes entry
     place = All-contains (HasPlaces h.tree h.bytes) of.entries entry (entries_stand h.tree h.bytes of.entries h.file of.say) of.there
+
+    -- a page has a sum where the file has sums and its points are numbers
+    sum_of_page : (number : ℕ) (said : PageEntry) (points : List Point) → slice_get entry.pages number ≡ Some said → ArePoints entry.data_type points
+        → is_some said.stats.sum ≡ (sums_in name && is_some (sum_of points))
+    sum_of_page number said points says are =
+        let low = slice_get_within entry.pages number said says in
+        let at = get_or_from_slice_get entry.pages number said said says in
+        subst (λ (e : PageEntry). HasSum (version_in h.bytes) entry.data_type e.stats) at (sums.pages number said low)
+        ∙ ap (λ b. has_sums (version_in h.bytes) && b) (sym (sum_there entry.data_type points are))
+        ∙ ap (λ o. has_sums (version_in (unwrap_or o [])) && is_some (sum_of points)) (sym h.told)
 
     joined_points : (pages : List Page) → joined (map (λ (page : Page). page.points) pages) ≡ page_points pages
     joined_points [] = refl
@@ -108,29 +123,33 @@ module _ (pages : FilePages) (names : List ℕ × List ℕ) (name : NamedFile) (
   told_truth : (list : List (List Point)) → pages name.number ≡ Some list → HasPages names name list
   told_truth list e = at_some (pages name.number) list (HasPages names name) e truth
 
-  abbrev pub Finds : {T : Type 0} → Result T ReadFault → (Tree → Type 0) → Type 0
-  Finds result P = IfSome name.bytes (λ bytes. (tree : Tree) → IsTree tree → IsMade tree → IsFile tree bytes → IsNotDamaged result × P tree)
+  abbrev pub Finds : {T : Type 0} → Result T ReadFault → (List ℕ → Tree → Type 0) → Type 0
+  Finds result P = IfSome name.bytes (λ bytes. (tree : Tree) → IsTree tree → IsMade tree → IsFile tree bytes → IsNotDamaged result × P bytes tree)
 
-  found_in : {T : Type 0} (result : Result T ReadFault) (P : Tree → Type 0) (list : List (List Point)) (e : pages name.number ≡ Some list) → Finds result P → IsNotDamaged result × P (told_truth list e).tree
+  found_in : {T : Type 0} (result : Result T ReadFault) (P : List ℕ → Tree → Type 0) (list : List (List Point)) (e : pages name.number ≡ Some list) → Finds result P → IsNotDamaged result × P (told_truth list e).bytes (told_truth list e).tree
   found_in result P list e finds =
       let h = told_truth list e in
-      at_some name.bytes h.bytes (λ bytes. (tree : Tree) → IsTree tree → IsMade tree → IsFile tree bytes → IsNotDamaged result × P tree) h.told finds h.tree h.is h.made h.file
+      at_some name.bytes h.bytes (λ bytes. (tree : Tree) → IsTree tree → IsMade tree → IsFile tree bytes → IsNotDamaged result × P bytes tree) h.told finds h.tree h.is h.made h.file
 
   -- an entry was found
-  pub found_entry : (found : Option IndexEntry) (entry : IndexEntry) → found ≡ Some entry → Finds (Ok found) (λ tree. IsEntryInTree tree names found) → (list : List (List Point)) → pages name.number ≡ Some list
+  pub found_entry : (found : Option IndexEntry) (entry : IndexEntry) → found ≡ Some entry → Finds (Ok found) (λ bytes tree. IsEntryInTree (version_in bytes) tree names found) → (list : List (List Point)) → pages name.number ≡ Some list
       → HasEntryPages entry name list
   found_entry found entry is finds list e =
-      let in_tree : IsEntryInTree (told_truth list e).tree names (Some entry) = subst (IsEntryInTree (told_truth list e).tree names) is (found_in (Ok found) (λ tree. IsEntryInTree tree names found) list e finds).1 in
-      entry_pages names name entry list (told_truth list e) in_tree.0 in_tree.1
+      let h = told_truth list e in
+      let in_tree : IsEntryInTree (version_in h.bytes) h.tree names (Some entry) =
+      subst (IsEntryInTree (version_in h.bytes) h.tree names) is (found_in (Ok found) (λ bytes tree. IsEntryInTree (version_in bytes) tree names found) list e finds).1 in
+      entry_pages names name entry list h in_tree.0 in_tree.1 in_tree.2
 
   -- no entry was found
-  pub found_none : (found : Option IndexEntry) → found ≡ None → Finds (Ok found) (λ tree. IsEntryInTree tree names found) → (list : List (List Point)) → pages name.number ≡ Some list → list ≡ []
+  pub found_none : (found : Option IndexEntry) → found ≡ None → Finds (Ok found) (λ bytes tree. IsEntryInTree (version_in bytes) tree names found) → (list : List (List Point)) → pages name.number ≡ Some list → list ≡ []
   found_none found is finds list e =
-      let none : IsEntryInTree (told_truth list e).tree names None = subst (IsEntryInTree (told_truth list e).tree names) is (found_in (Ok found) (λ tree. IsEntryInTree tree names found) list e finds).1 in
-      (told_truth list e).pages_are.none (λ chunk is. none is.group chunk is.in_tree is.in_group is.device is.measurement)
+      let h = told_truth list e in
+      let none : IsEntryInTree (version_in h.bytes) h.tree names None =
+      subst (IsEntryInTree (version_in h.bytes) h.tree names) is (found_in (Ok found) (λ bytes tree. IsEntryInTree (version_in bytes) tree names found) list e finds).1 in
+      h.pages_are.none (λ chunk is. none is.group chunk is.in_tree is.in_group is.device is.measurement)
 
   -- the index of a file of which a caller tells is not damaged
-  pub undamaged_index : (T : Type 0) (fault : ReadFault) (P : Tree → Type 0) → Finds {T = T} (Err fault) P → IsTold pages name → (bytes : List ℕ) → name.bytes ≡ Some bytes → IsNotDamaged {T = T} (Err fault)
+  pub undamaged_index : (T : Type 0) (fault : ReadFault) (P : List ℕ → Tree → Type 0) → Finds {T = T} (Err fault) P → IsTold pages name → (bytes : List ℕ) → name.bytes ≡ Some bytes → IsNotDamaged {T = T} (Err fault)
   undamaged_index T fault P finds told bytes e =
       let list = told bytes e in
       (found_in {T = T} (Err fault) P list.0 list.1 finds).0

@@ -8,7 +8,8 @@ use Rattle.std.proofs.lemmas.Int.{ints}
 use Rattle.std.proofs.lemmas.List.{append-nil}
 use Rattle.std.proofs.lemmas.List.Elements.{All-append, All-head, All-nil}
 use Rattle.std.proofs.lemmas.Option.{slice_get-get_or}
-use Rattle.tsdb_aggregate.specs.Pieces.{overlap}
+use Rattle.tsdb_aggregate.specs.Pieces.{has_asked, overlap}
+use Rattle.tsdb_base.specs.declared.answers.Aggregate.{Aggregate}
 use Rattle.tsdb_base.specs.declared.point.Point.{Point}
 use Rattle.tsdb_base.specs.declared.point.Range.{Range}
 use Rattle.tsdb_base.specs.declared.point.Stats.{Stats}
@@ -17,11 +18,11 @@ use Rattle.tsdb_base.specs.declared.value.Value.TheVariants.{I64}
 use Rattle.tsdb_streams.proofs.CleanFacts.{before_or_at, both, inside_test}
 use Rattle.tsdb_streams.proofs.DueFacts.{stats_hull}
 use Rattle.tsdb_streams.proofs.KeptLemmas.{common_time}
-use Rattle.tsdb_streams.proofs.LaneViews.{ArePages, all_inside, all_kept, all_seen, clean_page, fit_pages, kept_clean, left_pages_seen, left_seen, pages_apart, part_seens, picked_seen, seen_pages}
+use Rattle.tsdb_streams.proofs.LaneViews.{ArePages, IsCleanPage, all_inside, all_kept, all_seen, clean_page, fit_pages, kept_clean, left_pages_seen, left_seen, pages_apart, part_seens, picked_seen, seen_pages}
 use Rattle.tsdb_streams.proofs.OpenFacts.{got_map}
 use Rattle.tsdb_streams.proofs.Views.{AreApart, AreSound, IsFit, Seen, View, ViewsApart, all_of, overlap_swap}
 use Rattle.tsdb_streams.proofs.ViewMerges.{points_of}
-use Rattle.tsdb_streams.specs.Clean.{any_meets, hull_of, others}
+use Rattle.tsdb_streams.specs.Clean.{any_meets, hull_of, is_apart, others}
 use Rattle.tsdb_streams.specs.Cleaning.{all_set, is_clean_page, lane_hulls, page_times, picked}
 use Rattle.tsdb_streams.specs.KeptPoints.{stats_range}
 use Rattle.tsdb_streams.specs.Lanes.{keep_of, left_pages}
@@ -202,6 +203,12 @@ outside_of t s r begins apart = by (is_in s.hull t.hull.from) refl
 
 -- ---- one source
 
+-- nothing else meets the times of a clean page
+apart_of : (kept : Kept) (hulls : List (List Range)) (born : ℕ) (name : Aggregate) (page : PageEntry) → is_clean_page name kept hulls born page ≡ true
+    → IsCleanPage kept.series.now kept.range kept.marks.now.marks hulls born (page_times page)
+apart_of kept hulls born name page clean = clean_page kept.series.now kept.range kept.marks.now.marks hulls born (page_times page)
+    (both (has_asked name page.stats) (is_apart kept.series.now kept.range kept.marks.now.marks hulls born (page_times page)) clean).1
+
 module _ {R : Type 0} where
   abbrev pub lane_born : Lane R → ℕ
   lane_born (Pages lane) = lane.born.0
@@ -226,10 +233,10 @@ module _ {R : Type 0} where
     pub stats : AreStatsOf (joined list) lane.entry.stats
 
   -- a source that was opened, whose clean pages are passed over, with what is told of it
-  abbrev pub IsOpen : Kept → List (List Range) → Lane R → List (List Point) → Type 0
-  IsOpen kept hulls (Pages lane) list = (lane.passed.items ≡ map (is_clean_page kept hulls lane.born.0) lane.entry.pages) × ArePages lane.entry.pages list × IsRising (joined list)
+  abbrev pub IsOpen : Aggregate → Kept → List (List Range) → Lane R → List (List Point) → Type 0
+  IsOpen name kept hulls (Pages lane) list = (lane.passed.items ≡ map (is_clean_page name kept hulls lane.born.0) lane.entry.pages) × ArePages lane.entry.pages list × IsRising (joined list)
       × (lane.whole ≡ true → IsOnePiece hulls lane list)
-  IsOpen kept hulls (Part lane) list = IsRising lane.rest.now
+  IsOpen name kept hulls (Part lane) list = IsRising lane.rest.now
 
   pub left_seens : (lane : PageLane R) (list : List (List Point)) → ArePages lane.entry.pages list → length lane.passed.items ≡ length lane.entry.pages → (whole : Bool) → (whole ≡ true → all_set lane.passed.items ≡ true)
       → left_seen (seens_of whole lane list) ≡ joined (left_pages lane.passed.items list)
@@ -245,50 +252,50 @@ module _ {R : Type 0} where
   passed_seens lane list are true = refl
   passed_seens lane list are false = picked_seen lane.passed.items lane.entry.pages list are
 
-  keeps : (kept : Kept) (hulls : List (List Range)) (lane : PageLane R) (page : PageEntry) → is_clean_page kept hulls lane.born.0 page ≡ true → (p : Point) → is_in (page_times page) p.time ≡ true → keep_of kept lane.born.0 p ≡ true
-  keeps kept hulls lane page clean p here = kept_clean kept.series.now kept.range kept.marks.now.marks hulls lane.born.0 (page_times page) p (clean_page kept.series.now kept.range kept.marks.now.marks hulls lane.born.0 (page_times page) clean) here
+  keeps : (name : Aggregate) (kept : Kept) (hulls : List (List Range)) (lane : PageLane R) (page : PageEntry) → is_clean_page name kept hulls lane.born.0 page ≡ true → (p : Point) → is_in (page_times page) p.time ≡ true → keep_of kept lane.born.0 p ≡ true
+  keeps name kept hulls lane page clean p here = kept_clean kept.series.now kept.range kept.marks.now.marks hulls lane.born.0 (page_times page) p (apart_of kept hulls lane.born.0 name page clean) here
 
-  open_fit : (kept : Kept) (hulls : List (List Range)) (lane : Lane R) (list : List (List Point)) → IsOpen kept hulls lane list → Each (IsFit (keep_of kept (lane_born lane))) (lane_seens lane list)
-  open_fit kept hulls (Pages lane) list is = by lane.whole is.3
+  open_fit : (name : Aggregate) (kept : Kept) (hulls : List (List Range)) (lane : Lane R) (list : List (List Point)) → IsOpen name kept hulls lane list → Each (IsFit (keep_of kept (lane_born lane))) (lane_seens lane list)
+  open_fit name kept hulls (Pages lane) list is = by lane.whole is.3
     where
       by : (whole : Bool) → (whole ≡ true → IsOnePiece hulls lane list) → Each (IsFit (keep_of kept lane.born.0)) (seens_of whole lane list)
       by true piece =
           let one = piece refl in (
             fit_whole (keep_of kept lane.born.0) lane.entry.stats (joined list) one.stats is.2
-                (all_kept_pages (keep_of kept lane.born.0) (is_clean_page kept hulls lane.born.0) lane.entry.pages list is.1 (keeps kept hulls lane) (ap all_set (sym is.0) ∙ one.all)),
+                (all_kept_pages (keep_of kept lane.born.0) (is_clean_page name kept hulls lane.born.0) lane.entry.pages list is.1 (keeps name kept hulls lane) (ap all_set (sym is.0) ∙ one.all)),
             tt,
           )
       by false piece = subst (λ flags. Each (IsFit (keep_of kept lane.born.0)) (seen_pages flags lane.entry.pages list)) (sym is.0)
-          (fit_pages (keep_of kept lane.born.0) (is_clean_page kept hulls lane.born.0) lane.entry.pages list is.1 (keeps kept hulls lane))
-  open_fit kept hulls (Part lane) list is = part_fit (keep_of kept lane.born.0) lane.rest.now is
+          (fit_pages (keep_of kept lane.born.0) (is_clean_page name kept hulls lane.born.0) lane.entry.pages list is.1 (keeps name kept hulls lane))
+  open_fit name kept hulls (Part lane) list is = part_fit (keep_of kept lane.born.0) lane.rest.now is
 
-  open_rising : (kept : Kept) (hulls : List (List Range)) (lane : Lane R) (list : List (List Point)) → IsOpen kept hulls lane list → IsRising (points_of (lane_seens lane list))
-  open_rising kept hulls (Pages lane) list is = subst IsRising (sym (all_seens lane list is.1 lane.whole)) is.2
-  open_rising kept hulls (Part lane) list is = subst IsRising (sym (part_points lane.rest.now)) is
+  open_rising : (name : Aggregate) (kept : Kept) (hulls : List (List Range)) (lane : Lane R) (list : List (List Point)) → IsOpen name kept hulls lane list → IsRising (points_of (lane_seens lane list))
+  open_rising name kept hulls (Pages lane) list is = subst IsRising (sym (all_seens lane list is.1 lane.whole)) is.2
+  open_rising name kept hulls (Part lane) list is = subst IsRising (sym (part_points lane.rest.now)) is
 
-  open_apart : (kept : Kept) (hulls : List (List Range)) (lane : Lane R) (list : List (List Point)) → IsOpen kept hulls lane list → EachPair AreApart (lane_seens lane list)
-  open_apart kept hulls (Pages lane) list is = by lane.whole
+  open_apart : (name : Aggregate) (kept : Kept) (hulls : List (List Range)) (lane : Lane R) (list : List (List Point)) → IsOpen name kept hulls lane list → EachPair AreApart (lane_seens lane list)
+  open_apart name kept hulls (Pages lane) list is = by lane.whole
     where
       by : (whole : Bool) → EachPair AreApart (seens_of whole lane list)
       by true = (tt, tt)
       by false = pages_apart lane.passed.items lane.entry.pages list is.1 is.2
-  open_apart kept hulls (Part lane) list is = part_apart lane.rest.now
+  open_apart name kept hulls (Part lane) list is = part_apart lane.rest.now
 
-  open_clear : (kept : Kept) (hulls : List (List Range)) (lane : Lane R) (list : List (List Point)) → IsOpen kept hulls lane list → Each (IsClear hulls) (lane_seens lane list)
-  open_clear kept hulls (Pages lane) list is = by lane.whole is.3
+  open_clear : (name : Aggregate) (kept : Kept) (hulls : List (List Range)) (lane : Lane R) (list : List (List Point)) → IsOpen name kept hulls lane list → Each (IsClear hulls) (lane_seens lane list)
+  open_clear name kept hulls (Pages lane) list is = by lane.whole is.3
     where
       by : (whole : Bool) → (whole ≡ true → IsOnePiece hulls lane list) → Each (IsClear hulls) (seens_of whole lane list)
       by true piece = (λ e. (piece refl).clear, tt)
       by false piece = subst (λ flags. Each (IsClear hulls) (seen_pages flags lane.entry.pages list)) (sym is.0)
-          (pages_clear hulls (is_clean_page kept hulls lane.born.0) (λ page clean. (clean_page kept.series.now kept.range kept.marks.now.marks hulls lane.born.0 (page_times page) clean).unmet) lane.entry.pages list)
-  open_clear kept hulls (Part lane) list is = part_clear hulls lane.rest.now
+          (pages_clear hulls (is_clean_page name kept hulls lane.born.0) (λ page clean. (apart_of kept hulls lane.born.0 name page clean).unmet) lane.entry.pages list)
+  open_clear name kept hulls (Part lane) list is = part_clear hulls lane.rest.now
 
   -- it has the times of a page or part of the source, or is passed over and begins with a page of it
   abbrev pub IsPlaced : Lane R → Seen → Type 0
   IsPlaced lane t = (Among t.hull (lane_hulls lane)) ⊎ ((r : Range) × Among r (lane_hulls lane) × BeginsAs t r)
 
-  open_hulls : (kept : Kept) (hulls : List (List Range)) (lane : Lane R) (list : List (List Point)) → IsOpen kept hulls lane list → Each (IsPlaced lane) (lane_seens lane list)
-  open_hulls kept hulls (Pages lane) list is = by lane.whole is.3
+  open_hulls : (name : Aggregate) (kept : Kept) (hulls : List (List Range)) (lane : Lane R) (list : List (List Point)) → IsOpen name kept hulls lane list → Each (IsPlaced lane) (lane_seens lane list)
+  open_hulls name kept hulls (Pages lane) list is = by lane.whole is.3
     where
       by : (whole : Bool) → (whole ≡ true → IsOnePiece hulls lane list) → Each (IsPlaced (Pages lane)) (seens_of whole lane list)
       by true piece =
@@ -296,7 +303,7 @@ module _ {R : Type 0} where
           (inr (first.0, first.1, record { passed = refl; from = first.2; some = first.3 }), tt)
       by false piece = each_weaker (λ (b : Seen). Among b.hull (map page_times lane.entry.pages)) (IsPlaced (Pages lane)) (λ b among. inl among) (seen_pages lane.passed.items lane.entry.pages list)
           (pages_hulls lane.passed.items lane.entry.pages list (map page_times lane.entry.pages) (λ r m. m))
-  open_hulls kept hulls (Part lane) list is = by lane.rest.now
+  open_hulls name kept hulls (Part lane) list is = by lane.rest.now
     where
       by : (points : List Point) → Each (λ b. (Among b.hull (hull_of points)) ⊎ ((r : Range) × Among r (hull_of points) × BeginsAs b r)) (part_seens points)
       by [] = tt
@@ -332,10 +339,6 @@ module _ {R : Type 0} (kept : Kept) where
   views (lane ∷ lanes) [] = []
   views (lane ∷ lanes) (list ∷ lists) = view kept lane list ∷ views lanes lists
 
-  -- all sources are open
-  abbrev pub AreOpen : List (Lane R) → List (List (List Point)) → Type 0
-  AreOpen lanes lists = (k : ℕ) (lane : Lane R) (list : List (List Point)) → slice_get lanes k ≡ Some lane → slice_get lists k ≡ Some list → IsOpen kept (others k (map lane_hulls lanes)) lane list
-
   each_view : (P : View → Type 0) (lanes : List (Lane R)) (lists : List (List (List Point))) → ((k : ℕ) (lane : Lane R) (list : List (List Point)) → slice_get lanes k ≡ Some lane → slice_get lists k ≡ Some list → P (view kept lane list)) → Each P (views lanes lists)
   each_view P [] lists f = tt
   each_view P (lane ∷ lanes) [] f = tt
@@ -350,20 +353,25 @@ module _ {R : Type 0} (kept : Kept) where
     pair_views Q lanes lists (λ i k a b l m low x y z w. f (suc i) (suc k) a b l m (omega (arith, low)) x y z w),
   )
 
+module _ {R : Type 0} (name : Aggregate) (kept : Kept) where
+  -- all sources are open
+  abbrev pub AreOpen : List (Lane R) → List (List (List Point)) → Type 0
+  AreOpen lanes lists = (k : ℕ) (lane : Lane R) (list : List (List Point)) → slice_get lanes k ≡ Some lane → slice_get lists k ≡ Some list → IsOpen name kept (others k (map lane_hulls lanes)) lane list
+
   -- a page that is passed over meets no page or part of another source
-  unmet : (lanes : List (Lane R)) (i k : ℕ) (a b : Lane R) (l : List (List Point)) → i ≢ k → IsOpen kept (others i (map lane_hulls lanes)) a l → slice_get lanes k ≡ Some b → (s : Seen) (r : Range) → Among s (lane_seens a l) → is_some s.passed ≡ true
+  unmet : (lanes : List (Lane R)) (i k : ℕ) (a b : Lane R) (l : List (List Point)) → i ≢ k → IsOpen name kept (others i (map lane_hulls lanes)) a l → slice_get lanes k ≡ Some b → (s : Seen) (r : Range) → Among s (lane_seens a l) → is_some s.passed ≡ true
       → Among r (lane_hulls b) → overlap r s.hull ≡ false
   unmet lanes i k a b l apart is at s r ms passed mr =
       let step : i + 1 ≡ suc i = omega arith in
-      let clear = each_among (IsClear (others i (map lane_hulls lanes))) (lane_seens a l) s (open_clear kept (others i (map lane_hulls lanes)) a l is) ms passed in
+      let clear = each_among (IsClear (others i (map lane_hulls lanes))) (lane_seens a l) s (open_clear name kept (others i (map lane_hulls lanes)) a l is) ms passed in
       let none = none_other (any_meets s.hull) i k (map lane_hulls lanes) (lane_hulls b) (ap (λ n. list_any (any_meets s.hull) (take i (map lane_hulls lanes) ++ drop n (map lane_hulls lanes))) (sym step) ∙ clear) apart (got_map lane_hulls lanes k b at) in
       none_among (λ hull. overlap hull s.hull) (lane_hulls b) r none mr
 
-  clear_of : (lanes : List (Lane R)) (i k : ℕ) (a b : Lane R) (l m : List (List Point)) → i ≢ k → IsOpen kept (others i (map lane_hulls lanes)) a l → IsOpen kept (others k (map lane_hulls lanes)) b m → slice_get lanes i ≡ Some a → slice_get lanes k ≡ Some b
+  clear_of : (lanes : List (Lane R)) (i k : ℕ) (a b : Lane R) (l m : List (List Point)) → i ≢ k → IsOpen name kept (others i (map lane_hulls lanes)) a l → IsOpen name kept (others k (map lane_hulls lanes)) b m → slice_get lanes i ≡ Some a → slice_get lanes k ≡ Some b
       → (s t : Seen) → Among s (lane_seens a l) → Among t (lane_seens b m) → is_some s.passed ≡ true → overlap t.hull s.hull ≡ false
   clear_of lanes i k a b l m apart is_a is_b at_a at_b s t ms mt passed =
-      by (each_among (IsPlaced a) (lane_seens a l) s (open_hulls kept (others i (map lane_hulls lanes)) a l is_a) ms)
-      (each_among (IsPlaced b) (lane_seens b m) t (open_hulls kept (others k (map lane_hulls lanes)) b m is_b) mt)
+      by (each_among (IsPlaced a) (lane_seens a l) s (open_hulls name kept (others i (map lane_hulls lanes)) a l is_a) ms)
+      (each_among (IsPlaced b) (lane_seens b m) t (open_hulls name kept (others k (map lane_hulls lanes)) b m is_b) mt)
     where
       of_b : (r : Range) → Among r (lane_hulls b) → overlap r s.hull ≡ false
       of_b r mr = unmet lanes i k a b l apart is_a at_b s r ms passed mr
@@ -377,12 +385,12 @@ module _ {R : Type 0} (kept : Kept) where
       by (inr head) (inr last) = begin_outside t.hull s.hull
           (outside_of s t head.0 head.2 (of_a last.2.passed head.0 head.1)) (outside_of t s last.0 last.2 (of_b last.0 last.1))
 
-  pub sound : (lanes : List (Lane R)) (lists : List (List (List Point))) → AreOpen lanes lists → AreSound (views lanes lists)
+  pub sound : (lanes : List (Lane R)) (lists : List (List (List Point))) → AreOpen lanes lists → AreSound (views kept lanes lists)
   sound lanes lists are = record {
-    fit = each_view (λ v. Each (IsFit v.keep) v.seens) lanes lists (λ k lane list x y. open_fit kept (others k (map lane_hulls lanes)) lane list (are k lane list x y));
-    rising = each_view (λ v. IsRising (all_of v)) lanes lists (λ k lane list x y. open_rising kept (others k (map lane_hulls lanes)) lane list (are k lane list x y));
-    within = each_view (λ v. EachPair AreApart v.seens) lanes lists (λ k lane list x y. open_apart kept (others k (map lane_hulls lanes)) lane list (are k lane list x y));
-    across = pair_views ViewsApart lanes lists (λ i k a b l m low x y z w.
+    fit = each_view kept (λ v. Each (IsFit v.keep) v.seens) lanes lists (λ k lane list x y. open_fit name kept (others k (map lane_hulls lanes)) lane list (are k lane list x y));
+    rising = each_view kept (λ v. IsRising (all_of v)) lanes lists (λ k lane list x y. open_rising name kept (others k (map lane_hulls lanes)) lane list (are k lane list x y));
+    within = each_view kept (λ v. EachPair AreApart v.seens) lanes lists (λ k lane list x y. open_apart name kept (others k (map lane_hulls lanes)) lane list (are k lane list x y));
+    across = pair_views kept ViewsApart lanes lists (λ i k a b l m low x y z w.
         each_all (λ s. Each (AreApart s) (lane_seens b m)) (lane_seens a l) (λ s ms. each_all (AreApart s) (lane_seens b m) (λ t mt. record {
           first = λ passed. overlap_swap s.hull t.hull ∙ clear_of lanes i k a b l m (λ e. absurd (omega (arith, low, e))) (are i a l x y) (are k b m z w) x z s t ms mt passed;
           second = λ passed. clear_of lanes k i b a m l (λ e. absurd (omega (arith, low, e))) (are k b m z w) (are i a l x y) z x t s mt ms passed;

@@ -23,7 +23,7 @@ use Rattle.tsdb_streams.specs.KeptPoints.{stats_range}
 use Rattle.tsdb_streams.specs.PartedMerge.{AreStatsInOrder, is_between, points_within}
 use Rattle.tsdb_base.specs.Lists.{Among, EachPair, if_some}
 use Rattle.tsdb_base.proofs.Lists.{each_among}
-use Rattle.tsdb_model.specs.Folds.{aggregate_of}
+use Rattle.tsdb_model.specs.Folds.{value_of_points}
 use Rattle.tsdb_model.specs.World.{is_in}
 use Rattle.tsdb_base.specs.Points.{IsRising}
 use Rattle.tsdb_merge.specs.Winners.{HasNoneAt, IsMergeOf, IsWinner}
@@ -260,7 +260,7 @@ is_proper keep a stats fit is = by a.points (fit.are stats is).start fit.inside
     none_some : ◌≡◌ {A = Option Value} None (Some (I64 stats.start)) → ⊥
     none_some e = cc
 
-    by : (points : List Point) → aggregate_of MinTime points ≡ Some (I64 stats.start) → All (λ p. is_in a.hull p.time ≡ true) points → stats.start ≤ℤ stats.end
+    by : (points : List Point) → value_of_points MinTime points ≡ Some (I64 stats.start) → All (λ p. is_in a.hull p.time ≡ true) points → stats.start ≤ℤ stats.end
     by [] e all = absurd (none_some e)
     by (p ∷ ps) e all =
         let at = inside a.hull p.time (All-head (λ (p : Point). is_in a.hull p.time ≡ true) p ps all) in

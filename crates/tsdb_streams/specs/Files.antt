@@ -1,14 +1,17 @@
 -- What is told of a file that a series is read from.
 use Rattle.std.specs.Prelude.{◌≡◌, ℕ, ◌≤◌, List, [], Contains, IfSome, Option, None, Some, Result, IsErrOf, length, map}
-use Rattle.std.specs.Prelude.{is_some, slice_get, true}
+use Rattle.std.specs.Prelude.{Bool, ◌&&◌, is_some, slice_get, true}
+use Rattle.std.specs.Option.{unwrap_or}
 use Rattle.tsdb_base.specs.declared.point.Point.{Point}
 use Rattle.tsdb_index.specs.declared.index.IndexEntry.{IndexEntry}
 use Rattle.tsdb_index.specs.declared.index.PageEntry.{PageEntry}
+use Rattle.tsdb_index.specs.Versions.{has_sums}
+use Rattle.tsdb_model.specs.Folds.{sum_of}
 use Rattle.tsdb_base.specs.Causes.{Rose}
 use Rattle.tsdb_outside.specs.Files.{NamedFile}
 use Rattle.tsdb_outside.specs.declared.faults.StoreFault.{StoreFault}
 use Rattle.tsdb_outside.specs.declared.faults.StoreFault.TheVariants as store
-use Rattle.tsdb_pages.specs.File.{IsFile}
+use Rattle.tsdb_pages.specs.File.{IsFile, version_in}
 use Rattle.tsdb_pages.specs.Trees.{IsMade, IsTree}
 use Rattle.tsdb_pages.specs.declared.tree.Chunk.{Chunk}
 use Rattle.tsdb_pages.specs.declared.tree.Group.{Group}
@@ -57,13 +60,18 @@ abbrev pub IsTold : FilePages → NamedFile → Type 0
 IsTold pages name = (bytes : List ℕ) → name.bytes ≡ Some bytes
     → (list : List (List Point)) × (pages name.number ≡ Some list)
 
+-- whether statistics of numbers have a sum in the file, where it tells its bytes
+abbrev pub sums_in : NamedFile → Bool
+sums_in name = has_sums (version_in (unwrap_or name.bytes []))
+
 -- the page of which the entry says this has these points: they lie within its times, whatever is read of it is these,
--- and some page stands there, and the entry says their statistics
+-- and some page stands there, and the entry says their statistics, with their sum where the file has sums
 abbrev pub HasPagePoints : IndexEntry → NamedFile → PageEntry → List Point → Type 0
 HasPagePoints entry name said points = LieIn said.stats points
     × ((bytes : List ℕ) → name.bytes ≡ Some bytes
     → ((read : List Point) → HasPage bytes entry said read → read ≡ points) × (HasNoPage bytes entry said → ⊥))
     × AreStatsOf points said.stats
+    × (is_some said.stats.sum ≡ (sums_in name && is_some (sum_of points)))
 
 -- the file tells its bytes, and has these points in the pages of the entry, which says the statistics of all of them
 abbrev pub HasEntryPages : IndexEntry → NamedFile → List (List Point) → Type 0

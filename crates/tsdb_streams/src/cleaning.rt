@@ -1,9 +1,9 @@
-//! The clean pages of a column. Depends on `survival`, `lane`, `ordering` and tsdb_aggregate.
+//! The pages of a column that are clean for an aggregate. Depends on `survival`, `lane`, `ordering` and tsdb_aggregate.
 ghost use Rattle.std.specs.List.{list_any};
 ghost use Rattle.std.specs.List.Sorted.{IsPermutation};
 ghost use Rattle.std.specs.Prelude.{◌≡◌, ◌<◌, ◌≤ℤ◌, ◌++◌, AllPairs, IfOk, OnOk, flat_map, length, map};
-ghost use Rattle.tsdb_streams.specs.Clean.{any_meets, hull_of, is_clean as clean, others};
-ghost use Rattle.tsdb_streams.specs.Cleaning.{AreCleaned, IsFlagged, all_set, flags_of, lane_hulls};
+ghost use Rattle.tsdb_streams.specs.Clean.{any_meets, hull_of, is_apart as apart, others};
+ghost use Rattle.tsdb_streams.specs.Cleaning.{AreCleaned, IsFlagged, all_set, flags_of, is_clean_page, lane_hulls};
 ghost use Rattle.tsdb_streams.specs.Cleaning.{lane_passed, picked, whole_of};
 
 use crate::filling::is_passed;
@@ -11,8 +11,8 @@ use crate::lane::Lane;
 use crate::ordering::page_meets;
 use crate::survival::{Kept, contains, times_of};
 use std::alloc::Global;
-use tsdb_aggregate::overlap;
-use tsdb_base::{Memory, Point, Range, Stamp, Stats};
+use tsdb_aggregate::{has_asked, overlap};
+use tsdb_base::{Aggregate, Memory, Point, Range, Stamp, Stats};
 use tsdb_index::PageEntry;
 
 /// Whether the times from the first of these points to the last one meet the times.
@@ -51,8 +51,8 @@ fn source_meets<R>(lanes: &[Lane<'_, R>], times: &Range) -> bool
     false
 }
 
-/// Whether a page with these times of the source at a place is clean.
-fn is_clean<R>(
+/// Whether the times lie in the range, and neither a mark nor a source beside the one at a place meets them.
+fn is_apart<R>(
     kept: &Kept<'_>,
     lanes: &[Lane<'_, R>],
     place: usize,
@@ -60,7 +60,7 @@ fn is_clean<R>(
     times: &Range,
 ) -> bool
     requires { place < length lanes.now }
-    ensures { result ≡ clean kept.now.series.now kept.now.range kept.now.marks.now.marks
+    ensures { result ≡ apart kept.now.series.now kept.now.range kept.now.marks.now.marks
         (others place (map lane_hulls lanes.now)) born.0 times.now }
 {
     let (before, rest) = lanes.split_at(place);
@@ -75,9 +75,28 @@ fn is_clean<R>(
     !source_meets(behind, times)
 }
 
-/// Which pages of a source, which stands at this place, are clean.
+/// Whether a page of the source at a place is clean for the aggregate.
+fn is_clean<R>(
+    name: Aggregate,
+    kept: &Kept<'_>,
+    lanes: &[Lane<'_, R>],
+    place: usize,
+    born: Stamp,
+    page: &PageEntry,
+) -> bool
+    requires { place < length lanes.now }
+    ensures { result ≡ is_clean_page name kept.now (others place (map lane_hulls lanes.now)) born.0 page.now }
+{
+    if !has_asked(name, &page.stats) {
+        return false;
+    }
+    is_apart(kept, lanes, place, born, &times_of(&page.stats))
+}
+
+/// Which pages of a source, which stands at this place, are clean for the aggregate.
 fn clean_pages<R>(
     alloc: Global,
+    name: Aggregate,
     kept: &Kept<'_>,
     lanes: &[Lane<'_, R>],
     place: usize,
@@ -85,15 +104,14 @@ fn clean_pages<R>(
 ) -> Result<Vec<bool>, Memory>
     requires { place < length lanes.now }
     ensures { IfOk result (λ flags. flags.items
-        ≡ flags_of kept.now (others place (map lane_hulls lanes.now)) lane.now) }
+        ≡ flags_of name kept.now (others place (map lane_hulls lanes.now)) lane.now) }
 {
     let mut flags = Vec::new(alloc);
     let Lane::Pages(pages) = lane else {
         return Ok(flags);
     };
     for page in pages.entry.pages.items() {
-        let times = times_of(&page.stats);
-        flags.push(is_clean(kept, lanes, place, pages.born, &times))?;
+        flags.push(is_clean(name, kept, lanes, place, pages.born, page))?;
     }
     Ok(flags)
 }
@@ -124,9 +142,15 @@ fn are_set(flags: &[bool]) -> bool
 }
 
 /// Whether the pages of a source with these flags, which stands at this place, are passed over as one piece.
-fn is_whole<R>(lanes: &[Lane<'_, R>], place: usize, lane: &Lane<'_, R>, flags: &[bool]) -> bool
+fn is_whole<R>(
+    name: Aggregate,
+    lanes: &[Lane<'_, R>],
+    place: usize,
+    lane: &Lane<'_, R>,
+    flags: &[bool],
+) -> bool
     requires { place < length lanes.now }
-    ensures { result ≡ whole_of (others place (map lane_hulls lanes.now)) flags.now lane.now }
+    ensures { result ≡ whole_of name (others place (map lane_hulls lanes.now)) flags.now lane.now }
 {
     let Lane::Pages(pages) = lane else {
         return false;
@@ -134,12 +158,17 @@ fn is_whole<R>(lanes: &[Lane<'_, R>], place: usize, lane: &Lane<'_, R>, flags: &
     if !are_set(flags) {
         return false;
     }
+    if !has_asked(name, &pages.entry.stats) {
+        return false;
+    }
     !others_meet(lanes, place, &times_of(&pages.entry.stats))
 }
 
-/// Which pages of a source, which stands at this place, are clean, and whether they are passed over as one piece.
+/// Which pages of a source, which stands at this place, are clean for the aggregate, and whether they are passed over as
+/// one piece.
 fn clean_lane<R>(
     alloc: Global,
+    name: Aggregate,
     kept: &Kept<'_>,
     lanes: &[Lane<'_, R>],
     place: usize,
@@ -147,12 +176,12 @@ fn clean_lane<R>(
 ) -> Result<(Vec<bool>, bool), Memory>
     requires { place < length lanes.now }
     ensures flags { IfOk result (λ clean. clean.0.items
-        ≡ flags_of kept.now (others place (map lane_hulls lanes.now)) lane.now) }
+        ≡ flags_of name kept.now (others place (map lane_hulls lanes.now)) lane.now) }
     ensures whole { IfOk result (λ clean. clean.1
-        ≡ whole_of (others place (map lane_hulls lanes.now)) clean.0.items lane.now) }
+        ≡ whole_of name (others place (map lane_hulls lanes.now)) clean.0.items lane.now) }
 {
-    let flags = clean_pages(alloc, kept, lanes, place, lane)?;
-    let whole = is_whole(lanes, place, lane, &flags);
+    let flags = clean_pages(alloc, name, kept, lanes, place, lane)?;
+    let whole = is_whole(name, lanes, place, lane, &flags);
     Ok((flags, whole))
 }
 
@@ -166,16 +195,17 @@ fn pass<R>(lane: &mut Lane<'_, R>, flags: Vec<bool>, whole: bool)
     }
 }
 
-/// Lets all sources pass over their clean pages.
+/// Lets all sources pass over the pages that are clean for the aggregate.
 pub(crate) fn pass_clean<R>(
     alloc: Global,
+    name: Aggregate,
     kept: &Kept<'_>,
     lanes: &mut Vec<Lane<'_, R>>,
 ) -> Result<(), Memory>
-    ensures { OnOk result (AreCleaned kept.now lanes.old.items lanes.new.items) }
+    ensures { OnOk result (AreCleaned name kept.now lanes.old.items lanes.new.items) }
 {
     for place in 0..lanes.len() {
-        let (flags, whole) = clean_lane(alloc, kept, lanes, place, &lanes[place])?;
+        let (flags, whole) = clean_lane(alloc, name, kept, lanes, place, &lanes[place])?;
         pass(&mut lanes[place], flags, whole);
     }
     Ok(())

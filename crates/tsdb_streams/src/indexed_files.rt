@@ -47,7 +47,13 @@ pub fn open_index<'a, P: Port>(
     ensures same_store { P.store port.new ≡ P.store port.old }
 {
     match read_meta(alloc, port, right) {
-        Ok(FileMeta { size: _, index }) => Ok(IndexedFile { right, born, index }),
+        Ok(
+            FileMeta {
+                size: _,
+                version: _,
+                index,
+            },
+        ) => Ok(IndexedFile { right, born, index }),
         Err(fault) => Err(fault_of(port, right, fault)),
     }
 }

@@ -1,6 +1,7 @@
 //! Opening a stream. Depends on `stream`, `file` and tsfile_reader.
 ghost use Rattle.std.specs.List.{AllZip};
-ghost use Rattle.std.specs.Prelude.{◌≡◌, ℕ, ◌≤◌, All, IfOk, List, None, Some, map};
+ghost use Rattle.std.specs.Prelude.{◌≡◌, ℕ, ◌≤◌, All, IfOk, IsTrue, List, None, Some, map};
+ghost use Rattle.tsdb_aggregate.specs.Pieces.{has_asked};
 ghost use Rattle.tsdb_base.specs.declared.point.Point.{Point as PointModel};
 ghost use Rattle.tsdb_base.specs.Points.{IsRising};
 ghost use Rattle.tsdb_merge.specs.Winners.{IsToldMergeOf};
@@ -24,7 +25,7 @@ use crate::source::StreamSource;
 use crate::stream::Stream;
 use crate::survival::Kept;
 use std::alloc::Global;
-use tsdb_base::{Memory, Range, Stamp, Stats};
+use tsdb_base::{Aggregate, Memory, Range, Stamp, Stats};
 use tsdb_index::IndexEntry;
 use tsdb_marks::Marks;
 use tsdb_merge::LazyMerge;
@@ -189,10 +190,11 @@ pub fn open_stream<'a, P: Port>(
     })
 }
 
-/// Opens the stream of a series over these sources without its clean pages, and answers the statistics of these, in
-/// order of time. It reads the index of each file, and no page.
+/// Opens the stream of a series over these sources without the pages that are clean for the aggregate, and answers the
+/// statistics of these, in order of time. It reads the index of each file, and no page.
 pub fn open_parted<'a, P: Port>(
     alloc: Global,
+    name: Aggregate,
     series: &'a Path,
     range: &Range,
     marks: &'a Marks,
@@ -206,10 +208,11 @@ pub fn open_parted<'a, P: Port>(
         map (source_all P.Right.file pages) sources.entry.items ≡ map Some lists → All IsRising lists →
         map (source_left P.Right.file pages (is_kept series.now range.now marks.now.marks)) sources.entry.items
         ≡ map Some kept → IsParted kept opened.0.items (stream_left P.Right.file pages opened.1)) }
+    ensures asked { IfOk result (λ opened. All (λ stats. IsTrue (has_asked name stats)) opened.0.items) }
     ensures due { (pages : FilePages) → AreTrueSources P.Right.file series.now pages sources.entry.items
         → IfOk result (λ opened. (lists : List (List PointModel)) →
         map (source_all P.Right.file pages) sources.entry.items ≡ map Some lists → stream_due opened.1
-        ≡ sources_read P.Right.file pages series.now range.now marks.now.marks sources.entry.items) }
+        ≡ sources_read P.Right.file pages name series.now range.now marks.now.marks sources.entry.items) }
     ensures of_store { IfOk result (λ opened. IsStreamOfStore P.Right.file (P.store port.new) opened.1) }
     ensures truth { (pages : FilePages) → AreTrueSources P.Right.file series.now pages sources.entry.items
         → IfOk result (λ opened. IsTrueStream P.Right.file pages opened.1) }
@@ -229,7 +232,7 @@ pub fn open_parted<'a, P: Port>(
         range: *range,
         marks,
     };
-    pass_clean(alloc, &kept, &mut lanes)?;
+    pass_clean(alloc, name, &kept, &mut lanes)?;
     let clean = passed_stats(alloc, &lanes)?;
     let merge = LazyMerge::new(alloc, lanes.len())?;
     let stream = Stream {

@@ -25,4 +25,4 @@ returns-in-Ok-clause-reason g c = λ pages truth. reason_ok _ _ _ _ c.in-Ok.ensu
 pub returns-in-Err-clause-reason : goal.returns-in-Err-clause-reason
 returns-in-Err-clause-reason g c = λ pages truth.
     reason_of _ _ _ _ _ c.in-Err.fault c.fault_of.result c.in-Err.ensures.cause c.fault_of.ensures.later c.fault_of.ensures.counted
-    (undamaged_index pages (c.args.device.now, c.args.measurement.now) (g.P.Right.ReadRight.file c.args.right.now) truth (Option IndexEntry) c.in-Err.fault (λ tree. Unit {0}) c.in-Err.ensures.tree)
+    (undamaged_index pages (c.args.device.now, c.args.measurement.now) (g.P.Right.ReadRight.file c.args.right.now) truth (Option IndexEntry) c.in-Err.fault (λ bytes tree. Unit {0}) c.in-Err.ensures.tree)

@@ -7,7 +7,7 @@ use Rattle.tsdb_streams.specs.Lanes.{IsLaneOfStore, IsToldLane, IsToldSource, Is
 use Rattle.tsdb_streams.proofs.Reasons.{reason_memory, reason_ok, same_reason}
 use Rattle.tsdb_path.specs.Nodes.{device_of, measurement_of}
 use Rattle.tsdb_merge.specs.Steps.{root_left}
-use Rattle.tsdb_streams.proofs.OpenParted.{all_cleaned, flagged_of, flagged_told, flagged_true, as_many_due, is_parted}
+use Rattle.tsdb_streams.proofs.OpenParted.{all_asked, all_cleaned, flagged_of, flagged_told, flagged_true, as_many_due, is_parted}
 use Rattle.tsdb_streams.specs.Cleaning.{lane_passed}
 use Rattle.tsdb_streams.specs.declared.survival.Kept.{Kept}
 use Rattle.std.specs.List.Sorted.{IsPermutation}
@@ -22,22 +22,29 @@ returns-clause-parted g c = λ pages truth lists kept all rising left.
     let news = c.pass_clean.new.lanes.items in
     let perm : IsPermutation (flat_map lane_passed news) c.in_ok-clean.clean.items = subst (λ ls. IsPermutation (flat_map lane_passed ls) c.in_ok-clean.clean.items) c.deref.ensures.value c.in_ok-clean.ensures.all in
     let count : c.len.result ≡ length news = search rules in
-    is_parted g.P.Right.ReadRight.file pages asked names c.args.sources.items c.in_ok-lanes.lanes.items news lists opens truth c.in_ok-pass_clean.ensures all rising c.in_ok-clean.clean.items kept (root_left c.into_root.result) perm c.in_ok-clean.ensures.order left
+    is_parted g.P.Right.ReadRight.file pages c.args.name asked names c.args.sources.items c.in_ok-lanes.lanes.items news lists opens truth c.in_ok-pass_clean.ensures all rising c.in_ok-clean.clean.items kept (root_left c.into_root.result) perm c.in_ok-clean.ensures.order left
     (λ ls long rises. rw c.into_root.ensures.root (c.in_ok-merge.ensures.merged ls (long ∙ sym count) rises))
+
+pub returns-clause-asked : goal.returns-clause-asked
+returns-clause-asked g c =
+    let asked : Kept = record { series = c.args.series; range = c.args.range.now; marks = c.args.marks } in
+    let news = c.pass_clean.new.lanes.items in
+    let perm : IsPermutation (flat_map lane_passed news) c.in_ok-clean.clean.items = subst (λ ls. IsPermutation (flat_map lane_passed ls) c.in_ok-clean.clean.items) c.deref.ensures.value c.in_ok-clean.ensures.all in
+    all_asked c.args.name asked c.in_ok-lanes.lanes.items news c.in_ok-clean.clean.items c.in_ok-pass_clean.ensures perm
 
 pub returns-clause-truth : goal.returns-clause-truth
 returns-clause-truth g c = λ pages truth.
     let file = g.P.Right.ReadRight.file in
     let names : List ℕ × List ℕ = (device_of c.args.series.now, measurement_of c.args.series.now) in
     let asked : Kept = record { series = c.args.series; range = c.args.range.now; marks = c.args.marks } in
-    all_cleaned asked c.in_ok-lanes.lanes.items c.pass_clean.new.lanes.items (IsTrueLane file pages) (flagged_true file pages) c.in_ok-pass_clean.ensures (zip_all (OpensAs file names) (IsTrueSource file names pages) (IsTrueLane file pages) c.args.sources.items c.in_ok-lanes.lanes.items (λ source lane opened is_true. opened.truth pages is_true)
+    all_cleaned c.args.name asked c.in_ok-lanes.lanes.items c.pass_clean.new.lanes.items (IsTrueLane file pages) (flagged_true file pages) c.in_ok-pass_clean.ensures (zip_all (OpensAs file names) (IsTrueSource file names pages) (IsTrueLane file pages) c.args.sources.items c.in_ok-lanes.lanes.items (λ source lane opened is_true. opened.truth pages is_true)
     (subst (λ (n : List ℕ × List ℕ). AllZip (OpensAs file n) c.args.sources.items c.in_ok-lanes.lanes.items) c.in_ok-device.ensures c.in_ok-lanes.ensures.opens) truth)
 
 pub returns-clause-told : goal.returns-clause-told
 returns-clause-told g c = λ pages told.
     let file = g.P.Right.ReadRight.file in
     let asked : Kept = record { series = c.args.series; range = c.args.range.now; marks = c.args.marks } in
-    all_cleaned asked c.in_ok-lanes.lanes.items c.pass_clean.new.lanes.items (IsToldLane file pages) (flagged_told file pages) c.in_ok-pass_clean.ensures
+    all_cleaned c.args.name asked c.in_ok-lanes.lanes.items c.pass_clean.new.lanes.items (IsToldLane file pages) (flagged_told file pages) c.in_ok-pass_clean.ensures
     (zip_all (OpensAs file _) (IsToldSource file pages) (IsToldLane file pages) c.args.sources.items c.in_ok-lanes.lanes.items (λ source lane opened is_told. opened.told pages is_told) c.in_ok-lanes.ensures.opens told)
 
 pub returns-in_err-device-clause-reason : goal.returns-in_err-device-clause-reason
@@ -63,7 +70,7 @@ pub returns-clause-of_store : goal.returns-clause-of_store
 returns-clause-of_store g c =
     let file = g.P.Right.ReadRight.file in
     let asked : Kept = record { series = c.args.series; range = c.args.range.now; marks = c.args.marks } in
-    all_cleaned asked c.in_ok-lanes.lanes.items c.pass_clean.new.lanes.items (IsLaneOfStore file (g.P.Port.store c.open_sources.new.port)) (flagged_of file (g.P.Port.store c.open_sources.new.port)) c.in_ok-pass_clean.ensures c.in_ok-lanes.ensures.of_store
+    all_cleaned c.args.name asked c.in_ok-lanes.lanes.items c.pass_clean.new.lanes.items (IsLaneOfStore file (g.P.Port.store c.open_sources.new.port)) (flagged_of file (g.P.Port.store c.open_sources.new.port)) c.in_ok-pass_clean.ensures c.in_ok-lanes.ensures.of_store
 
 pub returns-in_err-pass_clean-clause-reason : goal.returns-in_err-pass_clean-clause-reason
 returns-in_err-pass_clean-clause-reason g c = λ pages truth.
@@ -81,4 +88,4 @@ returns-clause-due g c = λ pages truth lists all.
     let opens : AllZip (OpensAs g.P.Right.ReadRight.file names) c.args.sources.items c.in_ok-lanes.lanes.items =
     subst (λ (n : List ℕ × List ℕ). AllZip (OpensAs g.P.Right.ReadRight.file n) c.args.sources.items c.in_ok-lanes.lanes.items) c.in_ok-device.ensures c.in_ok-lanes.ensures.opens in
     let asked : Kept = record { series = c.args.series; range = c.args.range.now; marks = c.args.marks } in
-    as_many_due g.P.Right.ReadRight.file pages asked names c.args.sources.items c.in_ok-lanes.lanes.items c.pass_clean.new.lanes.items lists opens truth c.in_ok-pass_clean.ensures all
+    as_many_due g.P.Right.ReadRight.file pages c.args.name asked names c.args.sources.items c.in_ok-lanes.lanes.items c.pass_clean.new.lanes.items lists opens truth c.in_ok-pass_clean.ensures all

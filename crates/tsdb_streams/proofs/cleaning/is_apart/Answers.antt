@@ -3,8 +3,8 @@ use Rattle.tsdb_streams.proofs.CleanFacts.{clean_else, clean_from, clean_marked,
 use Rattle.tsdb_streams.proofs.MarkTests.{same_tests}
 use Rattle.tsdb_streams.specs.Clean.{any_meets, is_marked, others}
 use Rattle.tsdb_streams.specs.Cleaning.{lane_hulls}
-use Rattle.tsdb_streams.proofs.cleaning.is_clean.Goals as goal
-use Rattle.tsdb_streams.proofs.cleaning.is_clean.Goals.{then-not-contains-via-then-not-contains, then-not-contains-via-else-not-contains+then-not-contains-2, then-not-contains-via-else-not-contains+else-not-contains-2+then-meets, then-not-contains-via-else-not-contains+else-not-contains-2+else-meets+then-source_meets}
+use Rattle.tsdb_streams.proofs.cleaning.is_apart.Goals as goal
+use Rattle.tsdb_streams.proofs.cleaning.is_apart.Goals.{then-not-contains-via-then-not-contains, then-not-contains-via-else-not-contains+then-not-contains-2, then-not-contains-via-else-not-contains+else-not-contains-2+then-meets, then-not-contains-via-else-not-contains+else-not-contains-2+else-meets+then-source_meets}
 
 pub returns-then-not-contains : goal.returns-then-not-contains
 returns-then-not-contains g c =
