@@ -8,5 +8,5 @@ finish-requires c = can_finish c.args.builder c.requires.0 c.requires.1 c.requir
 
 pub returns-in-Ok : goal.returns-in-Ok
 returns-in-Ok c = λ part was sound.
-    let made = c.in-Ok.ensures (map builder_series part) was in
+    let made = c.in-Ok.ensures.file (map builder_series part) was in
     file_of_part part c.in-Ok.bytes.items made.0 sound made.1 made.2
