@@ -22,7 +22,7 @@ use Rattle.tsdb_pin.specs.declared.pin.PinFault.TheVariants.{NoPath, WrongType, 
 use Rattle.tsdb_fileset.specs.State.{SeriesEntry}
 use Rattle.tsdb_fileset.specs.Worlds.{type_at}
 
--- whether the least or the greatest value is asked of a type without numbers
+-- whether an aggregate that only numbers have is asked of a type that has none
 abbrev pub is_unfit_for : Option Aggregate → DataType → Bool
 is_unfit_for aggregate data_type = is_unfit aggregate (Some (new_series data_type))
 

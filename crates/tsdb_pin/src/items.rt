@@ -27,16 +27,15 @@ pub(crate) enum ItemFound {
     Series(AskedSeries),
 }
 
-/// Whether the least or the greatest value is asked of a type that has no order of numbers.
+/// Whether an aggregate that only numbers have is asked of a type that has none.
 fn is_unfit(aggregate: Option<Aggregate>, data_type: DataType) -> bool
     ensures { result ≡ is_unfit_for aggregate data_type }
 {
     match aggregate {
-        Some(Aggregate::MinValue | Aggregate::MaxValue) => match data_type {
-            DataType::Boolean | DataType::Text => true,
-            DataType::Int32 | DataType::Int64 => false,
-        },
-        _ => false,
+        Some(aggregate) => {
+            aggregate.needs_numbers() && matches!(data_type, DataType::Boolean | DataType::Text)
+        }
+        None => false,
     }
 }
 

@@ -5,16 +5,18 @@ use Rattle.std.specs.List.{AllByRecursion as Each, AllZip, enumerate_from}
 use Rattle.std.specs.Option.{unwrap_or}
 use Rattle.std.proofs.lemmas.List.{take_more}
 use Rattle.std.proofs.lemmas.List.Sums.{sum_by-cons, sum_by-take-le, sum_by_push}
+use Rattle.tsdb_base.specs.declared.answers.Aggregate.{Aggregate}
 use Rattle.tsdb_base.specs.declared.point.Point.{Point}
 use Rattle.tsdb_base.specs.declared.point.Range.{Range}
-use Rattle.tsdb_streams.specs.Clean.{count_read, hull_of, others, source_hulls, source_read, sources_read}
+use Rattle.tsdb_streams.specs.Clean.{count_read, hull_of, others, page_of, source_hulls, source_pages, source_read, sources_read}
+use Rattle.tsdb_streams.specs.Files.{sums_in}
 use Rattle.tsdb_streams.specs.declared.source.StreamSource.{StreamSource}
 use Rattle.tsdb_streams.specs.declared.source.StreamSource.TheVariants as lent
 use Rattle.tsdb_marks.specs.declared.marks.Mark.{Mark}
 use Rattle.tsdb_outside.specs.Files.{NamedFile}
 use Rattle.tsdb_pin.specs.declared.pin.PinnedSource.{PinnedSource}
 use Rattle.tsdb_pin.specs.declared.pin.PinnedSource.TheVariants.{File, Part}
-use Rattle.tsdb_pins.specs.Clean.{TellsPages, page_ranges, read_of}
+use Rattle.tsdb_pins.specs.Clean.{TellsPages, page_ranges, pages_for, read_of}
 use Rattle.tsdb_pins.specs.Reading.{HasTold, IsLentAs, SeriesPages}
 use Rattle.tsdb_streams.specs.Pieces.{joined}
 
@@ -44,35 +46,41 @@ module _ {F S R P : Type 0} (name : R → NamedFile) (pages : SeriesPages) (path
   all_hulls (source ∷ sources) (other ∷ list) zip =
       ap (λ h. h ∷ map (source_hulls name (pages path)) list) (same_hulls source other zip.0) ∙ ap (λ l. page_ranges name pages path source ∷ l) (all_hulls sources list zip.1)
 
-  module _ (range : Range) (marks : List Mark) where
-    same_read : (hulls : List (List Range)) (place : ℕ) (source : PinnedSource F S R P) (other : StreamSource R) → IsLentAs source other → source_read name (pages path) path range marks hulls place other ≡ read_of name pages path range marks hulls place source
+  module _ (aggregate : Aggregate) (range : Range) (marks : List Mark) where
+    same_pages : (source : PinnedSource F S R P) (other : StreamSource R) → IsLentAs source other → source_pages name (pages path) aggregate other ≡ pages_for name pages aggregate path source
+    same_pages (File number born right) (lent.File read stamp) is = ap (λ r. flat_map (page_of aggregate (sums_in (name r))) (unwrap_or (pages path (name r).number) [])) is.0
+    same_pages (File number born right) (lent.Part parts stamp) is = absurd is
+    same_pages (Part born copies) (lent.File read stamp) is = absurd is
+    same_pages (Part born copies) (lent.Part parts stamp) is = refl
+
+    same_read : (hulls : List (List Range)) (place : ℕ) (source : PinnedSource F S R P) (other : StreamSource R) → IsLentAs source other → source_read name (pages path) aggregate path range marks hulls place other ≡ read_of name pages aggregate path range marks hulls place source
     same_read hulls place (File number born right) (lent.File read stamp) is =
-        ap (λ b. count_read path range marks (others place hulls) b.0 (source_hulls name (pages path) (lent.File read stamp))) is.1
-        ∙ ap (λ l. count_read path range marks (others place hulls) born.0 l) (same_hulls (File number born right) (lent.File read stamp) is)
+        ap (λ b. count_read path range marks (others place hulls) b.0 (source_pages name (pages path) aggregate (lent.File read stamp))) is.1
+        ∙ ap (λ l. count_read path range marks (others place hulls) born.0 l) (same_pages (File number born right) (lent.File read stamp) is)
     same_read hulls place (File number born right) (lent.Part parts stamp) is = absurd is
     same_read hulls place (Part born copies) (lent.File read stamp) is = absurd is
     same_read hulls place (Part born copies) (lent.Part parts stamp) is = refl
 
     all_read : (hulls : List (List Range)) (place : ℕ) (sources : List (PinnedSource F S R P)) (list : List (StreamSource R)) → AllZip IsLentAs sources list
-        → sum_by (λ (entry : ℕ × StreamSource R). source_read name (pages path) path range marks hulls entry.0 entry.1) (enumerate_from place list)
-        ≡ sum_by (λ (entry : ℕ × PinnedSource F S R P). read_of name pages path range marks hulls entry.0 entry.1) (enumerate_from place sources)
+        → sum_by (λ (entry : ℕ × StreamSource R). source_read name (pages path) aggregate path range marks hulls entry.0 entry.1) (enumerate_from place list)
+        ≡ sum_by (λ (entry : ℕ × PinnedSource F S R P). read_of name pages aggregate path range marks hulls entry.0 entry.1) (enumerate_from place sources)
     all_read hulls place [] [] zip = refl
     all_read hulls place [] (other ∷ list) zip = absurd zip
     all_read hulls place (source ∷ sources) [] zip = absurd zip
     all_read hulls place (source ∷ sources) (other ∷ list) zip =
-        let f = λ (entry : ℕ × StreamSource R). source_read name (pages path) path range marks hulls entry.0 entry.1 in
-        let g = λ (entry : ℕ × PinnedSource F S R P). read_of name pages path range marks hulls entry.0 entry.1 in
+        let f = λ (entry : ℕ × StreamSource R). source_read name (pages path) aggregate path range marks hulls entry.0 entry.1 in
+        let g = λ (entry : ℕ × PinnedSource F S R P). read_of name pages aggregate path range marks hulls entry.0 entry.1 in
         sum_by-cons f (place, other) (enumerate_from (place + 1) list)
         ∙ ap (λ n. n + sum_by f (enumerate_from (place + 1) list)) (same_read hulls place source other zip.0)
-        ∙ ap (λ n. read_of name pages path range marks hulls place source + n) (all_read hulls (place + 1) sources list zip.1)
+        ∙ ap (λ n. read_of name pages aggregate path range marks hulls place source + n) (all_read hulls (place + 1) sources list zip.1)
         ∙ sym (sum_by-cons g (place, source) (enumerate_from (place + 1) sources))
 
     -- as many pages of the lent sources may be read as of those of the column
     pub lent_read : (sources : List (PinnedSource F S R P)) (list : List (StreamSource R)) → AllZip IsLentAs sources list
-        → sources_read name (pages path) path range marks list
-        ≡ sum_by (λ (entry : ℕ × PinnedSource F S R P). read_of name pages path range marks (map (page_ranges name pages path) sources) entry.0 entry.1) (enumerate_from 0 sources)
+        → sources_read name (pages path) aggregate path range marks list
+        ≡ sum_by (λ (entry : ℕ × PinnedSource F S R P). read_of name pages aggregate path range marks (map (page_ranges name pages path) sources) entry.0 entry.1) (enumerate_from 0 sources)
     lent_read sources list zip =
-        ap (λ h. sum_by (λ (entry : ℕ × StreamSource R). source_read name (pages path) path range marks h entry.0 entry.1) (enumerate_from 0 list)) (all_hulls sources list zip)
+        ap (λ h. sum_by (λ (entry : ℕ × StreamSource R). source_read name (pages path) aggregate path range marks h entry.0 entry.1) (enumerate_from 0 list)) (all_hulls sources list zip)
         ∙ all_read (map (page_ranges name pages path) sources) 0 sources list zip
 
 -- ---- one column behind the other

@@ -6,7 +6,6 @@ use Rattle.std.specs.List.{AllByRecursion as Each}
 use Rattle.std.specs.Option.{IsSomeAnd, option_map}
 use Rattle.std.proofs.lemmas.Bool.{false≢true}
 use Rattle.tsdb_base.specs.declared.answers.Aggregate.{Aggregate}
-use Rattle.tsdb_base.specs.declared.answers.Aggregate.TheVariants.{Count, FirstValue, LastValue, MinValue, MaxValue, MinTime, MaxTime}
 use Rattle.tsdb_base.specs.declared.answers.Answer.TheVariants.{NoPath, WrongType}
 use Rattle.tsdb_base.specs.declared.point.Range.{Range}
 use Rattle.tsdb_base.specs.declared.value.DataType.{DataType}
@@ -33,13 +32,7 @@ HasTypes schemas world = (path : List ℕ) → option_map (λ (series : Series).
 -- whether an item is fit depends on the type alone
 unfit_by_type : (a : Option Aggregate) (series : Series) → is_unfit a (Some series) ≡ is_unfit_for a series.data_type
 unfit_by_type None series = refl
-unfit_by_type (Some Count) series = refl
-unfit_by_type (Some FirstValue) series = refl
-unfit_by_type (Some LastValue) series = refl
-unfit_by_type (Some MinValue) series = refl
-unfit_by_type (Some MaxValue) series = refl
-unfit_by_type (Some MinTime) series = refl
-unfit_by_type (Some MaxTime) series = refl
+unfit_by_type (Some aggregate) series = refl
 
 unfit_asks : (a : Option Aggregate) (o : Option Series) → is_unfit a o ≡ true → is_some a ≡ true
 unfit_asks None o unfit = absurd (false≢true unfit)

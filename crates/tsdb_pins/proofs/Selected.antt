@@ -5,9 +5,9 @@ use Rattle.std.specs.List.{AllByRecursion as Each, AllZip}
 use Rattle.std.specs.declared.alloc.Global.{Global}
 use Rattle.std.specs.declared.vec.Vec.{Vec}
 use Rattle.tsdb_base.specs.declared.answers.Aggregate.{Aggregate}
+use Rattle.tsdb_base.specs.declared.answers.Figure.{Figure}
 use Rattle.tsdb_base.specs.declared.point.Point.{Point}
 use Rattle.tsdb_base.specs.declared.point.Range.{Range}
-use Rattle.tsdb_base.specs.declared.value.Value.{Value}
 use Rattle.tsdb_pins.specs.Rows.{vec_lists}
 use Rattle.tsdb_model.specs.Apply.{item_value}
 use Rattle.tsdb_model.specs.Folds.{aggregate_of, in_order}
@@ -33,7 +33,7 @@ use Rattle.tsdb_state.specs.State.{FromFile, FromPart, ToldContents}
 use Rattle.tsdb_state.specs.Steps.{PinStandsFor}
 
 -- the aggregate of a merge that has the points of the series
-value_is : (aggregate : Option Aggregate) (lists : List (List Point)) (series : PointMap) (answer : Option Value) → ((points : List Point) → IsMergeOf lists points → points ≡ in_order series) → IsColumnValue aggregate lists answer
+value_is : (aggregate : Option Aggregate) (lists : List (List Point)) (series : PointMap) (answer : Option Figure) → ((points : List Point) → IsMergeOf lists points → points ≡ in_order series) → IsColumnValue aggregate lists answer
     → answer ≡ item_value aggregate series
 value_is None lists series answer has is = is
 value_is (Some a) lists series answer has is = is.is ∙ ap (aggregate_of a) (has is.points is.merge)
@@ -81,7 +81,7 @@ module _ {F S R P : Type 0} (name : R → NamedFile) (pages : SeriesPages) (told
       → TellPoints name pages told pin.columns → IsPinOf pin shown → PinStandsFor told shown all → vec_lists read ≡ map in_order (columns_in all pin.range pin.columns)
   columns_read pin read are shown all tells is stands = columns_are all pin.range pin.marks.marks pin.columns shown.columns read is.columns tells (pin_has told all pin shown is stands) are
 
-  values_are : (all : World) (range : Range) (marks : List Mark) (columns : List (Column F S R P)) (shown : List state.ColumnState) (read : List (Option Value))
+  values_are : (all : World) (range : Range) (marks : List Mark) (columns : List (Column F S R P)) (shown : List state.ColumnState) (read : List (Option Figure))
       → AllZip IsColumnOf columns shown → TellPoints name pages told columns → Each (HasPointsOf told all range marks) columns → AllZip (IsValueRead name pages range marks) columns read
       → read ≡ values_in all range columns
   values_are all range marks [] shown [] zip tells has are = refl
@@ -94,7 +94,7 @@ module _ {F S R P : Type 0} (name : R → NamedFile) (pages : SeriesPages) (told
       value_is column.aggregate (kept_of column.schema.path range marks column.sources sources.lists) (series_points all range column.schema.path) value (λ points merge. has.0 sources.lists points sources.are merge) (are.0 sources.lists sources.told_are sources.rising) in
       ap (λ l. l ∷ read) first ∙ ap (λ l. item_value column.aggregate (series_points all range column.schema.path) ∷ l) (values_are all range marks columns shown read zip.1 tells.1 has.1 are.1)
 
-  pub values_read : (pin : Pin F S R P) (read : List (Option Value)) → AllZip (IsValueRead name pages pin.range pin.marks.marks) pin.columns read → (shown : state.PinState) (all : World)
+  pub values_read : (pin : Pin F S R P) (read : List (Option Figure)) → AllZip (IsValueRead name pages pin.range pin.marks.marks) pin.columns read → (shown : state.PinState) (all : World)
       → TellPoints name pages told pin.columns → IsPinOf pin shown → PinStandsFor told shown all → read ≡ values_in all pin.range pin.columns
   values_read pin read are shown all tells is stands = values_are all pin.range pin.marks.marks pin.columns shown.columns read is.columns tells (pin_has told all pin shown is stands) are
 

@@ -11,9 +11,9 @@ use Rattle.tsdb_aggregate.proofs.ListFacts.{Contains-filter, Contains-from_filte
 use Rattle.tsdb_aggregate.specs.Steps.{IsTally}
 use Rattle.tsdb_aggregate.specs.declared.tally.Tally.{Tally}
 use Rattle.tsdb_base.specs.declared.answers.Aggregate.{Aggregate}
+use Rattle.tsdb_base.specs.declared.answers.Figure.{Figure}
 use Rattle.tsdb_base.specs.declared.point.Point.{Point}
 use Rattle.tsdb_base.specs.declared.point.Stats.{Stats}
-use Rattle.tsdb_base.specs.declared.value.Value.{Value}
 use Rattle.tsdb_streams.proofs.CleanFacts.{inside}
 use Rattle.std.proofs.Math.Seq.{drop-cons}
 use Rattle.tsdb_pins.proofs.Draining.{takes_none, takes_one}
@@ -304,6 +304,6 @@ woven_end name all clean next now after left point tally is takes none weaves la
     weaves_end name all tally (subst (λ l. Weaves name all [] l tally) empty (subst (λ c. Weaves name all c left tally) no_clean weaves))
 
 -- the answer of all points that are parted into clean pages and what is left
-pub fold_of : (name : Aggregate) (lists : List (List Point)) (clean : List Stats) (left : Option (List Point)) (answer : Option Value) → IsParted lists clean left
+pub fold_of : (name : Aggregate) (lists : List (List Point)) (clean : List Stats) (left : Option (List Point)) (answer : Option Figure) → IsParted lists clean left
     → ((all : List Point) → AreStatsInOrder clean all → IsRising all → left ≡ Some (filter (is_between clean) all) → answer ≡ aggregate_of name all) → IsFoldOf name lists answer
 fold_of name lists clean left answer is folded = record { points = is.points; merge = is.merge; is = folded is.points is.taken is.merge.rising is.left_is }

@@ -4,9 +4,9 @@ use Rattle.std.specs.List.{AllByRecursion as Each, AllZip}
 use Rattle.std.specs.declared.alloc.Global.{Global}
 use Rattle.std.specs.declared.vec.Vec.{Vec}
 use Rattle.tsdb_base.specs.declared.answers.Aggregate.{Aggregate}
+use Rattle.tsdb_base.specs.declared.answers.Figure.{Figure}
 use Rattle.tsdb_base.specs.declared.point.Point.{Point}
 use Rattle.tsdb_base.specs.declared.point.Range.{Range}
-use Rattle.tsdb_base.specs.declared.value.Value.{Value}
 use Rattle.tsdb_streams.specs.Files.{FilePages, IsTold, IsTruth}
 use Rattle.tsdb_streams.specs.declared.source.StreamSource.{StreamSource}
 use Rattle.tsdb_streams.specs.declared.source.StreamSource.TheVariants as lent
@@ -46,13 +46,13 @@ module _ {F S R P : Type 0} (name : R → NamedFile) where
   AreColumnsOf store columns = Each (λ column. Each (IsOfStore store) column.sources) columns
 
 -- the answer is this aggregate of the merge of the lists
-pub record IsFoldOf (name : Aggregate) (lists : List (List Point)) (answer : Option Value) : Type 0 where
+pub record IsFoldOf (name : Aggregate) (lists : List (List Point)) (answer : Option Figure) : Type 0 where
   pub points : List Point
   pub merge : IsMergeOf lists points
   pub is : answer ≡ aggregate_of name points
 
 -- the answer is the aggregate that is asked for, if one is
-abbrev pub IsColumnValue : Option Aggregate → List (List Point) → Option Value → Type 0
+abbrev pub IsColumnValue : Option Aggregate → List (List Point) → Option Figure → Type 0
 IsColumnValue None lists answer = answer ≡ None
 IsColumnValue (Some name) lists answer = IsFoldOf name lists answer
 
@@ -101,7 +101,7 @@ module _ {F S R P : Type 0} (name : R → NamedFile) (pages : SeriesPages) where
       → IsMergeOf (kept_of column.schema.path range marks column.sources lists) points.items
 
   -- This answer was read of the column: the aggregate that it asks for, of the merge of those points.
-  abbrev pub IsValueRead : Range → List Mark → Column F S R P → Option Value → Type 0
+  abbrev pub IsValueRead : Range → List Mark → Column F S R P → Option Figure → Type 0
   IsValueRead range marks column answer = (lists : List (List Point))
       → AllZip (HasTold column.schema.path) column.sources lists → Each IsRising lists
       → IsColumnValue column.aggregate (kept_of column.schema.path range marks column.sources lists) answer

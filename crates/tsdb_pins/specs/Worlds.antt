@@ -2,9 +2,9 @@
 use Rattle.std.specs.Prelude.{◌≡◌, ℕ, List, [], ◌∷◌, map, filter, Option}
 use Rattle.std.specs.FinMap.{get}
 use Rattle.std.specs.List.{AllZip}
+use Rattle.tsdb_base.specs.declared.answers.Figure.{Figure}
 use Rattle.tsdb_base.specs.declared.point.Point.{Point}
 use Rattle.tsdb_base.specs.declared.point.Range.{Range}
-use Rattle.tsdb_base.specs.declared.value.Value.{Value}
 use Rattle.tsdb_model.specs.Apply.{item_value}
 use Rattle.tsdb_model.specs.Folds.{in_order, within}
 use Rattle.tsdb_model.specs.World.{PointMap, World, points_of_series}
@@ -27,7 +27,7 @@ module _ {F S R P : Type 0} where
   columns_in world range columns = map (λ column. series_points world range column.schema.path) columns
 
   -- the aggregates that the columns ask for
-  abbrev pub values_in : World → Range → List (Column F S R P) → List (Option Value)
+  abbrev pub values_in : World → Range → List (Column F S R P) → List (Option Figure)
   values_in world range columns =
       map (λ column. item_value column.aggregate (series_points world range column.schema.path)) columns
 

@@ -13,19 +13,20 @@ ghost use Rattle.tsdb_state.specs.Steps.{PinStandsFor};
 use crate::folding::read_value;
 use std::alloc::Global;
 use std::sync::ledger::Ledger;
-use tsdb_base::{Steps, Value};
+use tsdb_base::{Figure, Steps};
 use tsdb_outside::{Files, StoreFault};
 use tsdb_pin::Pin;
 
 /// The aggregates of a pin, one for each column. Where it is told what the pin's files have, these are the values of
 /// the plain map in each world that the pin stands for. A page that lies in the range, and that no newer mark and nothing
-/// of another source meets, is answered from its statistics. Each page that is read is a step.
+/// of another source meets, is answered from its statistics, where these have what is asked. Each page that is read is
+/// a step.
 pub fn aggregates<F: Files, L: Ledger>(
     alloc: Global,
     pin: &Pin<F>,
     port: &mut F::Port,
     pages: &mut Steps<L>,
-) -> Result<Vec<Option<Value>>, StoreFault>
+) -> Result<Vec<Option<Figure>>, StoreFault>
     requires nodes { HaveNodes pin.now.columns }
     requires of_store { AreColumnsOf F.Right.file (F.Port.store port.old) pin.now.columns }
     ensures values { (told_pages : SeriesPages) → AreColumnsTrue F.Right.file told_pages pin.now.columns

@@ -1,6 +1,7 @@
 //! The aggregate of one column. Depends on `lending`, tsdb_streams and tsdb_aggregate.
 ghost use Rattle.std.specs.List.{AllByRecursion as Each};
-ghost use Rattle.std.specs.Prelude.{◌≡◌, ◌+◌, ◌≤◌, All, IfOk, List, None, Some, drop, filter, map};
+ghost use Rattle.std.specs.Prelude.{◌≡◌, ◌+◌, ◌≤◌, All, IfOk, IsTrue, List, None, Some, drop, filter, map};
+ghost use Rattle.tsdb_aggregate.specs.Pieces.{has_asked};
 ghost use Rattle.tsdb_base.specs.declared.point.Point.{Point as PointModel};
 ghost use Rattle.tsdb_streams.specs.Clean.{sources_read};
 ghost use Rattle.tsdb_streams.specs.Files.{FilePages, HasReason};
@@ -20,7 +21,7 @@ use crate::lending::lend;
 use std::alloc::Global;
 use std::sync::ledger::Ledger;
 use tsdb_aggregate::Tally;
-use tsdb_base::{Aggregate, Memory, Point, Range, Stats, Steps, Value};
+use tsdb_base::{Aggregate, Figure, Memory, Point, Range, Stats, Steps};
 use tsdb_marks::Marks;
 use tsdb_outside::{Files, Port, StoreFault};
 use tsdb_path::Path;
@@ -37,8 +38,8 @@ fn ends_before(stats: &Stats, point: &Option<Point>) -> bool
     }
 }
 
-/// Adds the statistics from a place on that end before a point, or all where there is no point. Answers the place of
-/// the next ones.
+/// Adds the statistics, all of which answer the aggregate, from a place on that end before a point, or all where there
+/// is no point. Answers the place of the next ones.
 fn add_clean<'a>(
     name: Aggregate,
     clean: &'a [Stats],
@@ -46,6 +47,7 @@ fn add_clean<'a>(
     point: &Option<Point>,
     tally: &mut Tally<'a>,
 ) -> Result<usize, Memory>
+    requires { All (λ stats. IsTrue (has_asked name stats)) clean.now }
     ensures added { IfOk result (λ next. (all left : List PointModel) → IsNextPoint point.now left
         → Weaves name all (drop from clean.now) left tally.old → Weaves name all (drop next clean.now) left tally.new) }
     ensures later { IfOk result (λ next. AreLater point.now (drop next clean.now)) }
@@ -67,9 +69,10 @@ fn fold_stream<P: Port>(
     clean: &[Stats],
     stream: &mut Stream<'_, P::Right>,
     port: &mut P,
-) -> Result<Option<Value>, StoreFault>
+) -> Result<Option<Figure>, StoreFault>
     requires of_store { IsStreamOfStore P.Right.file (P.store port.old) stream.old }
     requires works { stream.old.fault ≡ None }
+    requires asked { All (λ stats. IsTrue (has_asked name stats)) clean.now }
     ensures folded { (pages : FilePages) → IsTrueStream P.Right.file pages stream.old
         → IfOk result (λ answer. (all : List PointModel) → AreStatsInOrder clean.now all → IsRising all
         → stream_left P.Right.file pages stream.old ≡ Some (filter (is_between clean.now) all)
@@ -104,7 +107,7 @@ fn fold_points<'a, P: Port, L: Ledger>(
     sources: Vec<StreamSource<'a, P::Right>>,
     port: &mut P,
     pages: &mut Steps<L>,
-) -> Result<Option<Value>, StoreFault>
+) -> Result<Option<Figure>, StoreFault>
     requires nodes { 2 ≤ node_count series.now }
     requires of_store { All (IsSourceOfStore P.Right.file (P.store port.old)) sources.items }
     ensures folded { (told : FilePages) → AreTrueSources P.Right.file series.now told sources.entry.items
@@ -117,14 +120,14 @@ fn fold_points<'a, P: Port, L: Ledger>(
         → AreTrueSources P.Right.file series.now told sources.entry.items
         → map (source_all P.Right.file told) sources.entry.items ≡ map Some all
         → pages.new ≤ pages.old
-        + sources_read P.Right.file told series.now range.now marks.now.marks sources.entry.items }
+        + sources_read P.Right.file told name series.now range.now marks.now.marks sources.entry.items }
     ensures reason { (told : FilePages) → AreTrueSources P.Right.file series.now told sources.entry.items
         → HasReason (AreToldSources P.Right.file told sources.entry.items)
         (P.faults port.old) (P.faults port.new) result }
     ensures later { P.faults port.old ≤ P.faults port.new }
     ensures same_store { P.store port.new ≡ P.store port.old }
 {
-    let (clean, mut stream) = open_parted(alloc, series, range, marks, sources, port)?;
+    let (clean, mut stream) = open_parted(alloc, name, series, range, marks, sources, port)?;
     let answer = fold_stream(name, &clean, &mut stream, port);
     pages.add(stream.pages_read());
     answer
@@ -138,7 +141,7 @@ pub(crate) fn read_value<F: Files, L: Ledger>(
     column: &Column<F>,
     port: &mut F::Port,
     pages: &mut Steps<L>,
-) -> Result<Option<Value>, StoreFault>
+) -> Result<Option<Figure>, StoreFault>
     requires nodes { 2 ≤ node_count column.now.schema.path }
     requires of_store { Each (IsOfStore F.Right.file (F.Port.store port.old)) column.now.sources }
     ensures read { (told : SeriesPages)

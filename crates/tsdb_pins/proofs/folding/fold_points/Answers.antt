@@ -1,5 +1,7 @@
 use Rattle.std.proofs.Common.{◌≡◌, ◌∙◌, subst, sym, arith}
+use Rattle.std.specs.Prelude.{All, IsTrue}
 use Rattle.std.proofs.lemmas.Result.{err_from_is_err_and}
+use Rattle.tsdb_aggregate.specs.Pieces.{has_asked}
 use Rattle.tsdb_streams.proofs.Reasons.{reason_then, same_reason}
 use Rattle.tsdb_streams.specs.Clean.{sources_read}
 use Rattle.tsdb_streams.specs.PartedMerge.{IsParted}
@@ -11,6 +13,10 @@ use Rattle.tsdb_pins.proofs.folding.fold_points.Goals as goal
 
 pub fold_stream-answer-requires-clause-of_store : goal.fold_stream-answer-requires-clause-of_store
 fold_stream-answer-requires-clause-of_store g c = λ lifetimes lives. c.in_ok-clean.ensures.of_store
+
+pub fold_stream-answer-requires-clause-asked : goal.fold_stream-answer-requires-clause-asked
+fold_stream-answer-requires-clause-asked g c = λ lifetimes lives.
+    subst (λ clean. All (λ stats. IsTrue (has_asked c.args.name stats)) clean) (sym c.deref.ensures.value) c.in_ok-clean.ensures.asked
 
 pub returns-clause-folded : goal.returns-clause-folded
 returns-clause-folded g c = λ told truth.
@@ -40,7 +46,7 @@ returns-clause-counted g c = added_later _ _ _ c.add.ensures
 
 pub returns-clause-most : goal.returns-clause-most
 returns-clause-most g c = λ told all truth all_is.
-    let due : stream_due c.fold_stream-answer.new.stream ≡ sources_read g.P.Right.ReadRight.file told c.args.series.now c.args.range.now c.args.marks.now.marks c.args.sources.items =
+    let due : stream_due c.fold_stream-answer.new.stream ≡ sources_read g.P.Right.ReadRight.file told c.args.name c.args.series.now c.args.range.now c.args.marks.now.marks c.args.sources.items =
     c.fold_stream-answer.ensures.due ∙ c.in_ok-clean.ensures.due told truth all all_is in
     added_most _ _ _ _ _ c.add.ensures c.pages_read.ensures due
 

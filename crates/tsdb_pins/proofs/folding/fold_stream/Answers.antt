@@ -1,6 +1,7 @@
 use Rattle.std.proofs.Common.{rules, ◌≡◌, ◌∙◌, None, Err, refl, arith}
 use Rattle.std.specs.Prelude.{filter}
 use Rattle.std.proofs.lemmas.Result.{err_from_is_err_and}
+use Rattle.tsdb_aggregate.proofs.TallyLemmas.{tally_answers}
 use Rattle.tsdb_streams.proofs.Reasons.{reason_memory, reason_ok, reason_then, same_reason}
 use Rattle.tsdb_streams.specs.PartedMerge.{is_between}
 use Rattle.tsdb_pins.proofs.Draining.{later_then}
@@ -61,8 +62,9 @@ returns-in_default-clause-folded g c = λ pages truth all taken rising left_is.
     let was = inv.4 pages truth all taken rising left_is in
     let takes = c.in_ok-point.ensures.next pages (inv.2 pages truth) in
     let none : c.in_ok-point.point ≡ None = search rules in
-    c.in_ok-answer.ensures ∙ woven_end c.args.name all c.args.clean.now c.in_ok-next.next _ _ was.left c.in_ok-point.point _ was.told takes none
-    (c.in_ok-next.ensures.added all was.left (next_is _ _ was.left c.in_ok-point.point was.told takes) was.weaves) c.in_ok-next.ensures.later
+    c.in_ok-answer.ensures
+    ∙ tally_answers c.args.name all _ _ _ (woven_end c.args.name all c.args.clean.now c.in_ok-next.next _ _ was.left c.in_ok-point.point _ was.told takes none
+    (c.in_ok-next.ensures.added all was.left (next_is _ _ was.left c.in_ok-point.point was.told takes) was.weaves) c.in_ok-next.ensures.later)
 
 pub returns-in_default-clause-reason : goal.returns-in_default-clause-reason
 returns-in_default-clause-reason g c = λ pages truth. reason_ok _ _ _ _ (later_then _ _ _ c.loop.invariant.5 c.in_ok-point.ensures.later)

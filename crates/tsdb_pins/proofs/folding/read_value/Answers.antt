@@ -1,4 +1,4 @@
-use Rattle.std.proofs.Common.{rules, subst, arith}
+use Rattle.std.proofs.Common.{rules, ◌∙◌, ap, sym, subst, arith}
 use Rattle.std.specs.List.{AllZip}
 use Rattle.std.proofs.lemmas.List.Elements.{All-from_recursion}
 use Rattle.tsdb_base.specs.Points.{IsRising}
@@ -8,6 +8,7 @@ use Rattle.tsdb_pins.proofs.Counted.{lent_read, most_then, told_lists}
 use Rattle.tsdb_pins.proofs.Draining.{ok_then}
 use Rattle.tsdb_pins.proofs.Tallied.{value_none, value_of}
 use Rattle.tsdb_pins.proofs.Lent.{all_left, all_told, of_store_lent, told_lent, true_lent}
+use Rattle.tsdb_pins.specs.Clean.{read_for}
 use Rattle.tsdb_pins.specs.Reading.{IsLentAs}
 use Rattle.tsdb_pins.proofs.folding.read_value.Goals as goal
 
@@ -54,7 +55,8 @@ returns-clause-most g c = λ told truth tells.
     let sources = c.args.column.now.sources in
     let zip = subst (λ l. AllZip IsLentAs l c.in_ok-sources.sources.items) c.items.ensures c.in_ok-sources.ensures in
     let lists = told_lists file told path sources tells in
-    most_then _ _ _ _ (lent_read file told path c.args.pin.now.range c.args.pin.now.marks.marks sources c.in_ok-sources.sources.items zip)
+    most_then _ _ _ _ (lent_read file told path c.in-Some.name c.args.pin.now.range c.args.pin.now.marks.marks sources c.in_ok-sources.sources.items zip
+    ∙ ap (λ a. read_for file told a c.args.pin.now.range c.args.pin.now.marks.marks c.args.column.now) (sym c.in-Some.is))
     (c.fold_points.ensures.most (told path) lists.0 (true_lent file told path sources c.in_ok-sources.sources.items zip truth) (all_told file told path sources c.in_ok-sources.sources.items lists.0 zip lists.1))
 
 pub returns-in_err-sources-clause-most : goal.returns-in_err-sources-clause-most
