@@ -22,13 +22,13 @@ ghost use Rattle.tsdb_state.specs.Steps.{PinStandsFor};
 use std::alloc::Global;
 use std::marker::Brand;
 use std::sync::ledger::{Blank, Ledger};
-use tsdb_base::{Answer, List, Steps, Value};
+use tsdb_base::{Answer, Figure, List, Steps};
 use tsdb_model::{Item, Reply, ask_aggregates};
 use tsdb_outside::{Files, StoreFault};
 use tsdb_pin::Pin;
 
 /// Reads what a pin has of these items: a line for each time at which one has a value, or, where aggregates are asked for,
-/// a value or none for each item. Answers `Device` where a file could not be read, and `Memory`.
+/// a figure or none for each item. Answers `Device` where a file could not be read, and `Memory`.
 pub fn read_pin<F: Files>(alloc: Global, pin: &Pin<F>, port: &mut F::Port, items: &[Item]) -> Reply
     requires nodes { HaveNodes pin.now.columns }
     requires of_store { AreColumnsOf F.Right.file (F.Port.store port.old) pin.now.columns }
@@ -95,7 +95,7 @@ fn fold_columns<F: Files, L: Ledger>(
     pin: &Pin<F>,
     port: &mut F::Port,
     blank: Blank,
-) -> Result<Vec<Option<Value>>, StoreFault>
+) -> Result<Vec<Option<Figure>>, StoreFault>
     requires name { blank.name ≡ L.name }
     requires parts { blank.parts ≡ L.parts }
     requires one { blank.parts ≡ 1 }
