@@ -156,24 +156,29 @@ fn a_change_is_cancelled_or_finished(rt: HostRuntime) -> Result<(), Fail> {
 /// The aggregates of numbers over no and three points, and one that is not in the range; and a least text.
 const AGGREGATED: &[(&str, &str)] = &[
     (CREATE_A, "Done"),
-    (VALUES, "[Some(I64(0)), None, None, None, None, None, None]"),
+    (
+        VALUES,
+        "[Some(Value(I64(0))), None, None, None, None, None, None, None]",
+    ),
     ("insert into root.d(time,a) values(2,5)", "Done"),
     ("insert into root.d(time,a) values(-7,9)", "Done"),
     ("insert into root.d(time,a) values(3,4)", "Done"),
     ("insert into root.d(time,a) values(10,99)", "Done"),
     (
         VALUES,
-        "[Some(I64(3)), Some(I32(9)), Some(I32(4)), Some(I32(4)), Some(I32(9)), Some(I64(-7)), Some(I64(3))]",
+        "[Some(Value(I64(3))), Some(Value(I32(9))), Some(Value(I32(4))), Some(Value(I32(4))), Some(Value(I32(9))), \
+         Some(Value(I64(-7))), Some(Value(I64(3))), Some(Sum(18))]",
     ),
     (CREATE_B, "Done"),
     (
         "select min_value(b) from root.d where time>=0 and time<=9",
         "WrongType",
     ),
+    ("select sum(b) from root.d", "WrongType"),
 ];
 
 const VALUES: &str =
-    "select count(a),first_value(a),last_value(a),min_value(a),max_value(a),min_time(a),max_time(a) \
+    "select count(a),first_value(a),last_value(a),min_value(a),max_value(a),min_time(a),max_time(a),sum(a) \
     from root.d where time>=-9 and time<=9";
 
 #[test]

@@ -1,6 +1,6 @@
 //! Tests of tsdb_fields. Depends on `samples`.
 
-use super::samples::{five, push, text};
+use super::samples::{five, old_five, push, text};
 use std::alloc::Global;
 use tsdb_base::{DataType, Encoding, PlainValue, Stats, Value};
 use tsdb_fields::{
@@ -23,6 +23,8 @@ enum Field {
     Value(i32),
     /// The statistics of the one point 1, 5 of INT64.
     Five,
+    /// The same without their sum.
+    OldFive,
     /// The statistics of two texts.
     Texts,
 }
@@ -39,6 +41,7 @@ fn texts(alloc: Global) -> Option<Stats> {
         last,
         least: None,
         greatest: None,
+        sum: None,
     })
 }
 
@@ -101,6 +104,7 @@ impl Field {
             Field::Numbers(wide, narrow) => (wide, narrow).put(into).is_ok(),
             Field::Value(number) => write_value(&Value::I32(number), into).is_ok(),
             Field::Five => put_stats(alloc, Some(five()), into),
+            Field::OldFive => put_stats(alloc, Some(old_five()), into),
             Field::Texts => put_stats(alloc, texts(alloc), into),
         }
     }
@@ -125,8 +129,12 @@ impl Field {
                     Some(Value::I32(number)),
                 )
             }
-            Field::Five => behind(read_stats(alloc, DataType::Int64, rest), Some(five())),
-            Field::Texts => behind(read_stats(alloc, DataType::Text, rest), texts(alloc)),
+            Field::Five => behind(read_stats(alloc, DataType::Int64, true, rest), Some(five())),
+            Field::OldFive => behind(
+                read_stats(alloc, DataType::Int64, false, rest),
+                Some(old_five()),
+            ),
+            Field::Texts => behind(read_stats(alloc, DataType::Text, true, rest), texts(alloc)),
         }
     }
 }
@@ -162,10 +170,11 @@ fn fields_one_behind_another(rt: HostRuntime) {
     assert!(rt; are_written(alloc, &FIELDS, &BYTES) && are_read(alloc, &FIELDS, &BYTES));
 }
 
-/// The bytes of the statistics of the one point 1, 5: the number, both times, and four times the value.
-const NUMBERS: [u8; 56] = [
+/// The bytes of the statistics of the one point 1, 5: the number, both times, four times the value, and the sum.
+const NUMBERS: [u8; 72] = [
     0, 0, 0, 0, 0, 0, 0, 1, 0, 0, 0, 0, 0, 0, 0, 1, 0, 0, 0, 0, 0, 0, 0, 1, 0, 0, 0, 0, 0, 0, 0, 5,
-    0, 0, 0, 0, 0, 0, 0, 5, 0, 0, 0, 0, 0, 0, 0, 5, 0, 0, 0, 0, 0, 0, 0, 5,
+    0, 0, 0, 0, 0, 0, 0, 5, 0, 0, 0, 0, 0, 0, 0, 5, 0, 0, 0, 0, 0, 0, 0, 5, 0, 0, 0, 0, 0, 0, 0, 0,
+    0, 0, 0, 0, 0, 0, 0, 5,
 ];
 
 /// The bytes of the statistics of texts.
@@ -179,6 +188,8 @@ fn statistics_of_numbers(rt: HostRuntime) {
     let alloc = rt.alloc();
     let five = [Field::Five];
     assert!(rt; are_written(alloc, &five, &NUMBERS) && are_read(alloc, &five, &NUMBERS));
+    let (old, old_bytes) = ([Field::OldFive], NUMBERS.split_at(56).0);
+    assert!(rt; are_written(alloc, &old, old_bytes) && are_read(alloc, &old, old_bytes));
 }
 
 #[test]

@@ -4,6 +4,7 @@ use super::samples::{Row, WORKED, expect_none, first_wrong, five, is_same, push}
 use std::alloc::Global;
 use std::test::Fail;
 use tsdb_base::{DataType, Encoding, List};
+use tsdb_index::marks::VERSION;
 use tsdb_index::{
     Index, IndexEntry, IndexFault, PageEntry, read_index, write_index, write_leaves_and_root,
 };
@@ -99,13 +100,13 @@ fn read(alloc: Global, bytes: &[u8], place: u64, root: u64) -> Result<Index, Ind
     if place > 10_000 || root < place || root - place > bytes.len() as u64 {
         return Err(IndexFault::Memory);
     }
-    read_index(alloc, bytes, place, root)
+    read_index(alloc, bytes, place, root, VERSION)
 }
 
 /// What is asked of an index.
 #[derive(Clone, Copy)]
 enum Asked {
-    /// It is written as that of the worked file, with the root at 194.
+    /// It is written as that of the worked file, with the root at 226.
     IsWorked,
     /// Its last byte would stand at 2^64, so it is out of memory.
     IsTooFar,
@@ -113,10 +114,10 @@ enum Asked {
     HasLeaves(u16, u8),
 }
 
-/// Whether these are the bytes of so many entries in so many leaves: a leaf takes 3 bytes and 151 for each entry, the
+/// Whether these are the bytes of so many entries in so many leaves: a leaf takes 3 bytes and 183 for each entry, the
 /// root 5 bytes and 25 for each leaf.
 fn have_leaves(bytes: &[u8], root: u64, count: u16, leaves: u8) -> bool {
-    let size = 3 * u64::from(leaves) + 151 * u64::from(count);
+    let size = 3 * u64::from(leaves) + 183 * u64::from(count);
     let at = size as usize;
     let root_start: [u8; 5] = [0x52, 0, 0, 0, leaves];
     root == 1000 + size
@@ -133,7 +134,7 @@ fn are_right(
     asked: Asked,
 ) -> bool {
     match asked {
-        Asked::IsWorked => bytes == &WORKED[44..220] && root == 194,
+        Asked::IsWorked => bytes == &WORKED[44..252] && root == 226,
         Asked::IsTooFar => false,
         Asked::HasLeaves(count, leaves) => {
             have_leaves(bytes, root, count, leaves)

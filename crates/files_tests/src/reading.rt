@@ -1,19 +1,56 @@
 //! Tests of tsfile_reader on the worked file: whole, cut, with inverted bytes, and through ports that fail.
 
 use super::reader::{Call, NO_CALL, fault_of, is_worked_point, meta_of, page_of};
-use super::samples::{WORKED, expect_none, worked_but};
+use super::samples::{OLD_WORKED, WORKED, expect_none, old_worked_but, worked_but};
 use std::alloc::Global;
 use std::test::Fail;
+use tsdb_index::marks::{OLD_VERSION, VERSION};
 use tsfile_reader::ReadFault;
 
+/// The worked file in a version, where its parts stand that differ, and what its statistics have.
+#[derive(Clone, Copy)]
+struct Worked {
+    bytes: &'static [u8],
+    version: u8,
+    /// The place behind the statistics of the chunk, of the root and of the tail.
+    behind_stats: usize,
+    root: usize,
+    tail: usize,
+    sum: Option<i128>,
+}
+
+fn newer() -> Worked {
+    Worked {
+        bytes: &WORKED,
+        version: VERSION,
+        behind_stats: 142,
+        root: 226,
+        tail: 252,
+        sum: Some(5),
+    }
+}
+
+fn older() -> Worked {
+    Worked {
+        bytes: &OLD_WORKED,
+        version: OLD_VERSION,
+        behind_stats: 126,
+        root: 194,
+        tail: 220,
+        sum: None,
+    }
+}
+
 /// Whether the index of the worked file is read, and the point of its page.
-fn is_worked_read(alloc: Global) -> bool {
-    match meta_of(alloc, &WORKED, Call::Meta, NO_CALL) {
+fn is_worked_read(alloc: Global, worked: Worked) -> bool {
+    match meta_of(alloc, worked.bytes, Call::Meta, NO_CALL) {
         Ok(meta) => match meta.index.entries.items() {
             [entry] => {
-                meta.size == 234
+                meta.size == worked.bytes.len() as u64
+                    && meta.version == worked.version
                     && entry.place == 18
-                    && is_worked_point(page_of(alloc, &WORKED, entry, 0, NO_CALL))
+                    && entry.stats.sum == worked.sum
+                    && is_worked_point(page_of(alloc, worked.bytes, entry, 0, NO_CALL))
             }
             _ => false,
         },
@@ -23,8 +60,16 @@ fn is_worked_read(alloc: Global) -> bool {
 
 #[test]
 fn worked_file(rt: HostRuntime) {
-    assert!(rt; is_worked_read(rt.alloc()));
-    assert!(rt; fault_of(rt.alloc(), &WORKED, Call::Check).is_none());
+    let alloc = rt.alloc();
+    assert!(rt; is_worked_read(alloc, newer()));
+    assert!(rt; fault_of(alloc, &WORKED, Call::Check).is_none());
+}
+
+#[test]
+fn old_worked_file(rt: HostRuntime) {
+    let alloc = rt.alloc();
+    assert!(rt; is_worked_read(alloc, older()));
+    assert!(rt; fault_of(alloc, &OLD_WORKED, Call::Check).is_none());
 }
 
 /// Whether these are the faults of the check of these bytes and of reading their index.
@@ -37,17 +82,39 @@ fn has_faults(
     fault_of(alloc, bytes, Call::Check) == check && fault_of(alloc, bytes, Call::Meta) == index
 }
 
+/// With the version byte of the other version the leaf is not as defined: its statistics have a sum too many, or none.
+#[test]
+fn version_of_the_other_file(rt: HostRuntime) {
+    let alloc = rt.alloc();
+    let damage = Some(ReadFault::Damaged { at: 44 });
+    let (mut new, mut old) = (WORKED, OLD_WORKED);
+    new[6] = OLD_VERSION;
+    old[6] = VERSION;
+    assert!(rt; has_faults(alloc, &new, damage, damage));
+    assert!(rt; has_faults(alloc, &old, damage, damage));
+}
+
 /// Whether damage is found as it has to be in the worked file that is cut to this size: it has no tail at its end, or
 /// no room for one.
-fn is_cut_found(alloc: Global, size: usize) -> bool {
-    let bytes = WORKED.get(..size).unwrap_or(&[]);
+fn is_cut_found(alloc: Global, worked: Worked, size: usize) -> bool {
+    let bytes = worked.bytes.get(..size).unwrap_or(&[]);
     let at = if size < 21 { 0 } else { (size - 14) as u64 };
     let damage = Some(ReadFault::Damaged { at });
     has_faults(alloc, bytes, damage, damage)
 }
 
 /// The place of the part that is blamed where this byte of the worked file is inverted.
-fn blamed_place(place: usize) -> u64 {
+fn blamed_place(worked: Worked, place: usize) -> u64 {
+    // the root's place is inverted in its last byte, and beyond the file in the others
+    if place == worked.tail.saturating_add(7) {
+        return (worked.root as u64) ^ 0xff;
+    }
+    if place >= worked.tail {
+        return worked.tail as u64;
+    }
+    if place >= worked.root {
+        return worked.root as u64;
+    }
     match place {
         // the head, the group, the chunk, and the page up to its value
         0..7 => 0,
@@ -55,25 +122,29 @@ fn blamed_place(place: usize) -> u64 {
         18..24 => 18,
         24..36 => 24,
         // a page of another value is good by itself, but not what the leaf says
-        36..44 => 44,
-        44..194 => 44,
-        194..220 => 194,
-        // the root's place is 3d for c2 in its last byte, and beyond the file in the others
-        227 => 0x3d,
-        _ => 220,
+        _ => 44,
     }
 }
 
-/// Whether this byte, inverted, is blamed as it has to be. Places and statistics in the leaf may have any bits, and for
-/// the index what stands before the leaf is not looked at.
-fn is_inverted_found(alloc: Global, place: usize) -> bool {
-    let at = blamed_place(place);
+/// Whether the index does not show that this byte is inverted: places and statistics in the leaf may have any bits, and
+/// what stands before the leaf is not looked at.
+fn is_free(worked: Worked, place: usize) -> bool {
+    let (stats, pages) = (worked.behind_stats, worked.behind_stats.saturating_add(4));
+    (7..44).contains(&place)
+        || (62..stats).contains(&place)
+        || (pages..worked.root).contains(&place)
+}
+
+/// Whether this byte, inverted, is blamed as it has to be.
+fn is_inverted_found(alloc: Global, worked: Worked, place: usize) -> bool {
+    let at = blamed_place(worked, place);
     let damage = Some(ReadFault::Damaged { at });
-    let of_index = match place {
-        7..44 | 62..126 | 130..194 => None,
-        _ => damage,
-    };
-    has_faults(alloc, &worked_but(place), damage, of_index)
+    let of_index = if is_free(worked, place) { None } else { damage };
+    if worked.version == VERSION {
+        has_faults(alloc, &worked_but(place), damage, of_index)
+    } else {
+        has_faults(alloc, &old_worked_but(place), damage, of_index)
+    }
 }
 
 /// The fault of reading the page of the worked file's entry of these bytes, through a port of which this call fails.
@@ -108,9 +179,9 @@ fn is_fault_of_call(fault: Option<ReadFault>, number: u64, last: u64) -> bool {
 #[derive(Clone, Copy)]
 enum Trial {
     /// It is cut to this size.
-    Cut,
+    Cut(Worked),
     /// This byte is inverted.
-    Inverted,
+    Inverted(Worked),
     /// This call of the port fails: the index, the whole file or the page is read.
     IndexFails,
     CheckFails,
@@ -121,8 +192,8 @@ enum Trial {
 fn is_right(alloc: Global, trial: Trial, number: usize) -> bool {
     let call = number as u64;
     match trial {
-        Trial::Cut => is_cut_found(alloc, number),
-        Trial::Inverted => is_inverted_found(alloc, number),
+        Trial::Cut(worked) => is_cut_found(alloc, worked, number),
+        Trial::Inverted(worked) => is_inverted_found(alloc, worked, number),
         Trial::IndexFails => {
             let fault = meta_of(alloc, &WORKED, Call::Meta, call).err();
             is_fault_of_call(fault, call, CALLS_OF_INDEX)
@@ -147,12 +218,22 @@ fn first_wrong(alloc: Global, trial: Trial, first: usize, end: usize) -> Option<
 
 #[test]
 fn cut_files(rt: HostRuntime) -> Result<(), Fail> {
-    expect_none(first_wrong(rt.alloc(), Trial::Cut, 0, 234))
+    expect_none(first_wrong(rt.alloc(), Trial::Cut(newer()), 0, 266))
+}
+
+#[test]
+fn cut_old_files(rt: HostRuntime) -> Result<(), Fail> {
+    expect_none(first_wrong(rt.alloc(), Trial::Cut(older()), 0, 234))
 }
 
 #[test]
 fn inverted_bytes(rt: HostRuntime) -> Result<(), Fail> {
-    expect_none(first_wrong(rt.alloc(), Trial::Inverted, 0, 234))
+    expect_none(first_wrong(rt.alloc(), Trial::Inverted(newer()), 0, 266))
+}
+
+#[test]
+fn inverted_bytes_of_old_files(rt: HostRuntime) -> Result<(), Fail> {
+    expect_none(first_wrong(rt.alloc(), Trial::Inverted(older()), 0, 234))
 }
 
 #[test]

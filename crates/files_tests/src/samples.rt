@@ -1,5 +1,5 @@
-//! What several tests share: tables of rows that are right or wrong, the worked file, points, and trees that are made
-//! of tables. Depends on tsdb_pages, tsdb_path and tsdb_base.
+//! What several tests share: tables of rows that are right or wrong, the worked file in both versions, points, and trees
+//! that are made of tables. Depends on tsdb_pages, tsdb_path and tsdb_base.
 
 use std::alloc::Global;
 use std::test::Fail;
@@ -8,8 +8,26 @@ use tsdb_pages::{Chunk, Group, Page, Tree};
 use tsdb_path::{Name, Path};
 
 /// The file of the device `root.g.d` with the INT64 PLAIN measurement `s` and the one point 1, 5. The group stands at
-/// 7, the chunk at 18, its page at 24, the leaf at 44, the root at 194 and the tail at 220.
-pub static WORKED: [u8; 234] = *b"TsFile\x51\
+/// 7, the chunk at 18, its page at 24, the leaf at 44, the statistics at 70 and 154, the root at 226 and the tail at 252.
+pub static WORKED: [u8; 266] = *b"TsFile\x52\
+\x47\x00\x08root.g.d\
+\x43\x00\x01s\x02\x00\
+\x50\x00\x00\x00\x0f\x00\x00\x00\x02\x01\x02\x01\x00\x00\x00\x00\x00\x00\x00\x05\
+\x49\x00\x01\x00\x08root.g.d\x00\x01s\x02\x00\x00\x00\x00\x00\x00\x00\x00\x12\
+\x00\x00\x00\x00\x00\x00\x00\x01\x00\x00\x00\x00\x00\x00\x00\x01\x00\x00\x00\x00\x00\x00\x00\x01\
+\x00\x00\x00\x00\x00\x00\x00\x05\x00\x00\x00\x00\x00\x00\x00\x05\
+\x00\x00\x00\x00\x00\x00\x00\x05\x00\x00\x00\x00\x00\x00\x00\x05\
+\x00\x00\x00\x00\x00\x00\x00\x00\x00\x00\x00\x00\x00\x00\x00\x05\
+\x00\x00\x00\x01\x00\x00\x00\x00\x00\x00\x00\x18\
+\x00\x00\x00\x00\x00\x00\x00\x01\x00\x00\x00\x00\x00\x00\x00\x01\x00\x00\x00\x00\x00\x00\x00\x01\
+\x00\x00\x00\x00\x00\x00\x00\x05\x00\x00\x00\x00\x00\x00\x00\x05\
+\x00\x00\x00\x00\x00\x00\x00\x05\x00\x00\x00\x00\x00\x00\x00\x05\
+\x00\x00\x00\x00\x00\x00\x00\x00\x00\x00\x00\x00\x00\x00\x00\x05\
+\x52\x00\x00\x00\x01\x00\x08root.g.d\x00\x01s\x00\x00\x00\x00\x00\x00\x00\x2c\
+\x00\x00\x00\x00\x00\x00\x00\xe2TsFile";
+
+/// The same file in the version whose statistics have no sum, with the root at 194 and the tail at 220.
+pub static OLD_WORKED: [u8; 234] = *b"TsFile\x51\
 \x47\x00\x08root.g.d\
 \x43\x00\x01s\x02\x00\
 \x50\x00\x00\x00\x0f\x00\x00\x00\x02\x01\x02\x01\x00\x00\x00\x00\x00\x00\x00\x05\
@@ -25,8 +43,17 @@ pub static WORKED: [u8; 234] = *b"TsFile\x51\
 \x00\x00\x00\x00\x00\x00\x00\xc2TsFile";
 
 /// The worked file with this byte inverted.
-pub fn worked_but(place: usize) -> [u8; 234] {
+pub fn worked_but(place: usize) -> [u8; 266] {
     let mut bytes = WORKED;
+    if let Some(byte) = bytes.get_mut(place) {
+        *byte ^= 0xff;
+    }
+    bytes
+}
+
+/// The same in the older version.
+pub fn old_worked_but(place: usize) -> [u8; 234] {
+    let mut bytes = OLD_WORKED;
     if let Some(byte) = bytes.get_mut(place) {
         *byte ^= 0xff;
     }
@@ -43,6 +70,15 @@ pub fn five() -> Stats {
         last: Value::I64(5),
         least: Some(Value::I64(5)),
         greatest: Some(Value::I64(5)),
+        sum: Some(5),
+    }
+}
+
+/// The same without their sum.
+pub fn old_five() -> Stats {
+    Stats {
+        sum: None,
+        ..five()
     }
 }
 

@@ -13,7 +13,7 @@ use std::marker::Brand;
 use std::mem::replace;
 use std::sync::ledger::{Blank, Ledger};
 use std::test::Fail;
-use tsdb_base::{FileNumber, List, Range, Stamp, Steps, Time, Value};
+use tsdb_base::{Figure, FileNumber, List, Range, Stamp, Steps, Time, Value};
 use tsdb_marks::Marks;
 use tsdb_model::Line;
 use tsdb_outside::{Files, Port, StoreFault};
@@ -25,6 +25,8 @@ use tsdb_pins::{aggregates, open_column, select};
 pub enum Answer {
     /// The value of the aggregate.
     Value(i64),
+    /// The sum.
+    Sum(i128),
     /// How many rows there are, and the first one.
     Rows(usize, Time, i64),
     /// No value, or no row.
@@ -33,9 +35,10 @@ pub enum Answer {
     Fault(StoreFault),
 }
 
-fn value_in(values: &[Option<Value>]) -> Answer {
+fn value_in(values: &[Option<Figure>]) -> Answer {
     match values {
-        [Some(Value::I64(value))] => Answer::Value(*value),
+        [Some(Figure::Value(Value::I64(value)))] => Answer::Value(*value),
+        [Some(Figure::Sum(sum))] => Answer::Sum(*sum),
         _ => Answer::Nothing,
     }
 }

@@ -9,7 +9,7 @@ use std::marker::Brand;
 use std::sync::ledger::{Blank, Ledger};
 use std::test::Fail;
 use tsdb_aggregate::{Loader, Piece, aggregate};
-use tsdb_base::{Aggregate, Memory, Point, Range, Steps, Value};
+use tsdb_base::{Aggregate, Figure, Memory, Point, Range, Steps, Value};
 use tsdb_merge::PullFault;
 use tsdb_stats::stats_of;
 
@@ -113,7 +113,7 @@ impl<K: Ledger> Loader for Pages<'_, K> {
 /// An answer, and how often a page was loaded for it.
 #[derive(Drop)]
 struct Answered {
-    answer: Result<Option<Value>, PullFault>,
+    answer: Result<Option<Figure>, PullFault>,
     calls: u64,
 }
 
@@ -272,7 +272,10 @@ const CASES: &[Case] = &[
     (TWO, Aggregate::Count, 1, 2000, Ok(Some(2000)), 0),
     (TWO, Aggregate::Count, 1, 1999, Ok(Some(1999)), 1),
     (TWO, Aggregate::MaxTime, 1, 1999, Ok(Some(1999)), 1),
+    (TWO, Aggregate::Sum, 1, 2000, Ok(Some(15_000)), 0),
     (POINT, Aggregate::Count, 1, 2000, Ok(Some(2000)), 2),
+    // The late 12 stands for the first 7.
+    (POINT, Aggregate::Sum, 1, 2000, Ok(Some(15_005)), 2),
     (POINT, Aggregate::FirstValue, 1, 2000, Ok(Some(12)), 2),
     (POINT, Aggregate::Count, 5, 4, Ok(Some(0)), 0),
     // The first value needs one page of each source.
@@ -298,7 +301,8 @@ fn fault_of(case: &Case) -> Fault {
 
 fn is_wanted(found: &Answered, case: &Case) -> bool {
     let same = match (&found.answer, case.4) {
-        (Ok(Some(Value::I64(found))), Ok(Some(wanted))) => *found == wanted,
+        (Ok(Some(Figure::Value(Value::I64(found)))), Ok(Some(wanted))) => *found == wanted,
+        (Ok(Some(Figure::Sum(found))), Ok(Some(wanted))) => *found == i128::from(wanted),
         (Ok(None), Ok(None)) => true,
         (Err(found), Err(wanted)) => *found == wanted,
         _ => false,

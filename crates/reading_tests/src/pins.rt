@@ -13,8 +13,8 @@ type Case = (Query, Answer, u64);
 /// The names of the series in the index: `root.g.d` and `s`, each behind its length in two bytes.
 const NAMES: u64 = 2 + 8 + 2 + 1;
 
-/// Statistics of INT64: the count, the first and the last time, and four values.
-const STATISTICS: u64 = 7 * 8;
+/// Statistics of INT64: the count, the first and the last time, four values, and the sum.
+const STATISTICS: u64 = 7 * 8 + 16;
 
 /// The root with its one pointer, and the tail behind it.
 const ROOT: u64 = 1 + 4 + NAMES + 8;
@@ -67,6 +67,18 @@ const LEAST: Query = Query {
     ..OF_PART
 };
 
+/// The sum of the times 1 to 2,000, which are the values.
+const SUM: Query = Query {
+    aggregate: Some(Aggregate::Sum),
+    ..COUNT
+};
+
+/// The sum then.
+const SUM_OF_PART: Query = Query {
+    aggregate: Some(Aggregate::Sum),
+    ..OF_PART
+};
+
 /// The second page does not lie in the range.
 const WITHOUT_LAST: Query = Query {
     times: (1, 1_999),
@@ -85,6 +97,8 @@ const CASES: &[Case] = &[
     // The part in memory meets the first page alone.
     (OF_PART, Answer::Value(2_000), INDEX + FIRST),
     (LEAST, Answer::Value(-7), INDEX + FIRST),
+    (SUM, Answer::Sum(2_001_000), INDEX),
+    (SUM_OF_PART, Answer::Sum(2_000_992), INDEX + FIRST),
     // The mark meets the second page alone.
     (DELETED, Answer::Value(1_999), INDEX + SECOND),
 ];

@@ -2,7 +2,9 @@
 //! tsdb_model, tsdb_path and tsdb_base.
 
 use std::alloc::Global;
-use tsdb_base::{Aggregate, Answer, FileNumber, List, Memory, Range, Space, Stamp, Text, Value};
+use tsdb_base::{
+    Aggregate, Answer, Figure, FileNumber, List, Memory, Range, Space, Stamp, Text, Value,
+};
 use tsdb_model::{Command, FileLine, Item, Line, Listing, Reply};
 use tsdb_path::{Name, Path};
 use tsdb_print::{print_order, print_reply, print_session};
@@ -73,7 +75,7 @@ fn select_prints(alloc: Global, columns: &[Column], reply: &Reply, text: &[u8]) 
     }
 }
 
-/// A value of a table.
+/// A value of a table, or a sum.
 #[derive(Clone, Copy)]
 enum Cell {
     Null,
@@ -81,11 +83,12 @@ enum Cell {
     I32(i32),
     I64(i64),
     Text(&'static [u8]),
+    Sum(i128),
 }
 
 fn value_of(alloc: Global, cell: Cell) -> Option<Value> {
     match cell {
-        Cell::Null => None,
+        Cell::Null | Cell::Sum(_) => None,
         Cell::Bool(truth) => Some(Value::Bool(truth)),
         Cell::I32(number) => Some(Value::I32(number)),
         Cell::I64(number) => Some(Value::I64(number)),
@@ -102,6 +105,24 @@ fn values_of(alloc: Global, cells: &[Cell]) -> List<Option<Value>> {
         let _ = values.push(value_of(alloc, *cell));
     }
     List::of(values)
+}
+
+fn figure_of(alloc: Global, cell: Cell) -> Option<Figure> {
+    match cell {
+        Cell::Sum(sum) => Some(Figure::Sum(sum)),
+        _ => match value_of(alloc, cell) {
+            Some(value) => Some(Figure::Value(value)),
+            None => None,
+        },
+    }
+}
+
+fn figures_of(alloc: Global, cells: &[Cell]) -> List<Option<Figure>> {
+    let mut figures = Vec::new(alloc);
+    for cell in cells {
+        let _ = figures.push(figure_of(alloc, *cell));
+    }
+    List::of(figures)
 }
 
 type Row = (i64, [Cell; 2]);
@@ -147,7 +168,7 @@ fn no_rows(rt: HostRuntime) {
     assert!(rt; rows_print(rt.alloc(), &[], b"time,t,s\nrows 0\n"));
 }
 
-const AGGREGATES: [Column; 7] = [
+const AGGREGATES: [Column; 8] = [
     ("s", Some(Aggregate::Count)),
     ("s", Some(Aggregate::MaxValue)),
     ("s", Some(Aggregate::MinTime)),
@@ -155,9 +176,10 @@ const AGGREGATES: [Column; 7] = [
     ("a", Some(Aggregate::LastValue)),
     ("a", Some(Aggregate::MinValue)),
     ("a", Some(Aggregate::MaxTime)),
+    ("s", Some(Aggregate::Sum)),
 ];
 
-const VALUES: [Cell; 7] = [
+const VALUES: [Cell; 8] = [
     Cell::I64(0),
     Cell::Null,
     Cell::Null,
@@ -165,10 +187,11 @@ const VALUES: [Cell; 7] = [
     Cell::Text(b"x"),
     Cell::I32(-1),
     Cell::I64(8),
+    Cell::Sum(18_446_744_073_709_551_614),
 ];
 
 fn values_print(alloc: Global, columns: &[Column], cells: &[Cell], text: &[u8]) -> bool {
-    let reply = Reply::Values(values_of(alloc, cells));
+    let reply = Reply::Values(figures_of(alloc, cells));
     select_prints(alloc, columns, &reply, text)
 }
 
@@ -176,10 +199,27 @@ fn values_print(alloc: Global, columns: &[Column], cells: &[Cell], text: &[u8]) 
 #[test]
 fn aggregates(rt: HostRuntime) {
     let text =
-        b"count(s),max_value(s),min_time(s),first_value(b),last_value(a),min_value(a),max_time(a)
-0,null,null,true,'x',-1,8
+        b"count(s),max_value(s),min_time(s),first_value(b),last_value(a),min_value(a),max_time(a),sum(s)
+0,null,null,true,'x',-1,8,18446744073709551614
 ";
     assert!(rt; values_print(rt.alloc(), &AGGREGATES, &VALUES, text));
+}
+
+/// Sums at both ends of 128 bits, of one digit, and none.
+#[test]
+fn sums(rt: HostRuntime) {
+    let columns = [("s", Some(Aggregate::Sum)); 5];
+    let cells = [
+        Cell::Sum(i128::MIN),
+        Cell::Sum(i128::MAX),
+        Cell::Sum(0),
+        Cell::Sum(-9),
+        Cell::Null,
+    ];
+    let text = b"sum(s),sum(s),sum(s),sum(s),sum(s)
+-170141183460469231731687303715884105728,170141183460469231731687303715884105727,0,-9,null
+";
+    assert!(rt; values_print(rt.alloc(), &columns, &cells, text));
 }
 
 /// Files: the space, the number, the stamp, the least and the greatest time, each with one point.

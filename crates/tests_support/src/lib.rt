@@ -41,7 +41,8 @@ pub fn command_of(alloc: Global, line: &str) -> Result<Command, Fail>
     }
 }
 
-/// A reply in words: an answer by its name, rows as `1 [Some(I32(8))];2 [None];`, and aggregates as `[Some(I64(3))]`.
+/// A reply in words: an answer by its name, rows as `1 [Some(I32(8))];2 [None];`, and aggregates as
+/// `[Some(Value(I64(3))), Some(Sum(7))]`.
 pub fn words_of(alloc: Global, reply: &Reply) -> Result<String, Fail> {
     match reply {
         Reply::Plain(answer) => Ok(format!(in alloc; "{answer:?}")?),

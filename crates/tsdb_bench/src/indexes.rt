@@ -4,6 +4,7 @@ use crate::bench::{Bench, Unit};
 use crate::fault::Fault;
 use crate::names;
 use tsdb_base::{DataType, Encoding, List, Stats, Value};
+use tsdb_index::marks::VERSION;
 use tsdb_index::{Index, IndexEntry, PageEntry, read_index, write_leaves_and_root};
 
 /// The place of the first leaf.
@@ -23,6 +24,7 @@ fn stats(number: u64) -> Stats {
         last: Value::I64(value),
         least: Some(Value::I64(value)),
         greatest: Some(Value::I64(value)),
+        sum: Some(i128::from(value)),
     }
 }
 
@@ -83,7 +85,7 @@ fn read(bench: &mut Bench, bytes: &[u8], root: u64, chunks: u64) {
     }
     let alloc = bench.alloc();
     bench.start();
-    if let Some(index) = bench.ok(read_index(alloc, bytes, PLACE, root)) {
+    if let Some(index) = bench.ok(read_index(alloc, bytes, PLACE, root, VERSION)) {
         bench.row(NAME, "read", chunks, Unit::Millions);
         bench.require(index.entries.items().len() as u64 == chunks);
     }

@@ -8,7 +8,7 @@ use std::alloc::Global;
 const SMALL: &[&str] = &["run", "--pair", "4", "--workers", "0", "d"];
 
 /// Runs, each on a new store.
-static ROWS: [Run; 13] = [
+static ROWS: [Run; 15] = [
     // A point at the last flushed time goes to the unsequence part, and wins.
     Run::Replies(
         "C; I 1 5; flush; I 1 6; S; show files",
@@ -52,6 +52,19 @@ static ROWS: [Run; 13] = [
          select count(s) from root.g.d where time<2",
         "ok / ok / ok / ok / ok / count(s),min_value(s),last_value(s) / 2,-7,7 / count(s) / 1",
     ),
+    // A sum of 64-bit numbers has 128 bits; it is none over no points.
+    Run::Replies(
+        "C; I 1 9223372036854775807; I 2 9223372036854775807; flush; select sum(s) from root.g.d; \
+         select sum(s),count(s) from root.g.d where time>2",
+        "ok / ok / ok / ok / sum(s) / 18446744073709551614 / sum(s),count(s) / null,0",
+    ),
+    // The sum over a late point that meets statistics, over both spaces, and behind each compaction.
+    Run::Replies(
+        "C; I 1 5; I 2 -9223372036854775808; flush; I 1 7; I 3 4; flush; select sum(s) from root.g.d; \
+         compact inner sequence; select sum(s) from root.g.d; compact cross; select SUM(s) from root.g.d",
+        "ok / ok / ok / ok / ok / ok / ok / sum(s) / -9223372036854775797 / ok / sum(s) / -9223372036854775797 / \
+         ok / sum(s) / -9223372036854775797",
+    ),
     // A cross compaction of a late file that meets no sequence file: its output stands between two files.
     Run::Replies(
         "C; create timeseries root.g.e.s with datatype=INT64,encoding=PLAIN; I 10 1; \
@@ -87,13 +100,13 @@ static ROWS: [Run; 13] = [
          count(b),first_value(b),last_value(t),min_time(t),max_time(i),min_value(i),max_value(i) / \
          3,false,'a',-2,7,-2147483648,2147483647",
     ),
-    // A least value of texts is refused, and so is a number that does not fit its series.
+    // A least value and a sum of texts are refused, and so is a number that does not fit its series.
     Run::Replies(
         "create timeseries root.g.d.t with datatype=TEXT,encoding=DICTIONARY; \
          create timeseries root.g.d.i with datatype=INT32,encoding=RLE; \
-         select min_value(t) from root.g.d; insert into root.g.d(timestamp,i) values(1,2147483648); \
-         select i from root.g.d",
-        "ok / ok / type / type / time,i / rows 0",
+         select min_value(t) from root.g.d; select sum(t) from root.g.d; \
+         insert into root.g.d(timestamp,i) values(1,2147483648); select i from root.g.d",
+        "ok / ok / type / type / type / time,i / rows 0",
     ),
     // Refusals say nothing of where points are.
     Run::Replies(
@@ -159,6 +172,56 @@ static ONE_STORE: [Course<'static>; 2] = [
 #[test]
 fn runs_behind_one_another(rt: HostRuntime) {
     expect(&rt, rt.alloc(), &ONE_STORE);
+}
+
+/// A log that lists the file 1 with the one point 1, 5, in the version whose statistics have no sum.
+const OLD_FILE: Store = Store {
+    slot: b"\x01\x00\x00\x00\x0f\x01\x00\x0aroot.g.d.s\x02\x00\
+\x01\x00\x00\x00\x1c\x02\x00\x00\x00\x00\x00\x00\x00\x01\x00\x01\x00\x00\x00\x00\x00\x00\x00\x00\x02\
+\x00\x00\x00\x00\x00\x00\x00\x05\
+\x01\x00\x00\x00\x01\x04\
+\x01\x00\x00\x00\x11\x05\x00\x00\x00\x00\x00\x00\x00\x01\x00\x00\x00\x00\x00\x00\x00\x00\x00",
+    file: Some(1),
+    bytes: b"TsFile\x51\
+\x47\x00\x08root.g.d\
+\x43\x00\x01s\x02\x00\
+\x50\x00\x00\x00\x0f\x00\x00\x00\x02\x01\x02\x01\x00\x00\x00\x00\x00\x00\x00\x05\
+\x49\x00\x01\x00\x08root.g.d\x00\x01s\x02\x00\x00\x00\x00\x00\x00\x00\x00\x12\
+\x00\x00\x00\x00\x00\x00\x00\x01\x00\x00\x00\x00\x00\x00\x00\x01\x00\x00\x00\x00\x00\x00\x00\x01\
+\x00\x00\x00\x00\x00\x00\x00\x05\x00\x00\x00\x00\x00\x00\x00\x05\
+\x00\x00\x00\x00\x00\x00\x00\x05\x00\x00\x00\x00\x00\x00\x00\x05\
+\x00\x00\x00\x01\x00\x00\x00\x00\x00\x00\x00\x18\
+\x00\x00\x00\x00\x00\x00\x00\x01\x00\x00\x00\x00\x00\x00\x00\x01\x00\x00\x00\x00\x00\x00\x00\x01\
+\x00\x00\x00\x00\x00\x00\x00\x05\x00\x00\x00\x00\x00\x00\x00\x05\
+\x00\x00\x00\x00\x00\x00\x00\x05\x00\x00\x00\x00\x00\x00\x00\x05\
+\x52\x00\x00\x00\x01\x00\x08root.g.d\x00\x01s\x00\x00\x00\x00\x00\x00\x00\x2c\
+\x00\x00\x00\x00\x00\x00\x00\xc2TsFile",
+    ..NEW
+};
+
+/// Files of both versions, behind one another, in one run and over two, and as one file.
+static BOTH_VERSIONS: [Course<'static>; 1] = [(
+    OLD_FILE,
+    &[
+        Run::Replies(
+            "select sum(s),count(s) from root.g.d; I 2 6; flush; select sum(s),count(s) from root.g.d",
+            "sum(s),count(s) / 5,1 / ok / ok / sum(s),count(s) / 11,2",
+        ),
+        Run::Replies(
+            "select sum(s) from root.g.d; compact inner sequence; select sum(s) from root.g.d",
+            "sum(s) / 11 / ok / sum(s) / 11",
+        ),
+        Run::Replies(
+            "S; select sum(s) from root.g.d; show files",
+            "time,s / 1,5 / 2,6 / rows 2 / sum(s) / 11 / sequence 3 born 3 points 2 from 1 to 2 / frozen 0 / \
+             working 0 0 / marks 0",
+        ),
+    ],
+)];
+
+#[test]
+fn files_of_both_versions(rt: HostRuntime) {
+    expect(&rt, rt.alloc(), &BOTH_VERSIONS);
 }
 
 const FLUSHED: &str = "C; I 1 5; flush; S; show files";

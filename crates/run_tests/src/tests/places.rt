@@ -15,8 +15,9 @@ use tsdb_run::a_new_place_is_sound;
 pub struct Store {
     /// Slot A. Slot B has no record.
     pub slot: &'static [u8],
-    /// The number of a file without bytes.
+    /// The number of a file, and its bytes.
     pub file: Option<u64>,
+    pub bytes: &'static [u8],
     /// The call of its journal and that of its files which fail.
     pub journal_call: u64,
     pub files_call: u64,
@@ -26,6 +27,7 @@ pub struct Store {
 pub const NEW: Store = Store {
     slot: &[0],
     file: None,
+    bytes: &[],
     journal_call: NO_CALL,
     files_call: NO_CALL,
 };
@@ -35,15 +37,16 @@ pub fn failing(journal_call: u64, files_call: u64) -> Store {
     Store {
         slot: &[0],
         file: None,
+        bytes: &[],
         journal_call,
         files_call,
     }
 }
 
-fn files_of(alloc: Global, file: Option<u64>) -> Result<Vec<(FileNumber, Vec<u8>)>, Memory> {
+fn files_of(alloc: Global, store: &Store) -> Result<Vec<(FileNumber, Vec<u8>)>, Memory> {
     let mut files = Vec::new(alloc);
-    if let Some(number) = file {
-        files.push((FileNumber(number), Vec::new(alloc)))?;
+    if let Some(number) = store.file {
+        files.push((FileNumber(number), Vec::from_slice(alloc, store.bytes)?))?;
     }
     Ok(files)
 }
@@ -53,7 +56,7 @@ pub fn place_of(alloc: Global, store: &Store) -> Result<MemPlace, Memory> {
         journal: vec![in alloc; store.journal_call]?,
         files: vec![in alloc; store.files_call]?,
     };
-    let files = files_of(alloc, store.file)?;
+    let files = files_of(alloc, store)?;
     let slots = [Vec::from_slice(alloc, store.slot)?, vec![in alloc; 0]?];
     MemPlace::new(alloc, slots, files, fails)
 }

@@ -32,6 +32,7 @@ fn aggregate_name(aggregate: Aggregate) -> &'static [u8] {
         Aggregate::MaxValue => b"max_value",
         Aggregate::MinTime => b"min_time",
         Aggregate::MaxTime => b"max_time",
+        Aggregate::Sum => b"sum",
     }
 }
 
@@ -160,6 +161,10 @@ const SAID: [(&[u8], &[u8]); 11] = [
     (
         b"1 select first_value(s),Last_Value(s),MIN_VALUE(s),min_time(s),max_time(s) from root.g where time>+5",
         b"1 select first_value s last_value s min_value s min_time s max_time s root.g 6 9223372036854775807\n",
+    ),
+    (
+        b"1 select Sum(s),sum(sum) from root.g where time<=5",
+        b"1 select sum s sum sum root.g -9223372036854775808 5\n",
     ),
     (
         b"3 select max_value(s),COUNT(t) from root.g where time>=-1 and time<=9",

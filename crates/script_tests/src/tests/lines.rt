@@ -166,7 +166,7 @@ const NO_NAME: [&[u8]; 5] = [
     b"1 create timeseries root.g.d.s with datatype=FLOAT,encoding=PLAIN",
     b"1 create timeseries root.g.d.s with datatype=TEXT,encoding=RLE",
     b"1 create timeseries root.g.d.s with datatype=INT32,encoding=GORILLA",
-    b"1 select sum(1) from root",
+    b"1 select total(1) from root",
     b"1 select s,avg(s) from root.d where time>x",
 ];
 
