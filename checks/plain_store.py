@@ -21,7 +21,7 @@ SUITS = {
     "INT64": ("PLAIN", "RLE", "TS_2DIFF"),
     "TEXT": ("PLAIN", "DICTIONARY"),
 }
-AGGREGATES = ("count", "first_value", "last_value", "min_value", "max_value", "min_time", "max_time")
+AGGREGATES = ("count", "first_value", "last_value", "min_value", "max_value", "min_time", "max_time", "sum")
 LONGEST_RUN = 120
 
 
@@ -46,6 +46,8 @@ def aggregate(function, rows):
     if not rows:
         return None
     times, values = zip(*rows)
+    if function == "sum":
+        return sum(values)
     return {
         "first_value": values[0],
         "last_value": values[-1],
@@ -236,7 +238,7 @@ class Store:
     def aggregates(self, device, items, first, last):
         if any((device, name) not in self.types for _, name in items):
             return b"path\n"
-        if any(function in ("min_value", "max_value") and self.types[device, name] not in LIMITS for function, name in items):
+        if any(function in ("min_value", "max_value", "sum") and self.types[device, name] not in LIMITS for function, name in items):
             return b"type\n"
         answers = [aggregate(function, self.column((device, name), first, last)) for function, name in items]
         head = ",".join(f"{function}({name})" for function, name in items).encode()
