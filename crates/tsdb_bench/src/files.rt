@@ -132,13 +132,6 @@ pub fn many_chunks(bench: &mut Bench, count: u64) -> Vec<u8> {
     }
 }
 
-/// Where a store lies.
-#[derive(Clone, Copy)]
-pub enum Medium {
-    Memory,
-    Disk,
-}
-
 /// What is read of a file.
 #[derive(Clone, Copy)]
 enum Reading {
@@ -155,8 +148,7 @@ enum Reading {
 pub struct Kind {
     reading: Reading,
     rounds: u64,
-    in_memory: &'static str,
-    on_disk: &'static str,
+    what: &'static str,
     step: &'static str,
     unit: Unit,
 }
@@ -164,8 +156,7 @@ pub struct Kind {
 pub const WHOLE: Kind = Kind {
     reading: Reading::Whole,
     rounds: 5,
-    in_memory: "the file, in memory",
-    on_disk: "the file, on the disk",
+    what: "the file, on the disk",
     step: "check",
     unit: Unit::Millions,
 };
@@ -173,8 +164,7 @@ pub const WHOLE: Kind = Kind {
 pub const INDEX: Kind = Kind {
     reading: Reading::Index,
     rounds: 100,
-    in_memory: "1,000 chunks, in memory",
-    on_disk: "1,000 chunks, on the disk",
+    what: "1,000 chunks, on the disk",
     step: "read_meta",
     unit: Unit::Millions,
 };
@@ -182,8 +172,7 @@ pub const INDEX: Kind = Kind {
 pub const ENTRY: Kind = Kind {
     reading: Reading::Entry,
     rounds: 1_000,
-    in_memory: "one of 10,000 series, in memory",
-    on_disk: "one of 10,000 series, on the disk",
+    what: "one of 10,000 series, on the disk",
     step: "find_entry",
     unit: Unit::Each,
 };
@@ -226,13 +215,7 @@ fn read_file<P: Port>(bench: &mut Bench, port: &mut P, right: &P::Right, reading
 
 /// The row of a file in the store of a port: how many points are checked a second, how many entries of its index are
 /// read, or how long it takes to find one.
-fn repeat<P: Port>(
-    bench: &mut Bench,
-    port: &mut P,
-    right: &P::Right,
-    medium: Medium,
-    file: Readable,
-)
+fn repeat<P: Port>(bench: &mut Bench, port: &mut P, right: &P::Right, file: Readable)
     requires { (P.Right.file right.now).store ≡ P.store port.old }
     ensures { P.store port.new ≡ P.store port.old }
 {
@@ -242,21 +225,16 @@ fn repeat<P: Port>(
     for _ in 0..many {
         read_file(bench, port, right, kind.reading);
     }
-    let what = match medium {
-        Medium::Memory => kind.in_memory,
-        Medium::Disk => kind.on_disk,
-    };
-    bench.row(what, kind.step, many.saturating_mul(file.count), kind.unit);
+    bench.row(
+        kind.what,
+        kind.step,
+        many.saturating_mul(file.count),
+        kind.unit,
+    );
 }
 
 /// Reads a stored file, and removes it.
-fn read_and_remove<P: Port>(
-    bench: &mut Bench,
-    port: &mut P,
-    sealed: P::Sealed,
-    medium: Medium,
-    file: Readable,
-)
+fn read_and_remove<P: Port>(bench: &mut Bench, port: &mut P, sealed: P::Sealed, file: Readable)
     requires rights { P.Sealed.rights sealed ≡ 0 }
     requires store { (P.Sealed.file sealed).store ≡ P.store port.old }
     ensures { P.store port.new ≡ P.store port.old }
@@ -264,7 +242,7 @@ fn read_and_remove<P: Port>(
     let mut sealed = sealed;
     match P::share(&mut sealed) {
         Ok(right) => {
-            repeat(bench, port, &right, medium, file);
+            repeat(bench, port, &right, file);
             P::give_back(&mut sealed, right);
         }
         Err(fault) => bench.fail(fault),
@@ -273,12 +251,12 @@ fn read_and_remove<P: Port>(
 }
 
 /// The rows of the files through one port.
-pub fn read_all<P: Port>(bench: &mut Bench, port: &mut P, medium: Medium, files: &[Readable])
+pub fn read_all<P: Port>(bench: &mut Bench, port: &mut P, files: &[Readable])
     ensures { P.store port.new ≡ P.store port.old }
 {
     for file in files {
         match port.put(FileNumber(1), file.bytes) {
-            Ok(sealed) => read_and_remove(bench, port, sealed, medium, *file),
+            Ok(sealed) => read_and_remove(bench, port, sealed, *file),
             Err(fault) => bench.fail(fault),
         }
     }

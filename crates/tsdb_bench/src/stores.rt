@@ -1,16 +1,13 @@
-//! What is measured in stores, in memory and on the disk. It depends on `files`, `stored`, `mem_outside` and `fs_outside`.
+//! What is measured in stores on the disk. It depends on `files`, `stored` and `fs_outside`.
 
 use crate::bench::Bench;
 use crate::files::{
-    CHUNKS, ENTRY, INDEX, Medium, POINTS, Readable, SERIES, WHOLE, build_large, many_chunks,
-    read_all,
+    CHUNKS, ENTRY, INDEX, POINTS, Readable, SERIES, WHOLE, build_large, many_chunks, read_all,
 };
 use crate::stored;
 use fs_outside::FsPlace;
-use mem_outside::SteadyPlace;
-use std::alloc::Global;
 use std::fs;
-use tsdb_outside::{Files, Place, StoreFault};
+use tsdb_outside::{Files, Place};
 
 /// The folder of a store on the disk, which is made and removed here.
 const FOLDER: &str = "tsdb_bench_store";
@@ -19,7 +16,7 @@ const FOLDER: &str = "tsdb_bench_store";
 #[derive(Clone, Copy)]
 enum Work<'a, 'b> {
     /// The reading of these files.
-    Read(Medium, &'a [Readable<'b>]),
+    Read(&'a [Readable<'b>]),
     /// So many small files.
     Small(u64),
 }
@@ -31,7 +28,7 @@ fn at_place<P: Place>(bench: &mut Bench, place: &mut P, work: Work) {
             match stored.port() {
                 Ok(mut port) => {
                     match work {
-                        Work::Read(medium, files) => read_all(bench, &mut port, medium, files),
+                        Work::Read(files) => read_all(bench, &mut port, files),
                         Work::Small(count) => stored::rows(bench, &mut stored, &mut port, count),
                     }
                     stored.end_port(port);
@@ -51,20 +48,6 @@ fn on_disk(bench: &mut Bench, work: Work) {
     at_place(bench, &mut disk, work);
     if !bench.has_failed() {
         bench.note(fs::remove_dir_all(&rt, FOLDER));
-    }
-}
-
-/// A place in memory for a store that has no file.
-fn new_place(alloc: Global) -> Result<SteadyPlace, StoreFault> {
-    let slots = [vec![in alloc; 0]?, vec![in alloc; 0]?];
-    Ok(SteadyPlace::new(alloc, slots, Vec::new(alloc))?)
-}
-
-/// The rows of a store in memory.
-fn in_memory(bench: &mut Bench, work: Work) {
-    match new_place(bench.alloc()) {
-        Ok(mut memory) => at_place(bench, &mut memory, work),
-        Err(fault) => bench.fail(fault),
     }
 }
 
@@ -93,8 +76,7 @@ pub fn files(bench: &mut Bench) {
             kind: ENTRY,
         },
     ];
-    in_memory(bench, Work::Read(Medium::Memory, &files));
-    on_disk(bench, Work::Read(Medium::Disk, &files));
+    on_disk(bench, Work::Read(&files));
 }
 
 /// The rows of many small files.

@@ -1,12 +1,12 @@
-//! The speed of a turn, by one pass, four and eight in threads, with std's `Mutex` beside it, and what of the time is
-//! left to those who hold it for 100 microseconds each. It depends on `tsdb_turn`.
+//! The speed of a turn, by one pass, four and eight in threads, and what of the time is left to those who hold it
+//! for 100 microseconds each. It depends on `tsdb_turn`.
 
 ghost use Rattle.std.specs.Prelude.{◌<◌, [], All};
 ghost use Rattle.tsdb_turn.specs.Passes.{IsOutside};
 
 use crate::bench::{Bench, Unit};
 use std::alloc::Global;
-use std::sync::{Mutex, Wait};
+use std::sync::Wait;
 use std::thread;
 use std::thread::Threads;
 use std::time::{Clock, Duration, Instant};
@@ -77,15 +77,7 @@ fn take_turns<R: Wait + Clock>(
     }
 }
 
-/// Locks so many times, and counts each.
-fn lock_often<R: Wait>(rt: &R, lock: &Mutex<u64>, times: u64) {
-    for _ in 0..times {
-        let mut count = lock.lock(rt);
-        *count = count.wrapping_add(1);
-    }
-}
-
-/// A thread for each pass. Where there is a lock it is that which they take.
+/// A thread for each pass.
 fn take_turns_in_threads<R: Threads + Wait + Clock + Sync>(
     rt: &R,
     turn: &Turn<Count>,
@@ -93,7 +85,6 @@ fn take_turns_in_threads<R: Threads + Wait + Clock + Sync>(
     threads: usize,
     times: u64,
     held: Duration,
-    lock: Option<&Mutex<u64>>,
 )
     requires some { 0 < threads }
     requires outside { All (IsOutside turn.now.id) passes.old }
@@ -103,22 +94,17 @@ fn take_turns_in_threads<R: Threads + Wait + Clock + Sync>(
         rt,
         passes,
         threads,
-        &|_, pass| match lock {
-            Some(lock) => lock_often(rt, lock, times),
-            None => take_turns(rt, turn, pass, times, held),
-        },
+        &|_, pass| take_turns(rt, turn, pass, times, held),
     );
 }
 
-/// So many passes, each in a thread, take so many turns each, or the lock where there is one. Says how many turns there
-/// were.
+/// So many passes, each in a thread, take so many turns each. Says how many turns there were.
 fn run_turns<R: Threads + Wait + Clock + Sync>(
     alloc: Global,
     handle: &R,
     passes: u32,
     times: u64,
     held: Duration,
-    lock: Option<&Mutex<u64>>,
 ) -> Result<u64, Memory>
     requires { 0 < passes }
 {
@@ -132,13 +118,12 @@ fn run_turns<R: Threads + Wait + Clock + Sync>(
         passes as usize,
         times,
         held,
-        lock,
     );
     let count = turn.close(all);
     Ok(count.value)
 }
 
-/// So many passes, each in a thread, and as many threads at a `Mutex`.
+/// The row of so many passes, each in a thread.
 fn contend<R: Threads + Wait + Clock + Sync>(
     bench: &mut Bench,
     handle: &R,
@@ -152,13 +137,8 @@ fn contend<R: Threads + Wait + Clock + Sync>(
     let done = times.saturating_mul(u64::from(passes));
     let alloc = bench.alloc();
     bench.start();
-    bench.note(run_turns(alloc, handle, passes, times, Duration::ZERO, None));
+    bench.note(run_turns(alloc, handle, passes, times, Duration::ZERO));
     bench.row(what, "turn", done, Unit::Millions);
-    let lock = Mutex::new(0u64);
-    bench.start();
-    bench.note(run_turns(alloc, handle, passes, times, Duration::ZERO, Some(&lock)));
-    bench.row(what, "Mutex", done, Unit::Millions);
-    bench.require(lock.into_inner() == done);
 }
 
 /// Four passes that hold the turn for 100 microseconds each. The row has the nanoseconds that it was held: a thousand
@@ -167,7 +147,7 @@ fn hold<R: Threads + Wait + Clock + Sync>(bench: &mut Bench, handle: &R) {
     let times = bench.rounds(2_500);
     let alloc = bench.alloc();
     bench.start();
-    bench.note(run_turns(alloc, handle, 4, times, Duration::from_micros(100), None));
+    bench.note(run_turns(alloc, handle, 4, times, Duration::from_micros(100)));
     let what = "turns of 100 microseconds, 4 passes in threads";
     bench.row(
         what,
