@@ -64,7 +64,7 @@ module _ {F S R P : Type 0} (told later : ToldContents) where
     inputs_last truth read = inputs_stay name job
         (each_both (λ (input : Input F S R P). IsSome (name input.right).bytes → IsInputRead name told input)
         (IsInputRead name later) (IsToldAs told later) told_again job.inputs truth.read read) (record {
-      truth = truth;
-      all = each_weaker (IsInputRead name later) (λ (input : Input F S R P). IsSome (name input.right).bytes)
-          right_tells job.inputs read;
-    })
+          truth = truth;
+          all = each_weaker (IsInputRead name later) (λ (input : Input F S R P). IsSome (name input.right).bytes)
+              right_tells job.inputs read;
+        })

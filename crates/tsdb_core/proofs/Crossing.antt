@@ -24,7 +24,11 @@ module _ (J F S R P : RattleType) (j : IsSend J) (f : IsSend F) (s : IsSend S) (
   pub core_send : IsSend (core.the_row J F S R P means counts fg cf sg rg pg cp)
   core_send = declared_send (core.the_type J F S R P means counts fg cf sg rg pg cp) (
     search (sendable, crosses) depth 20,
-    (as_row_send (logged.the_field J means counts) (logged_send J means counts j),
-    (as_row_send (kept.the_field F S R P fg cf sg rg pg cp) (files_send F S R P f s r p fg cf sg rg pg cp),
-    (search sendable, (search sendable, (search sendable, (search sendable, tt)))))),
+    (
+      as_row_send (logged.the_field J means counts) (logged_send J means counts j),
+      (
+        as_row_send (kept.the_field F S R P fg cf sg rg pg cp) (files_send F S R P f s r p fg cf sg rg pg cp),
+        (search sendable, (search sendable, (search sendable, (search sendable, tt)))),
+      ),
+    ),
   )
