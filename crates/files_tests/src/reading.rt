@@ -112,6 +112,11 @@ fn blamed_place(worked: Worked, place: usize) -> u64 {
     if place >= worked.tail {
         return worked.tail as u64;
     }
+    // the leaf's place, inverted in its last byte, is that of no leaf, be it before the root or behind it
+    let leaf = 44 ^ 0xff;
+    if place.saturating_add(1) == worked.tail && leaf < worked.root {
+        return leaf as u64;
+    }
     if place >= worked.root {
         return worked.root as u64;
     }

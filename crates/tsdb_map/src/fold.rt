@@ -122,7 +122,7 @@ pub fn sum_figure(sum: Option<i128>) -> Option<Figure>
 
 /// What a value is as a figure, if there is one.
 pub fn value_figure(value: Option<Value>) -> Option<Figure>
-    ensures { result ≡ option_map Figure.Value value.entry }
+    ensures { result ≡ option_map Figure.Value value }
 {
     match value {
         None => None,

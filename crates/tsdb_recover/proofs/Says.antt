@@ -6,7 +6,7 @@ use Rattle.tsdb_recover.specs.DescribedSteps.{SaysSeries}
 use Rattle.tsdb_recover.specs.DescribedTrees.{filled_of, group_part, tree_part}
 use Rattle.tsdb_index.specs.declared.index.IndexEntry.{IndexEntry}
 use Rattle.tsdb_base.proofs.Lists.{each_left, each_right}
-use Rattle.tsdb_pages.specs.File.{AreEntries, AreEntriesIn, AreEntriesOf, IsChunkEntry, chunk_field, group_field, group_head, head}
+use Rattle.tsdb_pages.specs.File.{AreEntries, AreEntriesIn, AreEntriesOf, IsChunkEntry, chunk_field, group_field, group_head, head_length}
 use Rattle.tsdb_pages.specs.Trees.{HasParts, IsChunk, IsGroup, IsMade, IsTree, chunks_of}
 use Rattle.tsdb_pages.specs.declared.tree.Chunk.{Chunk}
 use Rattle.tsdb_pages.specs.declared.tree.Group.{Group}
@@ -65,5 +65,5 @@ groups_say place (group ∷ groups) (entries ∷ others) are good parts =
 pub entries_say : (tree : Tree) (entries : List IndexEntry) → IsTree tree → IsMade tree → AreEntriesIn tree entries
     → AllZip SaysSeries entries (tree_part tree)
 entries_say tree entries is made are = subst (λ list. AllZip SaysSeries list (tree_part tree)) are.all
-    (groups_say (length head) tree.groups are.by_group are.say (recursion_from_All IsGroup tree.groups is.groups)
+    (groups_say (head_length) tree.groups are.by_group are.say (recursion_from_All IsGroup tree.groups is.groups)
     (recursion_from_All HasParts (chunks_of tree.groups) made.chunks))

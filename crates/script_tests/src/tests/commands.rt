@@ -123,7 +123,7 @@ fn text_of(alloc: Global, script: &[Numbered]) -> ByteSink {
 }
 
 /// Scripts, and what their commands say.
-const SAID: [(&[u8], &[u8]); 11] = [
+const SAID: [(&[u8], &[u8]); 12] = [
     (
         b"12 CREATE timeseries root.g.d.Ts WITH datatype=int32, encoding=ts_2diff\n",
         b"12 create root.g.d.Ts int32 ts_2diff\n",

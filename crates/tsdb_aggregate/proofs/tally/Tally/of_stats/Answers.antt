@@ -1,4 +1,4 @@
-use Rattle.std.proofs.Common.{sym, ap, ◌∙◌}
+use Rattle.std.proofs.Common.{rules, sym, ap, ◌∙◌}
 use Rattle.tsdb_base.specs.declared.answers.Aggregate.{Aggregate}
 use Rattle.tsdb_aggregate.specs.Pieces.{has_asked}
 use Rattle.tsdb_aggregate.specs.Steps.{kept_value}
@@ -14,8 +14,8 @@ returns c = λ points are asked.
       | in-LastValue w ↦ rw w.in-LastValue.is (ap kept_value w.kept-is ∙ sym are.last)
       | in-MinValue w ↦ rw w.in-MinValue.is (ap kept_value w.kept-is ∙ w.lend-kept.ensures ∙ sym are.least)
       | in-MaxValue w ↦ rw w.in-MaxValue.is (ap kept_value w.kept-is ∙ w.lend-kept-in-MaxValue.ensures ∙ sym are.greatest)
-      | in-MinTime w ↦ rw w.in-MinTime.is (ap kept_value w.kept-is ∙ sym are.start)
-      | in-MaxTime w ↦ rw w.in-MaxTime.is (ap kept_value w.kept-is ∙ sym are.end)
+      | in-MinTime w ↦ rw w.in-MinTime.is (search rules)
+      | in-MaxTime w ↦ rw w.in-MaxTime.is (search rules)
       | in-Sum w ↦ rw w.in-Sum.is (c.stats_sum-sum.ensures w.in-Sum.is
           ∙ sum_said c.args.stats.now.sum _ are.sum (sym (ap (λ (a : Aggregate). has_asked a c.args.stats.now) w.in-Sum.is) ∙ asked))
     ]
