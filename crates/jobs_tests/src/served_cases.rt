@@ -10,8 +10,8 @@ use tsdb_print::print_reply;
 /// The names of a series in the index: `root.g.d` and `a`, each behind its length in two bytes.
 const NAMES: u64 = 2 + 8 + 2 + 1;
 
-/// Statistics of INT64: the count, the first and the last time, and four values.
-const STATISTICS: u64 = 7 * 8;
+/// Statistics of INT64: the count, the first and the last time, four values, and the sum.
+const STATISTICS: u64 = 7 * 8 + 16;
 
 /// A page in the index: its place and its statistics.
 const PAGE: u64 = 8 + STATISTICS;

@@ -29,8 +29,8 @@ const SOURCES: Sources = Sources {
 /// A range, how many bytes are read, the most points that are held behind a pull, and the points in the range.
 type Case = (Time, Time, u64, u64, &'static [Pair]);
 
-/// The bytes that are read of the indexes of both files.
-const INDEXES: u64 = 522;
+/// The bytes that are read of the indexes of both files: of each all but its two pages, with three statistics.
+const INDEXES: u64 = 618;
 
 /// The bytes that are read of the first page of a file, whose end the index says.
 const FIRST: u64 = 30;
