@@ -6,6 +6,7 @@ mod before;
 mod conditions;
 mod fault;
 mod form;
+mod kept;
 mod laws;
 mod lexer;
 mod line;

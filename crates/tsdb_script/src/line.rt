@@ -1,5 +1,5 @@
 //! Reads a line as a command of a session: the passes over it, in their order. Depends on `lines`, `lexer`, `parser`,
-//! `meaning`, `before`, `numbered` and `fault`.
+//! `meaning`, `before`, `kept`, `numbered` and `fault`.
 ghost use Rattle.std.specs.Prelude.{◌≡◌, ◌↔◌, ◌≤◌, ℕ, All, length, false, IsTrue, IfOk, IfErr, IfSome, IfNone};
 ghost use Rattle.tsdb_model.specs.Commands.{IsWellFormed};
 ghost use Rattle.tsdb_base.specs.Limits.{max_commands, max_line_bytes, max_script_bytes};
@@ -10,6 +10,7 @@ ghost use Rattle.tsdb_script.specs.Steps.{FaultsWith};
 
 use crate::before::last_insert;
 use crate::fault::LineFault;
+use crate::kept::Kept;
 use crate::lexer::read_tokens;
 use crate::lines::{begins_with, content, is_skipped};
 use crate::meaning::command_of;
@@ -30,8 +31,8 @@ const NO_SESSION: LineFault = LineFault::Bad { kind: 1 };
 const NO_STATEMENT: LineFault = LineFault::Bad { kind: 2 };
 
 /// The command of a line, where it is not skipped. The line ends so many bytes behind the beginning of the script.
-/// The commands before it are `script`, and their sessions, each once, are `sessions`. The list of tokens is that of the
-/// line before, which takes no memory again.
+/// The commands before it are `script`, and their sessions, each once, are `sessions`. The lists are those of the
+/// line before, which take no memory again.
 pub fn read_line<'a>(
     alloc: Global,
     line: &'a [u8],
@@ -39,6 +40,7 @@ pub fn read_line<'a>(
     script: &[Numbered],
     sessions: &[u16],
     tokens: &mut Tokens<'a>,
+    kept: &mut Kept<'a>,
 ) -> Result<Option<Numbered>, LineFault>
     requires sessions { AreDifferentOf sessions.now (sessions_of script.now) }
     requires good { All (λ numbered. IsWellFormed numbered.command) script.now }
@@ -55,7 +57,7 @@ pub fn read_line<'a>(
     if line.len() > MAX_LINE_BYTES {
         return Err(PAST_LIMIT);
     }
-    let numbered = read_command(alloc, line, end, script, sessions, tokens)?;
+    let numbered = read_command(alloc, line, end, script, sessions, tokens, kept)?;
     Ok(Some(numbered))
 }
 
@@ -67,6 +69,7 @@ fn read_command<'a>(
     script: &[Numbered],
     sessions: &[u16],
     tokens: &mut Tokens<'a>,
+    kept: &mut Kept<'a>,
 ) -> Result<Numbered, LineFault>
     requires says { is_skipped line.now ≡ false }
     requires line_bytes { length line.now ≤ max_line_bytes }
@@ -84,8 +87,9 @@ fn read_command<'a>(
     if !begins_statement(tokens) {
         return Err(NO_STATEMENT);
     }
-    let syntax = statement(alloc, tokens)?;
+    let syntax = statement(alloc, tokens, kept)?;
     let command = command_of(alloc, &syntax, &last_insert(script))?;
+    kept.take_back(syntax);
     Ok(Numbered { session, command })
 }
 

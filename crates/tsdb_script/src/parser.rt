@@ -1,5 +1,5 @@
 //! Finds the form that the tokens of a statement fit: walks the table of forms, and takes the tokens from the left.
-//! Depends on `form`, `token`, `syntax` and `fault`.
+//! Depends on `form`, `token`, `syntax`, `kept` and `fault`.
 ghost use Rattle.std.specs.Prelude.{◌≡◌, IfOk, IfErr, List, Option, drop, length, option_map};
 ghost use Rattle.std.specs.List.{list_any};
 ghost use Rattle.tsdb_script.specs.declared.form.TheConstants.{FORMS};
@@ -14,6 +14,7 @@ ghost use Rattle.tsdb_script.specs.Parse.{parts_at, says, stands_at, statement_a
 
 use crate::fault::LineFault;
 use crate::form::{FORMS, Form, FormPlace, Keyword};
+use crate::kept::{Kept, Lists, Parts};
 use crate::syntax::{Comparison, Condition, Operand, Syntax, SyntaxColumn, SyntaxPart};
 use crate::token::{Token, WordToken};
 use std::alloc::Global;
@@ -22,9 +23,6 @@ use tsdb_base::{List, Space};
 
 /// The tokens that are left.
 pub type Tokens<'a> = VecDeque<Token<'a>>;
-
-/// The parts that are left.
-type Parts<'a> = VecDeque<SyntaxPart<'a>>;
 
 /// The tokens fit no form.
 const NO_FORM: LineFault = LineFault::Bad { kind: 3 };
@@ -39,22 +37,36 @@ const AND: FormPlace = FormPlace::Keyword(Keyword::And);
 const TIME: FormPlace = FormPlace::Keyword(Keyword::Time);
 
 /// The statement whose form the tokens fit. Where they fit none it is a fault of kind 3. The tokens are used up.
-pub fn statement<'a>(alloc: Global, tokens: &mut Tokens<'a>) -> Result<Syntax<'a>, LineFault>
+pub fn statement<'a>(
+    alloc: Global,
+    tokens: &mut Tokens<'a>,
+    kept: &mut Kept<'a>,
+) -> Result<Syntax<'a>, LineFault>
     ensures found { IfOk result (Fits tokens.old.items) }
     ensures parts { IfOk result HasNeededParts }
     ensures bad { IfErr result (FaultsWith (HasNoForm tokens.old.items)) }
 {
-    read_by_form(alloc, tokens)
+    read_by_form(alloc, tokens, kept)
 }
 
 /// Reads the tokens by the one form that begins with their first words.
 #[tactic(auto, unfolding(crate::specs::Parse::statement_at))]
-fn read_by_form<'a>(alloc: Global, tokens: &mut Tokens<'a>) -> Result<Syntax<'a>, LineFault>
+fn read_by_form<'a>(
+    alloc: Global,
+    tokens: &mut Tokens<'a>,
+    kept: &mut Kept<'a>,
+) -> Result<Syntax<'a>, LineFault>
     ensures { ParsesTo (λ syntax. syntax) result (statement_at tokens.old.items) }
 {
     let form = form_of(tokens).ok_or(NO_FORM)?;
-    let mut parts = parts_of(alloc, form.places(), tokens)?;
-    Ok(made(alloc, form, &mut parts))
+    parts_of(
+        alloc,
+        form.places(),
+        tokens,
+        &mut kept.lists,
+        &mut kept.parts,
+    )?;
+    Ok(made(alloc, form, &mut kept.parts))
 }
 
 /// The first form whose leading keywords the tokens begin with.
@@ -114,24 +126,25 @@ fn begins(places: &[FormPlace], tokens: &Tokens) -> bool
     true
 }
 
-/// The parts that stand at the places. It takes all tokens.
+/// The parts that stand at the places, in place of those of another line. It takes all tokens.
 fn parts_of<'a>(
     alloc: Global,
     places: &[FormPlace],
     tokens: &mut Tokens<'a>,
-) -> Result<Parts<'a>, LineFault>
-    ensures { ParsesTo (λ parts. parts.items) result (parts_at places.now tokens.old.items) }
+    lists: &mut Lists<'a>,
+    parts: &mut Parts<'a>,
+) -> Result<(), LineFault>
+    ensures { ParsesTo (λ _. parts.new.items) result (parts_at places.now tokens.old.items) }
 {
-    let mut parts = VecDeque::with_capacity(alloc, 4)?;
+    parts.clear();
     let mut row = places;
     while let Some((place, behind)) = row.split_first() {
-        if let Some(part) = part(alloc, *place, tokens)? {
+        if let Some(part) = part(alloc, *place, tokens, lists)? {
             parts.push_back(part)?;
         }
         row = behind;
     }
-    end(tokens)?;
-    Ok(parts)
+    end(tokens)
 }
 
 /// Takes what stands at a place, and gives its part, where it has one.
@@ -140,14 +153,24 @@ fn part<'a>(
     alloc: Global,
     place: FormPlace,
     tokens: &mut Tokens<'a>,
+    lists: &mut Lists<'a>,
 ) -> Result<Option<SyntaxPart<'a>>, LineFault>
     ensures { ParsesTo (λ part. (part, tokens.new.items)) result (part_at place tokens.old.items) }
 {
     match place {
         FormPlace::Word => Ok(Some(SyntaxPart::Word(word(tokens)?))),
-        FormPlace::Names => Ok(Some(SyntaxPart::Names(list(alloc, FormPlace::Comma, tokens)?))),
-        FormPlace::Values => Ok(Some(SyntaxPart::Values(list(alloc, FormPlace::Comma, tokens)?))),
-        FormPlace::Columns => Ok(Some(SyntaxPart::Columns(list(alloc, FormPlace::Comma, tokens)?))),
+        FormPlace::Names => {
+            let room = lists.for_names(alloc);
+            Ok(Some(SyntaxPart::Names(list(room, FormPlace::Comma, tokens)?)))
+        }
+        FormPlace::Values => {
+            let room = lists.for_values(alloc);
+            Ok(Some(SyntaxPart::Values(list(room, FormPlace::Comma, tokens)?)))
+        }
+        FormPlace::Columns => {
+            let room = Vec::new(alloc);
+            Ok(Some(SyntaxPart::Columns(list(room, FormPlace::Comma, tokens)?)))
+        }
         FormPlace::Where => Ok(Some(SyntaxPart::Conditions(conditions(alloc, tokens)?))),
         _ => {
             take_fixed(place, tokens)?;
@@ -310,21 +333,21 @@ impl<'a> Listed<'a> for Condition<'a> {
     }
 }
 
-/// One item at least, with this between them.
+/// One item at least, with this between them, in the place of what is in the room.
 fn list<'a, P: Listed<'a>>(
-    alloc: Global,
+    room: Vec<P>,
     between: FormPlace,
     tokens: &mut Tokens<'a>,
 ) -> Result<List<P>, LineFault>
     ensures { ParsesTo (λ items. (items, tokens.new.items)) result (list_at between P.at tokens.old.items) }
 {
     let first = P::take(tokens)?;
-    further(alloc, between, first, tokens)
+    further(room, between, first, tokens)
 }
 
 /// The first item, and all that follow it.
 fn further<'a, P: Listed<'a>>(
-    alloc: Global,
+    room: Vec<P>,
     between: FormPlace,
     first: P,
     tokens: &mut Tokens<'a>,
@@ -332,7 +355,8 @@ fn further<'a, P: Listed<'a>>(
     ensures { ParsesTo (λ items. (items, tokens.new.items)) result
         (option_map (onto first) (items_at between P.at (length tokens.old.items) tokens.old.items)) }
 {
-    let mut items = Vec::new(alloc);
+    let mut items = room;
+    items.clear();
     items.push(first)?;
     // Each item takes a token at least.
     let mut turns = tokens.len();
@@ -353,7 +377,7 @@ fn conditions<'a>(alloc: Global, tokens: &mut Tokens<'a>) -> Result<List<Conditi
         return Ok(List::of(Vec::new(alloc)));
     }
     take_fixed(WHERE, tokens)?;
-    list(alloc, AND, tokens)
+    list(Vec::new(alloc), AND, tokens)
 }
 
 /// The statement of a form with these parts.

@@ -1,10 +1,11 @@
-//! Reads a script, line by line, as the commands of its sessions. Depends on `lines`, `line`, `numbered` and `fault`.
+//! Reads a script, line by line, as the commands of its sessions. Depends on `lines`, `line`, `kept`, `numbered` and `fault`.
 ghost use Rattle.std.specs.Prelude.{◌≡◌, ◌++◌, ◌∷◌, [], All, IfOk, IfErr};
 ghost use Rattle.tsdb_model.specs.Commands.{IsWellFormed};
 ghost use Rattle.tsdb_script.specs.LineSteps.{fault_at, AreDifferentOf, HasSessionRoom};
 ghost use Rattle.tsdb_script.specs.Reading.{sessions_of, IsScript, RefusesScript};
 
 use crate::fault::{LineFault, ScriptFault};
+use crate::kept::Kept;
 use crate::line::read_line;
 use crate::lines::first_line;
 use crate::numbered::Numbered;
@@ -31,6 +32,7 @@ pub fn read_script(alloc: Global, bytes: &[u8]) -> Result<Vec<Numbered>, ScriptF
     let mut script = Vec::new(alloc);
     let mut sessions = Vec::new(alloc);
     let mut tokens = VecDeque::new(alloc);
+    let mut kept = Kept::new(alloc);
     let mut rest = bytes;
     let mut number: u32 = 0;
     while !rest.is_empty() {
@@ -44,6 +46,7 @@ pub fn read_script(alloc: Global, bytes: &[u8]) -> Result<Vec<Numbered>, ScriptF
             script.as_slice(),
             sessions.as_slice(),
             &mut tokens,
+            &mut kept,
         ) {
             Ok(Some(numbered)) => push(&mut script, &mut sessions, numbered)?,
             Ok(None) => {}

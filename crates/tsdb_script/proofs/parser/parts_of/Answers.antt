@@ -12,8 +12,5 @@ loop-place-preserved-in_ok-push_back c =
     rw c.in_ok-push_back.ensures.items
     (read_part c.loop-place.row.now c.in-Some.behind.now place c.loop-place.tokens.items c.loop-place.parts.items _ row c.loop-place.invariant c.part.new.tokens.items c.in-Some-2.part found)
 
-pub returns-in_err-end : goal.returns-in_err-end
-returns-in_err-end c = grind (arith, common_steps)
-
 pub returns : goal.returns
 returns c = grind (arith, common_steps)
