@@ -18,8 +18,8 @@ use crate::fault::LineFault;
 use crate::syntax::{Condition, Operand, Syntax, SyntaxColumn};
 use crate::token::WordToken;
 use crate::words::{
-    NO_PATH, data_type, device_path, device_path_after, encoding, literal, node, number,
-    read_aggregate, room_of, series_path,
+    NO_PATH, data_type, device_path, device_path_after, encoding, literal, node, node_after,
+    number, read_aggregate, room_of, series_path,
 };
 use std::alloc::Global;
 use std::collections::HashSet;
@@ -31,8 +31,13 @@ use tsdb_path::{Name, Path};
 /// The statement as a whole is bad.
 const UNBALANCED: LineFault = LineFault::Bad { kind: 7 };
 
-/// The names of the measurements of a device.
-fn measurements(alloc: Global, device: &Path, words: &[WordToken]) -> Result<Vec<Name>, LineFault>
+/// The names of the measurements of a device, which often are those of an insert before.
+fn measurements(
+    alloc: Global,
+    device: &Path,
+    words: &[WordToken],
+    before: &[Cell],
+) -> Result<Vec<Name>, LineFault>
     ensures found { IfOk result (λ names.
         (names.items ≡ words.now) × AllByRecursion IsGood (map (Measurement device.now) words.now)) }
     ensures bad { IfErr result (FaultsWith (HasBadWord (map (Measurement device.now) words.now))) }
@@ -40,7 +45,7 @@ fn measurements(alloc: Global, device: &Path, words: &[WordToken]) -> Result<Vec
     let room = room_of(device);
     let mut names = Vec::with_capacity(alloc, words.len())?;
     for word in words {
-        let name = node(alloc, word)?;
+        let name = node_after(alloc, word, before.get(names.len()))?;
         if name.bytes().len() > room {
             return Err(NO_PATH);
         }
@@ -234,7 +239,7 @@ fn insert(
     ensures bad { IfErr result (FaultsWith (Objects (Syntax.Insert device.now names.now time.now values.now))) }
 {
     let device = device_path_after(alloc, device, before.device)?;
-    let names = measurements(alloc, &device, names.items())?;
+    let names = measurements(alloc, &device, names.items(), before.cells)?;
     let time = number(time)?;
     if !are_paired(alloc, names.as_slice(), values.items(), before.cells)? {
         // A bad value is found before the statement as a whole is.

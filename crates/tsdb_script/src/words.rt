@@ -14,7 +14,7 @@ use crate::token::WordToken;
 use std::alloc::Global;
 use tsdb_base::limits::MAX_PATH_BYTES;
 use tsdb_base::{Aggregate, DataType, Encoding, limits, suits};
-use tsdb_model::Literal;
+use tsdb_model::{Cell, Literal};
 use tsdb_path::{Name, Path, PathFault};
 
 /// The most nodes of a path.
@@ -90,6 +90,17 @@ pub fn node(alloc: Global, word: &WordToken) -> Result<Name, LineFault>
         Ok(name) => Ok(name),
         Err(PathFault::Memory) => Err(LineFault::Memory),
         Err(_) => Err(NO_PATH),
+    }
+}
+
+/// The node that a word is, which is often the measurement of a cell of an insert before.
+pub fn node_after(alloc: Global, word: &WordToken, before: Option<&Cell>) -> Result<Name, LineFault>
+    ensures found { IfOk result (λ name. (name ≡ word.now) × IsGood (Node word.now)) }
+    ensures bad { IfErr result (FaultsWith (IsBadWord (Node word.now))) }
+{
+    match before {
+        Some(cell) if cell.measurement.bytes() == word.bytes() => Ok(cell.measurement.copy()?),
+        _ => node(alloc, word),
     }
 }
 
