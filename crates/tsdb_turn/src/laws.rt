@@ -1,8 +1,10 @@
-//! The law of the value that a turn gives. No body uses it. It depends on the definitions alone.
+//! Laws of a turn: what holds of the value that it gives, and that threads may share it. No body uses them. It depends on
+//! the definitions and on `turn` alone.
 ghost use Rattle.std.specs.Prelude.{ℕ};
 ghost use Rattle.tsdb_turn.specs.Values.{IsReached, IsKeptByTurns};
 
 use crate::logged::Logged;
+use crate::turn::Turn;
 
 /// A relation between the value at the opening and a later one.
 pub trait Relation<V> {
@@ -15,3 +17,11 @@ pub fn kept_by_turns<V: Logged, R: Relation<V>>()
     ensures { (seats : ℕ) → IsKeptByTurns V.Logged seats R.relates → (start value : V) → R.relates start start
         → IsReached V.Logged seats start value → R.relates start value }
 {}
+
+/// Threads may share the value.
+fn is_shared<T: Sync>(_value: &T) {}
+
+/// Threads may share a turn where its value may go to another thread.
+pub fn a_turn_is_shared<V: Logged + Send>(turn: &Turn<V>) {
+    is_shared(turn);
+}

@@ -18,7 +18,7 @@ mod turn;
 mod view;
 mod wait;
 
-pub use laws::{Relation, kept_by_turns};
+pub use laws::{Relation, a_turn_is_shared, kept_by_turns};
 pub use logged::Logged;
 pub use pass::Pass;
 pub use turn::{Refused, Turn};
