@@ -1,10 +1,9 @@
 -- A job that has begun is out beside what was out, and what its end makes of the whole.
-use Rattle.std.proofs.Common.{◌≡◌, ◌⊎◌, ℕ, ◌≤◌, true, List, Option, None, Some}
+use Rattle.std.proofs.Common.{◌≡◌, ◌⊎◌, ℕ, ◌≤◌, Option, None, Some}
 use Rattle.std.proofs.Common.{Result, Ok, Err, inl, inr, ap, arith, refl, sym, subst, ◌∙◌}
-use Rattle.std.proofs.lemmas.Bool.{false≢true}
 use Rattle.std.specs.List.{AllByRecursion as Each}
 use Rattle.std.specs.Option.{IsSomeAnd, option_map}
-use Rattle.std.specs.Prelude.{IfErr, IfSome, IsSome, is_some}
+use Rattle.std.specs.Prelude.{IfErr, IfSome}
 use Rattle.tsdb_base.proofs.Lists.{each_weaker}
 use Rattle.tsdb_base.specs.Causes.{Rose}
 use Rattle.tsdb_base.specs.Lists.{count}
@@ -53,25 +52,12 @@ of_right : {R : Type 0} (name : R → NamedFile) (store : Store) (kept : Option 
 of_right name store None right is of = absurd is
 of_right name store (Some file) right is of = ap (λ (named : NamedFile). named.store) is ∙ of
 
-told_bytes : (bytes : Option (List ℕ)) → is_some bytes ≡ true → IsSome bytes
-told_bytes None is = absurd (false≢true is)
-told_bytes (Some bytes) is = refl
-
 -- with more rights it is read still
 more_read : (more : ℕ) (old new : Option KeptFile) → new ≡ option_map (more_rights more) old
     → IsSomeAnd old (λ file. 1 ≤ file.rights) → IsSomeAnd new (λ file. 1 ≤ file.rights)
 more_read more None new is read = absurd read
 more_read more (Some file) new is read =
     subst (λ found. IsSomeAnd found (λ (k : KeptFile). 1 ≤ k.rights)) (sym is) (omega (arith, read))
-
--- where the store of the inputs tells what its files hold, each right tells its bytes
-pub all_tell : {F S R P : Type 0} (name : R → NamedFile) (store : Store) (job : Job F S R P)
-    → ((right : R) → Tells (name right)) → store.tells ≡ true → Each (IsInputOf name store) job.inputs
-    → Each (λ (input : Input F S R P). IsSome (name input.right).bytes) job.inputs
-all_tell name store job laws tells of = each_weaker (IsInputOf name store)
-    (λ input. IsSome (name input.right).bytes)
-    (λ input one. told_bytes (name input.right).bytes
-    (sym (laws input.right) ∙ ap (λ (s : Store). s.tells) one ∙ tells)) job.inputs of
 
 -- ---- what a start answers
 

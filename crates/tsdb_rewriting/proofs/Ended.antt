@@ -11,17 +11,15 @@ use Rattle.tsdb_compactions.specs.Jobs.{IsCompactionOf}
 use Rattle.tsdb_compactions.specs.Outputs.{IsBuiltFor, TellsInputs}
 use Rattle.tsdb_compactions.specs.declared.job.Job.{Job}
 use Rattle.tsdb_fileset.specs.Files.{AreKept}
-use Rattle.tsdb_fileset.specs.Places.{AreOfStore}
 use Rattle.tsdb_frames.proofs.CallLemmas.{same_keeps_to_slot}
 use Rattle.tsdb_memory.specs.LogState.{log_of, memory_of}
 use Rattle.tsdb_model.specs.State as plain
 use Rattle.tsdb_outside.specs.Causes.{HasCause}
 use Rattle.tsdb_outside.specs.Disk.{IsLawful}
-use Rattle.tsdb_outside.specs.Files.{NamedFile, Store, StoredFile, Tells}
+use Rattle.tsdb_outside.specs.Files.{NamedFile, Store, StoredFile}
 use Rattle.tsdb_outside.specs.declared.disk.Disk as disk
 use Rattle.tsdb_outside.specs.declared.faults.Counted as counted
 use Rattle.tsdb_outside.specs.declared.faults.Failed.{Failed}
-use Rattle.tsdb_rewriting.proofs.Begun.{all_tell, of_the_store}
 use Rattle.tsdb_rewriting.proofs.Outputs.{finished}
 use Rattle.tsdb_rewriting.proofs.States.{abandoned, found, served}
 use Rattle.tsdb_rewriting.specs.Rewriting.{EndsJob, IsEndOf, IsFinished, IsGivenUp, WasTold}
@@ -31,7 +29,7 @@ use Rattle.tsdb_serving.proofs.OutputsBuilt.{new_output}
 use Rattle.tsdb_serving.proofs.Swept.{faults_swept, loan_swept, served_on}
 use Rattle.tsdb_rewriting.proofs.Told.{inputs_told}
 use Rattle.tsdb_serving.specs.Compactions.{IsHandedOut, IsJobOut}
-use Rattle.tsdb_serving.specs.Core.{files_of, store_of}
+use Rattle.tsdb_serving.specs.Core.{files_of}
 use Rattle.tsdb_serving.specs.CoreType.{Core}
 use Rattle.tsdb_serving.specs.Flushing.{faults_under, frozen_under}
 use Rattle.tsdb_serving.specs.Out.{HandsOn}
@@ -71,10 +69,9 @@ module _ {J F S R P : Type 0} {means : disk.Ghosts J} {counts : counted.Ghosts J
     memory = ap memory_of gives_up.logged;
   }
 
-  module _ (laws : (journal : J) → IsLawful (means.state journal)) (name : R → NamedFile)
-      (tell : (right : R) → Tells (name right)) (store : Store) (old new : Core J F S R P means counts)
-      (job : Job F S R P) (out : IsJobOut name old job) (kept : AreKept (files_of old))
-      (are : AreOfStore (store_of old) (files_of old).places) (of : store ≡ store_of old) where
+  module _ (laws : (journal : J) → IsLawful (means.state journal)) (name : R → NamedFile) (store : Store)
+      (old new : Core J F S R P means counts) (job : Job F S R P) (out : IsJobOut name old job)
+      (kept : AreKept (files_of old)) where
     handed : IsHandedOut job
     handed = record { formed = out.kept.formed; few_sequence = out.kept.few_sequence; few_late = out.kept.few_late }
 
@@ -96,7 +93,6 @@ module _ {J F S R P : Type 0} {means : disk.Ghosts J} {counts : counted.Ghosts J
 
       still : TellsInputs name serving.outside.told job
       still = inputs_told name old job out kept serving.outside serving.state serving.seen was
-          (all_tell name store job tell told (of_the_store name store old job out are of))
 
     pub commit_ends : (file : Option NewFile) (result : Result (Unit {0}) Failed)
         → IsJobCommit name old new job file result → (store.tells ≡ true → TellsNew file) → EndsJob name store job old new

@@ -29,9 +29,8 @@ returns-then-whole-clause-frozen g c = c.list.ensures.frozen
 pub returns-then-whole-clause-ends : goal.returns-then-whole-clause-ends
 returns-then-whole-clause-ends g c = λ store of.
     let file = g.F.Sealed.SealedFile.file in
-    commit_ends g.J.Disk.lawful g.F.Right.ReadRight.file g.F.Right.ReadRight.tells store c.args.core.now c.list.new.core
-    c.args.job c.requires.out c.sound.ensures.kept c.sound.ensures.of_store of (option_map (file_built file) c.args.output) c.list.result
-    c.list.ensures
+    commit_ends g.J.Disk.lawful g.F.Right.ReadRight.file store c.args.core.now c.list.new.core c.args.job c.requires.out
+    c.sound.ensures.kept (option_map (file_built file) c.args.output) c.list.result c.list.ensures
     (λ told. output_tells file g.F.Sealed.SealedFile.tells store told c.args.output
     (subst (λ s. IsOutputOfStore file s c.args.output) (sym of) c.requires.in_store))
 
@@ -53,8 +52,8 @@ returns-clause-frozen g c = ap (λ logged. (memory_of logged).frozen) c.abandon.
 pub returns-clause-ends : goal.returns-clause-ends
 returns-clause-ends g c = λ store of.
     let file = g.F.Sealed.SealedFile.file in
-    abandon_ends g.J.Disk.lawful g.F.Right.ReadRight.file g.F.Right.ReadRight.tells store c.args.core.now
-    c.abandon.new.self c.args.job c.requires.out c.sound.ensures.kept c.sound.ensures.of_store of
+    abandon_ends g.J.Disk.lawful g.F.Right.ReadRight.file store c.args.core.now c.abandon.new.self c.args.job
+    c.requires.out c.sound.ensures.kept
     (option_map (file_built file) c.args.output)
     (λ told known compaction is tells. made_in g.F.Right.ReadRight.file file g.F.Sealed.SealedFile.rights c.args.job known
     compaction is tells c.args.output c.requires.made
