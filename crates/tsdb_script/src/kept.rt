@@ -1,4 +1,5 @@
-//! Lists that are kept from line to line, so that the next line takes no memory for them again. Depends on `syntax`.
+//! Lists that are kept from line to line, so that the next line takes no memory for them again. Depends on `syntax`
+//! and `token`.
 use crate::syntax::{Operand, Syntax, SyntaxPart};
 use crate::token::WordToken;
 use std::alloc::Global;
@@ -6,28 +7,28 @@ use std::collections::VecDeque;
 use std::mem;
 
 /// The parts that are left.
-pub type Parts<'a> = VecDeque<SyntaxPart<'a>>;
+pub type SyntaxParts<'a> = VecDeque<SyntaxPart<'a>>;
 
 /// Lists whose room the next line uses. What is in them means nothing.
 #[derive(Drop)]
-pub struct Kept<'a> {
-    pub parts: Parts<'a>,
-    pub lists: Lists<'a>,
+pub struct KeptLists<'a> {
+    pub parts: SyntaxParts<'a>,
+    pub lists: InsertLists<'a>,
 }
 
 /// The lists of an insert.
 #[derive(Drop)]
-pub struct Lists<'a> {
+pub struct InsertLists<'a> {
     names: Vec<WordToken<'a>>,
     values: Vec<Operand<'a>>,
 }
 
-impl<'a> Kept<'a> {
+impl<'a> KeptLists<'a> {
     /// Lists without room.
-    pub fn new(alloc: Global) -> Kept<'a> {
-        Kept {
+    pub fn new(alloc: Global) -> KeptLists<'a> {
+        KeptLists {
             parts: VecDeque::new(alloc),
-            lists: Lists {
+            lists: InsertLists {
                 names: Vec::new(alloc),
                 values: Vec::new(alloc),
             },
@@ -43,7 +44,7 @@ impl<'a> Kept<'a> {
     }
 }
 
-impl<'a> Lists<'a> {
+impl<'a> InsertLists<'a> {
     /// The room of names.
     pub fn for_names(&mut self, alloc: Global) -> Vec<WordToken<'a>> {
         mem::replace(&mut self.names, Vec::new(alloc))

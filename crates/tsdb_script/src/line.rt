@@ -10,7 +10,7 @@ ghost use Rattle.tsdb_script.specs.Steps.{FaultsWith};
 
 use crate::before::last_insert;
 use crate::fault::LineFault;
-use crate::kept::Kept;
+use crate::kept::KeptLists;
 use crate::lexer::read_tokens;
 use crate::lines::{begins_with, content, is_skipped};
 use crate::meaning::command_of;
@@ -40,7 +40,7 @@ pub fn read_line<'a>(
     script: &[Numbered],
     sessions: &[u16],
     tokens: &mut Tokens<'a>,
-    kept: &mut Kept<'a>,
+    kept: &mut KeptLists<'a>,
 ) -> Result<Option<Numbered>, LineFault>
     requires sessions { AreDifferentOf sessions.now (sessions_of script.now) }
     requires good { All (λ numbered. IsWellFormed numbered.command) script.now }
@@ -69,7 +69,7 @@ fn read_command<'a>(
     script: &[Numbered],
     sessions: &[u16],
     tokens: &mut Tokens<'a>,
-    kept: &mut Kept<'a>,
+    kept: &mut KeptLists<'a>,
 ) -> Result<Numbered, LineFault>
     requires says { is_skipped line.now ≡ false }
     requires line_bytes { length line.now ≤ max_line_bytes }

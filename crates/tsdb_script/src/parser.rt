@@ -14,7 +14,7 @@ ghost use Rattle.tsdb_script.specs.Parse.{parts_at, says, stands_at, statement_a
 
 use crate::fault::LineFault;
 use crate::form::{FORMS, Form, FormPlace, Keyword};
-use crate::kept::{Kept, Lists, Parts};
+use crate::kept::{InsertLists, KeptLists, SyntaxParts};
 use crate::syntax::{Comparison, Condition, Operand, Syntax, SyntaxColumn, SyntaxPart};
 use crate::token::{Token, WordToken};
 use std::alloc::Global;
@@ -40,7 +40,7 @@ const TIME: FormPlace = FormPlace::Keyword(Keyword::Time);
 pub fn statement<'a>(
     alloc: Global,
     tokens: &mut Tokens<'a>,
-    kept: &mut Kept<'a>,
+    kept: &mut KeptLists<'a>,
 ) -> Result<Syntax<'a>, LineFault>
     ensures found { IfOk result (Fits tokens.old.items) }
     ensures parts { IfOk result HasNeededParts }
@@ -54,7 +54,7 @@ pub fn statement<'a>(
 fn read_by_form<'a>(
     alloc: Global,
     tokens: &mut Tokens<'a>,
-    kept: &mut Kept<'a>,
+    kept: &mut KeptLists<'a>,
 ) -> Result<Syntax<'a>, LineFault>
     ensures { ParsesTo (λ syntax. syntax) result (statement_at tokens.old.items) }
 {
@@ -131,8 +131,8 @@ fn parts_of<'a>(
     alloc: Global,
     places: &[FormPlace],
     tokens: &mut Tokens<'a>,
-    lists: &mut Lists<'a>,
-    parts: &mut Parts<'a>,
+    lists: &mut InsertLists<'a>,
+    parts: &mut SyntaxParts<'a>,
 ) -> Result<(), LineFault>
     ensures { ParsesTo (λ _. parts.new.items) result (parts_at places.now tokens.old.items) }
 {
@@ -153,7 +153,7 @@ fn part<'a>(
     alloc: Global,
     place: FormPlace,
     tokens: &mut Tokens<'a>,
-    lists: &mut Lists<'a>,
+    lists: &mut InsertLists<'a>,
 ) -> Result<Option<SyntaxPart<'a>>, LineFault>
     ensures { ParsesTo (λ part. (part, tokens.new.items)) result (part_at place tokens.old.items) }
 {
@@ -381,7 +381,7 @@ fn conditions<'a>(alloc: Global, tokens: &mut Tokens<'a>) -> Result<List<Conditi
 }
 
 /// The statement of a form with these parts.
-fn made<'a>(alloc: Global, form: Form, parts: &mut Parts<'a>) -> Syntax<'a>
+fn made<'a>(alloc: Global, form: Form, parts: &mut SyntaxParts<'a>) -> Syntax<'a>
     ensures { result ≡ statement_of form parts.old.items }
 {
     match form {
@@ -418,7 +418,7 @@ fn made<'a>(alloc: Global, form: Form, parts: &mut Parts<'a>) -> Syntax<'a>
 }
 
 /// Takes the first part, which is a word.
-fn word_part<'a>(parts: &mut Parts<'a>) -> WordToken<'a>
+fn word_part<'a>(parts: &mut SyntaxParts<'a>) -> WordToken<'a>
     ensures word { result ≡ first_word parts.old.items }
     ensures rest { parts.new.items ≡ drop 1 parts.old.items }
 {
@@ -429,7 +429,7 @@ fn word_part<'a>(parts: &mut Parts<'a>) -> WordToken<'a>
     }
 }
 
-fn names_part<'a>(alloc: Global, parts: &mut Parts<'a>) -> List<WordToken<'a>>
+fn names_part<'a>(alloc: Global, parts: &mut SyntaxParts<'a>) -> List<WordToken<'a>>
     ensures names { result ≡ first_names parts.old.items }
     ensures rest { parts.new.items ≡ drop 1 parts.old.items }
 {
@@ -440,7 +440,7 @@ fn names_part<'a>(alloc: Global, parts: &mut Parts<'a>) -> List<WordToken<'a>>
     }
 }
 
-fn values_part<'a>(alloc: Global, parts: &mut Parts<'a>) -> List<Operand<'a>>
+fn values_part<'a>(alloc: Global, parts: &mut SyntaxParts<'a>) -> List<Operand<'a>>
     ensures values { result ≡ first_values parts.old.items }
     ensures rest { parts.new.items ≡ drop 1 parts.old.items }
 {
@@ -451,7 +451,7 @@ fn values_part<'a>(alloc: Global, parts: &mut Parts<'a>) -> List<Operand<'a>>
     }
 }
 
-fn columns_part<'a>(alloc: Global, parts: &mut Parts<'a>) -> List<SyntaxColumn<'a>>
+fn columns_part<'a>(alloc: Global, parts: &mut SyntaxParts<'a>) -> List<SyntaxColumn<'a>>
     ensures columns { result ≡ first_columns parts.old.items }
     ensures rest { parts.new.items ≡ drop 1 parts.old.items }
 {
@@ -462,7 +462,7 @@ fn columns_part<'a>(alloc: Global, parts: &mut Parts<'a>) -> List<SyntaxColumn<'
     }
 }
 
-fn conditions_part<'a>(alloc: Global, parts: &mut Parts<'a>) -> List<Condition<'a>>
+fn conditions_part<'a>(alloc: Global, parts: &mut SyntaxParts<'a>) -> List<Condition<'a>>
     ensures conditions { result ≡ first_conditions parts.old.items }
     ensures rest { parts.new.items ≡ drop 1 parts.old.items }
 {

@@ -5,7 +5,7 @@ ghost use Rattle.tsdb_script.specs.LineSteps.{fault_at, AreDifferentOf, HasSessi
 ghost use Rattle.tsdb_script.specs.Reading.{sessions_of, IsScript, RefusesScript};
 
 use crate::fault::{LineFault, ScriptFault};
-use crate::kept::Kept;
+use crate::kept::KeptLists;
 use crate::line::read_line;
 use crate::lines::first_line;
 use crate::numbered::Numbered;
@@ -32,7 +32,7 @@ pub fn read_script(alloc: Global, bytes: &[u8]) -> Result<Vec<Numbered>, ScriptF
     let mut script = Vec::new(alloc);
     let mut sessions = Vec::new(alloc);
     let mut tokens = VecDeque::new(alloc);
-    let mut kept = Kept::new(alloc);
+    let mut kept = KeptLists::new(alloc);
     let mut rest = bytes;
     let mut number: u32 = 0;
     while !rest.is_empty() {
