@@ -5,6 +5,8 @@ pub mod Prefixes
 pub mod Reach
 pub mod Ends
 pub mod Steps
+pub mod Turns
+pub mod Replaced
 pub mod Replies
 pub mod Joined
 pub use Rattle.tsdb_querying.proofs.Out

@@ -1,6 +1,7 @@
 -- One more command is served.
 use Rattle.std.proofs.Common.{◌≡◌, ◌≢◌, ◌⊎◌, ℕ, ◌≤◌, List, [], ◌∷◌, ◌++◌, Option, None, Some, inl, inr, ⊎_elim, refl, sym, ap}
 use Rattle.std.proofs.Common.{append_assoc, arith, subst, ◌∙◌}
+use Rattle.std.specs.List.{AllByRecursion as Each}
 use Rattle.tsdb_base.specs.Causes.{Rose}
 use Rattle.tsdb_base.specs.declared.answers.Answer.TheVariants as answer
 use Rattle.tsdb_querying.specs.Core.{logged_of, next_of}
@@ -15,7 +16,7 @@ use Rattle.tsdb_history.proofs.Prefixes.{no_change, prefix_stays, stands_after, 
 use Rattle.tsdb_history.specs.Prefixes.{EndsDone, EndsFlushed, IsDoneChange, IsFlushDone, IsQuery, StandsAfter, StandsAfterPrefix}
 use Rattle.tsdb_history.proofs.Reach.{all_further, within_more}
 use Rattle.tsdb_history.specs.Reach.{AreFullWithin, IsFullWithin}
-use Rattle.tsdb_history.specs.Serves.{HasFlushed, HasServed, LeavesPrefix, MayDoubtAfter}
+use Rattle.tsdb_history.specs.Serves.{HasAnswered, HasFlushed, HasServed, LeavesPrefix, MayDoubtAfter}
 use Rattle.tsdb_base.proofs.Lists.{each_append, each_left, each_weaker}
 use Rattle.tsdb_memory.specs.LogState.{memory_of}
 use Rattle.tsdb_model.specs.Apply.{reply_of}
@@ -73,9 +74,9 @@ module _ {J F S R P : Type 0} {means : disk.Ghosts J} {counts : counted.Ghosts J
 module _ {J F S R P : Type 0} {means : disk.Ghosts J} {counts : counted.Ghosts J}
     (laws : (journal : J) → IsLawful (means.state journal)) where
   -- before the first command
-  pub none_served : (loans : List (Loan F S R P)) (core : Core J F S R P means counts) (files : List StoredFile)
-      (start : plain.State) → IsServing loans core files start None → HasServed loans core core files start []
-  none_served loans core files start is = record {
+  pub none_answered : (loans : List (Loan F S R P)) (core : Core J F S R P means counts) (files : List StoredFile)
+      (start : plain.State) → IsServing loans core files start None → HasAnswered loans core core files start []
+  none_answered loans core files start is = record {
     after = start;
     legal = refl;
     reached = tt;
@@ -84,25 +85,30 @@ module _ {J F S R P : Type 0} {means : disk.Ghosts J} {counts : counted.Ghosts J
     differ = tt;
     doubt = None;
     may = inl refl;
-    settled = λ ends. refl;
     serving = more_files laws loans core files [] start None is;
     moments = idle (disk_under core) (LeavesPrefix (files ++ []) (slot_under core) start [])
         (laws core.logged.frames.journal)
         (λ image left there holds. whole_prefix (StoreStandsFor there (in_slot (slot_under core) image)) start start [] refl
         (inl (image_left laws loans core files start None image is left there (each_left (Held there) files [] holds))));
+  }
+
+  pub none_served : (loans : List (Loan F S R P)) (core : Core J F S R P means counts) (files : List StoredFile)
+      (start : plain.State) → IsServing loans core files start None → HasServed loans core core files start []
+  unfolding none_answered
+  none_served loans core files start is = record {
+    answered = none_answered loans core files start is;
+    settled = λ ends. refl;
     listed = λ listing ends. absurd (none_listed listing ends);
     flushed = λ ends. absurd (none_ends IsFlushDone (λ e. e.command ≡ ShowFiles) ends);
   }
 
   -- a command that left these loans
   module _ (loans left : List (Loan F S R P)) (first mid new : Core J F S R P means counts) (files : List StoredFile)
-      (start : plain.State) (entries : List Entry) (command : Command) (reply : Reply)
-      (so_far : HasServed loans first mid files start entries) (place : StaysInPlace first mid)
-      (stays : StaysInPlace mid new) (full : HasFullCause new reply)
+      (start : plain.State) (entries : List Entry)
+      (so_far : HasAnswered loans first mid files start entries) (place : StaysInPlace first mid)
+      (stays : StaysInPlace mid new) (command : Command) (reply : Reply) (full : HasFullCause new reply)
       (answered : IsAnsweredBy (IsDrawn mid new) left mid new (files ++ so_far.put) so_far.after so_far.doubt command
-      reply)
-      (shows : (listing : Listing) → command ≡ ShowFiles → reply ≡ Files listing → TellsStore new listing)
-      (flushes : command ≡ Flush → reply ≡ Plain answer.Done → HasFlushed new) (shown : command ≡ ShowFiles → new ≡ mid) where
+      reply) where
     abbrev at : plain.State
     at = so_far.after
 
@@ -120,6 +126,14 @@ module _ {J F S R P : Type 0} {means : disk.Ghosts J} {counts : counted.Ghosts J
 
     abbrev held : List StoredFile
     held = files ++ so_far.put
+
+    -- what the entries lead to, what is in doubt after a change that was done last, and what was put
+    record Led : Type 0 where
+      leads : HasAnswered left first new files start all
+      settled : (EndsDone entries → so_far.doubt ≡ None) → EndsDone all → leads.doubt ≡ None
+      more : List StoredFile
+      drawn : Each (λ (file : StoredFile). IsDrawn mid new file.number) more
+      put_is : leads.put ≡ so_far.put ++ more
 
     legal_all : IsLegal start all now
     legal_all = legal_more start at entries command reply so_far.legal answered.allowed
@@ -195,14 +209,8 @@ module _ {J F S R P : Type 0} {means : disk.Ghosts J} {counts : counted.Ghosts J
       reached_all = within_more (next_of new) start at entries command reply so_far.legal
           (all_further (next_of mid) (next_of new) start entries stays.next so_far.reached) last_within
 
-      all_flushed : EndsFlushed all → HasFlushed new
-      all_flushed ends = ⊎_elim (λ is. flushes is.0 is.1)
-          (λ rest. subst (λ (core : Core J F S R P means counts). HasFlushed core) (sym (shown rest.1))
-          (so_far.flushed rest.0))
-          (last_ends IsFlushDone (λ e. e.command ≡ ShowFiles) entries entry ends)
-
-      led : MayDoubtAfter all now served.doubt → (EndsDone all → served.doubt ≡ None) → HasServed left first new files start all
-      led may settled = record {
+      all_answered : MayDoubtAfter all now served.doubt → HasAnswered left first new files start all
+      all_answered may = record {
         after = now;
         legal = legal_all;
         reached = reached_all;
@@ -216,7 +224,6 @@ module _ {J F S R P : Type 0} {means : disk.Ghosts J} {counts : counted.Ghosts J
             so_far.numbers served.numbers so_far.differ served.differ;
         doubt = served.doubt;
         may = may;
-        settled = settled;
         serving = subst (λ list. IsServing left new list now served.doubt) joined
             (subst (λ state. IsServing left new (held ++ served.put) state served.doubt) same served.serving);
         moments = leaves_on (disk_under first) (disk_under mid) (disk_under new) (laws new.logged.frames.journal) AtAll
@@ -224,10 +231,17 @@ module _ {J F S R P : Type 0} {means : disk.Ghosts J} {counts : counted.Ghosts J
             so_far.moments)
             (weaker (disk_under mid) (disk_under new)
             (LeavesEither (held ++ served.put) (slot_under mid) at so_far.doubt later) AtAll ends served.moments);
-        listed = λ listing ended.
-            let is = last_listed entries command reply listing ended in
-            shows listing is.0 is.1;
-        flushed = all_flushed;
+      }
+
+      led : MayDoubtAfter all now served.doubt
+          → ((EndsDone entries → so_far.doubt ≡ None) → EndsDone all → served.doubt ≡ None) → Led
+      unfolding all_answered
+      led may settled = record {
+        leads = all_answered may;
+        settled = settled;
+        more = served.put;
+        drawn = served.numbers;
+        put_is = refl;
       }
 
     -- ---- a command whose record may have been written, or that has none
@@ -268,15 +282,15 @@ module _ {J F S R P : Type 0} {means : disk.Ghosts J} {counts : counted.Ghosts J
     query_doubt doubt query none (inr (inr (inl drawn))) = absurd (query.1 drawn.0)
     query_doubt doubt query none (inr (inr (inr failed))) = absurd (query.0 failed.change)
 
-    settled_then : EndsDone all → answered.served.doubt ≡ None
-    settled_then ends = by (last_ends IsDoneChange (λ e. IsQuery e.command) entries entry ends)
+    settled_then : (EndsDone entries → so_far.doubt ≡ None) → EndsDone all → answered.served.doubt ≡ None
+    settled_then was ends = by (last_ends IsDoneChange (λ e. IsQuery e.command) entries entry ends)
       where
         by : IsDoneChange entry ⊎ (EndsDone entries × IsQuery entry.command) → answered.served.doubt ≡ None
         by (inl done) = answered.settled done.0 done.1
-        by (inr rest) = query_doubt answered.served.doubt rest.1 (so_far.settled rest.0) answered.doubtful
+        by (inr rest) = query_doubt answered.served.doubt rest.1 (was rest.0) answered.doubtful
 
     tried : ((there : stores.BytesByNumber) (bytes : List ℕ) → StoreStandsFor there bytes done
-        → StandsAfterPrefix (StoreStandsFor there bytes) start all) → HasServed left first new files start all
+        → StandsAfterPrefix (StoreStandsFor there bytes) start all) → Led
     tried stands = led done now refl answered.served stands doubted settled_then
 
     -- it was done
@@ -308,21 +322,21 @@ module _ {J F S R P : Type 0} {means : disk.Ghosts J} {counts : counted.Ghosts J
       kept_doubt doubt (inr (inr (inl same))) = inr (inl same)
       kept_doubt doubt (inr (inr (inr same))) = inr (inl same)
 
-      no_end : EndsDone all → kept.doubt ≡ None
-      no_end ends = by (last_ends IsDoneChange (λ e. IsQuery e.command) entries entry ends)
+      no_end : (EndsDone entries → so_far.doubt ≡ None) → EndsDone all → kept.doubt ≡ None
+      no_end was ends = by (last_ends IsDoneChange (λ e. IsQuery e.command) entries entry ends)
         where
           by : IsDoneChange entry ⊎ (EndsDone entries × IsQuery entry.command) → kept.doubt ≡ None
           by (inl done) = absurd (other done)
           by (inr rest) = absurd (rest.1.0 change)
 
-      not_tried : HasServed left first new files start all
+      not_tried : Led
       not_tried = led at at (sym (state_stays at command reply other)) kept stands_still
           (subst (λ state. MayDoubtAfter all state kept.doubt) (sym (state_stays at command reply other))
           (kept_doubt kept.doubt kept.may)) no_end
 
     by_device : IsChange command → reply ≡ Plain answer.Device
         → (reply_of at.world command ≡ Plain answer.Done) ⊎ (reply_of at.world command ≢ Plain answer.Done)
-        → HasServed left first new files start all
+        → Led
     by_device change is (inl accepts) = tried (doubt_stands change is accepts)
     by_device change is (inr refuses) = not_tried change (neither is refuses)
       where
@@ -334,7 +348,7 @@ module _ {J F S R P : Type 0} {means : disk.Ghosts J} {counts : counted.Ghosts J
 
     by_reply : IsChange command → (reply ≡ Plain answer.Done)
         ⊎ ((reply ≡ Plain answer.Device) ⊎ ((reply ≢ Plain answer.Done) × (reply ≢ Plain answer.Device)))
-        → HasServed left first new files start all
+        → Led
     by_reply change (inl is) = tried (done_stands is)
     by_reply change (inr (inl is)) = by_device change is (done_or_not (reply_of at.world command))
     by_reply change (inr (inr other)) = not_tried change (neither other)
@@ -343,10 +357,53 @@ module _ {J F S R P : Type 0} {means : disk.Ghosts J} {counts : counted.Ghosts J
         neither other (inl done) = other.0 done
         neither other (inr device) = other.1 device.0
 
-    by_command : IsChange command ⊎ (¬ IsChange command) → HasServed left first new files start all
+    by_command : IsChange command ⊎ (¬ IsChange command) → Led
     by_command (inl change) = by_reply change (is_reply reply)
     by_command (inr none) = tried (λ there bytes stands.
         stands_still there bytes (subst (StoreStandsFor there bytes) (no_change at command none) stands))
 
-    pub one_more_served : HasServed left first new files start all
-    one_more_served = by_command (is_change command)
+    last_led : Led
+    last_led = by_command (is_change command)
+
+    pub one_more_answered : HasAnswered left first new files start all
+    one_more_answered = last_led.leads
+
+    pub one_more_settled : (EndsDone entries → so_far.doubt ≡ None) → EndsDone all → one_more_answered.doubt ≡ None
+    unfolding one_more_answered
+    one_more_settled = last_led.settled
+
+    -- what holds of the numbers of what was put, and of those that were drawn since
+    pub one_more_put : (Q : ℕ → Type 0) → Each (λ (file : StoredFile). Q file.number) so_far.put
+        → ((n : ℕ) → IsDrawn mid new n → Q n) → Each (λ (file : StoredFile). Q file.number) one_more_answered.put
+    unfolding one_more_answered
+    one_more_put Q before since = subst (Each (λ (file : StoredFile). Q file.number)) (sym last_led.put_is)
+        (each_append (λ (file : StoredFile). Q file.number) so_far.put last_led.more before
+        (each_weaker (λ (file : StoredFile). IsDrawn mid new file.number) (λ (file : StoredFile). Q file.number)
+        (λ file drawn. since file.number drawn) last_led.more last_led.drawn))
+
+  -- so too where the command was served whole
+  module _ (loans left : List (Loan F S R P)) (first mid new : Core J F S R P means counts) (files : List StoredFile)
+      (start : plain.State) (entries : List Entry) (so_far : HasServed loans first mid files start entries)
+      (place : StaysInPlace first mid) (stays : StaysInPlace mid new) (command : Command) (reply : Reply)
+      (full : HasFullCause new reply)
+      (answered : IsAnsweredBy (IsDrawn mid new) left mid new (files ++ so_far.answered.put) so_far.answered.after
+      so_far.answered.doubt command reply)
+      (shows : (listing : Listing) → command ≡ ShowFiles → reply ≡ Files listing → TellsStore new listing)
+      (flushes : command ≡ Flush → reply ≡ Plain answer.Done → HasFlushed new) (shown : command ≡ ShowFiles → new ≡ mid) where
+    all_flushed : EndsFlushed (entries ++ entry_of command reply ∷ []) → HasFlushed new
+    all_flushed ends = ⊎_elim (λ is. flushes is.0 is.1)
+        (λ rest. subst (λ (core : Core J F S R P means counts). HasFlushed core) (sym (shown rest.1))
+        (so_far.flushed rest.0))
+        (last_ends IsFlushDone (λ e. e.command ≡ ShowFiles) entries (entry_of command reply) ends)
+
+    pub one_more_served : HasServed left first new files start (entries ++ entry_of command reply ∷ [])
+    one_more_served = record {
+      answered = one_more_answered loans left first mid new files start entries so_far.answered place stays command reply
+          full answered;
+      settled = one_more_settled loans left first mid new files start entries so_far.answered place stays command reply full
+          answered so_far.settled;
+      listed = λ listing ended.
+          let is = last_listed entries command reply listing ended in
+          shows listing is.0 is.1;
+      flushed = all_flushed;
+    }

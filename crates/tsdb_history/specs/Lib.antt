@@ -3,6 +3,7 @@ pub mod Rooms
 pub mod Prefixes
 pub mod Reach
 pub mod Serves
+pub mod Replacing
 pub mod Listings
 pub mod Closing
 pub mod Joining

@@ -61,10 +61,10 @@ module _ {J F S R P : Type 0} {means : disk.Ghosts J} {counts : counted.Ghosts J
   HasCompacted Flush old new = ⊤
   HasCompacted ShowFiles old new = ⊤
 
-  -- These entries were served, beside the files that were there, and these loans are out. The files that were put have different numbers, which
-  -- were drawn meanwhile. A stop at any moment left the state after a prefix of the entries. A listing that was
-  -- answered last is that of the core; after a flush that was done last all points are in files.
-  pub record HasServed (loans : List (Loan F S R P)) (old new : Core J F S R P means counts) (files : List StoredFile)
+  -- These entries were answered from the start, beside the files that were there, and these loans are out. The files that
+  -- were put have different numbers, which were drawn meanwhile. A stop at any moment left the state after a prefix of
+  -- the entries.
+  pub record HasAnswered (loans : List (Loan F S R P)) (old new : Core J F S R P means counts) (files : List StoredFile)
       (start : plain.State) (entries : List Entry)
       : Type 0 where
     pub after : plain.State
@@ -75,10 +75,18 @@ module _ {J F S R P : Type 0} {means : disk.Ghosts J} {counts : counted.Ghosts J
     pub differ : EachPair (λ (a b : StoredFile). a.number ≢ b.number) put
     pub doubt : Option plain.State
     pub may : MayDoubtAfter entries after doubt
-    pub settled : EndsDone entries → doubt ≡ None
     pub serving : IsServing loans new (files ++ put) after doubt
     pub moments : LeavesOnly (disk_under old) (disk_under new)
         (LeavesPrefix (files ++ put) (slot_under old) start entries)
+
+  -- So these entries were served, one whole command behind another: after a change that was done last nothing is in
+  -- doubt, a listing that was answered last is that of the core, and after a flush that was done last all points are in
+  -- files.
+  pub record HasServed (loans : List (Loan F S R P)) (old new : Core J F S R P means counts) (files : List StoredFile)
+      (start : plain.State) (entries : List Entry)
+      : Type 0 where
+    pub answered : HasAnswered loans old new files start entries
+    pub settled : EndsDone entries → answered.doubt ≡ None
     pub listed : (listing : Listing) → EndsListed entries listing → TellsStore new listing
     pub flushed : EndsFlushed entries → HasFlushed new
 

@@ -11,8 +11,8 @@ use Rattle.std.proofs.lemmas.Option.{same_Some}
 use Rattle.tsdb_history.proofs.Prefixes.{after_wider, no_prefix, stands_after, whole_prefix}
 use Rattle.tsdb_history.specs.Closing.{IsCoreClosed}
 use Rattle.tsdb_history.specs.Listings.{AreAllListed, IsAllInFiles, IsListingOf}
-use Rattle.tsdb_history.specs.Prefixes.{StandsAfter, StandsAfterPrefix}
-use Rattle.tsdb_history.specs.Serves.{HasServed, LeavesPrefix}
+use Rattle.tsdb_history.specs.Prefixes.{EndsDone, StandsAfter, StandsAfterPrefix}
+use Rattle.tsdb_history.specs.Serves.{HasAnswered, HasServed, LeavesPrefix}
 use Rattle.tsdb_state.specs.StoredEngine.{LeavesOneOf, kept_bytes}
 use Rattle.tsdb_base.proofs.Lists.{each_weaker}
 use Rattle.tsdb_base.specs.Lists.{EachPair}
@@ -77,7 +77,7 @@ numbered_once (file ∷ files) differ (suc i) (suc j) n at other = ap suc (numbe
 
 module _ {J F S R P : Type 0} {means : disk.Ghosts J} {counts : counted.Ghosts J}
     (core last : Core J F S R P means counts) (files : List StoredFile) (start : plain.State) (entries : List Entry)
-    (served : HasServed [] core last files start entries) (slot : slot_under core ≡ A)
+    (served : HasAnswered [] core last files start entries) (slot : slot_under core ≡ A)
     (stays : slot_under last ≡ slot_under core) (new : DiskState) (laws : IsLawful new) (stored : List StoredFile)
     (rose : Type 0) (closed : IsCoreClosed last new stored rose (files ++ served.put) served.after served.doubt) where
   in_a : slot_under last ≡ A
@@ -118,8 +118,9 @@ module _ {J F S R P : Type 0} {means : disk.Ghosts J} {counts : counted.Ghosts J
       (λ other less. omega (arith, less, drawn.from)) files below) served.put served.numbers
 
   pub has_run : (now : Option (List StoredFile)) (more : Type 0) → now ≡ Some stored → IsNewerThan files core
-      → (rose → more) → HasRun files start entries (disk_under core) (contents new now) more
-  has_run now more told below wider = record {
+      → (rose → more) → (EndsDone entries → served.doubt ≡ None) → HasServed [] core last files start entries
+      → HasRun files start entries (disk_under core) (contents new now) more
+  has_run now more told below wider settled whole = record {
     after = served.after;
     legal = served.legal;
     put = served.put;
@@ -136,9 +137,9 @@ module _ {J F S R P : Type 0} {means : disk.Ghosts J} {counts : counted.Ghosts J
     listed = λ calm listing ends files image there left.
         subst (λ l. IsListingOf (kept_bytes l) image.a listing) (same_Some stored files (sym told ∙ there))
         (subst (λ (s : Slot). IsListingOf (kept_bytes stored) (in_slot s image) listing) in_a
-        (closed.listed (by calm) listing (served.listed listing ends) image left));
+        (closed.listed (by calm) listing (whole.listed listing ends) image left));
     flushed = λ calm ends image left. subst (λ (s : Slot). IsAllInFiles (in_slot s image)) in_a
-        (closed.flushed (by calm) (served.flushed ends) image left);
+        (closed.flushed (by calm) (whole.flushed ends) image left);
   }
     where
       are_stored : AreStored stored
@@ -146,7 +147,7 @@ module _ {J F S R P : Type 0} {means : disk.Ghosts J} {counts : counted.Ghosts J
 
       by : EndsSettled more entries → (¬ rose) ⊎ (served.doubt ≡ None)
       by (inl calm) = inl (λ is. calm (wider is))
-      by (inr ends) = inr (served.settled ends)
+      by (inr ends) = inr (settled ends)
 
       is_sound : EndsSettled more entries → stores.IsSound A new (kept_bytes stored) served.after
       is_sound calm = subst (λ (s : Slot). stores.IsSound s new (kept_bytes stored) served.after) in_a (closed.sound (by calm))

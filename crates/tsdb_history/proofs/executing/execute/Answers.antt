@@ -113,10 +113,12 @@ loop-numbered-preserved g c =
           omega (arith, drawn, one));
       served = λ tells loans files start serving.
           let so_far = c.loop-numbered.invariant.served tells loans files start serving in
-          one_more_served g.J.Disk.lawful loans loans first mid core files start entries numbered.command told.reply so_far
-          c.loop-numbered.invariant.stays c.serve-reply.ensures.serves.stays c.serve-reply.ensures.full
-          (c.serve-reply.ensures.answers (ap (λ s. s.tells) same_store ∙ tells) loans (files ++ so_far.put) so_far.after
-          so_far.doubt so_far.serving) c.serve-reply.ensures.listed c.serve-reply.ensures.flushed
+          let at = so_far.answered in
+          one_more_served g.J.Disk.lawful loans loans first mid core files start entries so_far
+          c.loop-numbered.invariant.stays c.serve-reply.ensures.serves.stays numbered.command told.reply
+          c.serve-reply.ensures.full
+          (c.serve-reply.ensures.answers (ap (λ s. s.tells) same_store ∙ tells) loans (files ++ at.put) at.after
+          at.doubt at.serving) c.serve-reply.ensures.listed c.serve-reply.ensures.flushed
           c.serve-reply.ensures.shown;
       sure = λ sure. sure_still store mid core numbered.command told.reply
           (λ tells. c.serve-reply.ensures.answers (ap (λ s. s.tells) same_store ∙ tells))

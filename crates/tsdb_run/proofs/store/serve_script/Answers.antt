@@ -39,7 +39,8 @@ returns-clause-served g c =
       in_line_order = executed.in_line_order;
       served = λ none files start serving below.
           let tells = ap (λ (s : Store). s.tells) c.requires.port ∙ g.F.Files.tells c.args.files.now ∙ ap is_some none in
-          let served = executed.served tells [] files start serving in
+          let whole = executed.served tells [] files start serving in
+          let served = whole.answered in
           let closed = some_and _ left (c.close.ensures.closed (c.end_port.ensures.same ∙ none) (files ++ served.put)
           served.after served.doubt served.serving) in
           has_run core last files start executed.entries served c.requires.slot c.execute-history.ensures.stays.slot.same
@@ -53,14 +54,14 @@ returns-clause-served g c =
           (count_by told_device c.execute-history.result)
           (c.execute-history.ensures.devices (inr ([], files, start, None, serving)))
           (subst (λ n. min (g.F.Counted.faults c.args.files.now + g.F.Port.Counted.faults c.execute-history.new.port)
-          (2 ^ 64 - 1) ≤ n) (sym c.close.ensures.faults) c.end_port.ensures.faults));
+          (2 ^ 64 - 1) ≤ n) (sym c.close.ensures.faults) c.end_port.ensures.faults)) whole.settled whole;
       aside = subst (λ (s : Slot). LeavesOnly (disk_under core) (g.J.Disk.state journal) (IsUntouched s (disk_under core)))
           c.requires.slot (leaves_aside_on (log_under core) (log_under last) (g.J.Disk.state journal)
           (g.J.Disk.lawful journal) c.execute-history.ensures.stays.slot c.close.ensures.aside
           (second_false _ _ c.requires.no_doubt));
       swept = λ none files start serving empty quiet.
           let tells = ap (λ (s : Store). s.tells) c.requires.port ∙ g.F.Files.tells c.args.files.now ∙ ap is_some none in
-          let served = executed.served tells [] files start serving in
+          let served = (executed.served tells [] files start serving).answered in
           let closed = some_and _ left (c.close.ensures.closed (c.end_port.ensures.same ∙ none) (files ++ served.put)
           served.after served.doubt served.serving) in
           let no_fault : g.J.Counted.faults journal ≡ 0 = omega (arith, quiet) in
@@ -82,7 +83,7 @@ returns-clause-served g c =
           (not_rose (g.F.Port.Counted.faults c.args.port) (g.F.Port.Counted.faults c.execute-history.new.port) port) under);
       within = λ none files start serving.
           let tells = ap (λ (s : Store). s.tells) c.requires.port ∙ g.F.Files.tells c.args.files.now ∙ ap is_some none in
-          let served = executed.served tells [] files start serving in
+          let served = (executed.served tells [] files start serving).answered in
           all_further (next_of last) (next_of core + max_drawn * length c.args.script.now) start executed.entries
           c.execute-history.ensures.draws served.reached;
     }
