@@ -149,12 +149,12 @@ def output_of(replies):
 # ---- the program
 
 
-def run(program, folder, commands, pair=None, before=()):
+def run(program, folder, commands, pair=None, before=(), **given):
     """The code, output and errors of a run, by a program that may stand behind others."""
     options = ["--pair", str(pair)] if pair else []
     words = [*before, program, "run", *options, folder]
     try:
-        ended = subprocess.run(words, input=script_of(commands), capture_output=True, timeout=LONGEST_RUN)
+        ended = subprocess.run(words, input=script_of(commands), capture_output=True, timeout=LONGEST_RUN, **given)
     except subprocess.TimeoutExpired:
         raise Wrong(f"a run took more than {LONGEST_RUN} seconds") from None
     return ended.returncode, ended.stdout, ended.stderr
