@@ -4,6 +4,7 @@
 # make build  proves the program and leaves it at bin/tsdb
 # make bench  proves the programs and prints what they take; GROUP=name measures one group
 # make check  looks in seconds at what the documents, the headline and the wrong bodies name, and at the layout of the crates
+# make bend   times scripts that put each structure to its worst at n, 2n and 4n, and prints how it grows
 # make check-disk   kills the program in the middle of its writes on a disk, refuses it memory, lets each call of the system
 #                   fail in turn, cuts the power by a model of a disk, and looks at what the next run finds; compares every
 #                   end of a run with the documents, and many scripts with a plain slow store and a plain reader; runs a
@@ -12,7 +13,7 @@
 # make crates  prints the list of crates of docs/ARCHITECTURE.md; checks/crates --write puts it there
 # make proofs   proves every crate, tries the wrong bodies, and runs every test and program
 # make test   is the gate: the proofs, and what is behind them
-.PHONY: demo build bench check-disk check wrong-bodies proofs test
+.PHONY: demo build bench bend check-disk check wrong-bodies proofs test
 
 demo:
 	@folder=$$(mktemp -d) && trap 'rm -rf "$$folder"' EXIT && \
@@ -44,11 +45,14 @@ bench: build
 	@[ -n "$(GROUP)" ] && [ "$(GROUP)" != sizes ] || bench/sizes.py bin/tsdb
 	@[ -n "$(GROUP)" ] && [ "$(GROUP)" != openings ] || bench/openings.py bin/tsdb
 
+bend: build
+	@checks/bend bin/tsdb
+
 check-disk: build
 	@checks/kill bin/tsdb --kills 50 --disk
 	@checks/statuses bin/tsdb
-	@checks/memory bin/tsdb --known
-	@checks/faults bin/tsdb
+	@checks/memory bin/tsdb
+	@checks/faults bin/tsdb --pairs 5000
 	@checks/power bin/tsdb
 	@checks/plants bin/tsdb
 	@checks/scripts bin/tsdb --first 5001 --count 20000
