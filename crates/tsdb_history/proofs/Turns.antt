@@ -1,5 +1,5 @@
 -- A turn on a core with loans: one that adds no entry, and one whose entry writes nothing.
-use Rattle.std.proofs.Common.{◌≡◌, ◌≢◌, ◌⊎◌, ℕ, ◌≤◌, List, [], ◌∷◌, ◌++◌, Option, None, Some, inl, inr, ⊎_elim, refl, sym}
+use Rattle.std.proofs.Common.{◌≡◌, ℕ, List, [], ◌∷◌, ◌++◌, Option, Some, inl, inr, ⊎_elim, refl, sym}
 use Rattle.std.proofs.Common.{append_assoc, arith, subst, ◌∙◌}
 use Rattle.std.specs.List.{AllByRecursion as Each}
 use Rattle.tsdb_base.proofs.Lists.{each_append, each_left, each_weaker}

@@ -12,7 +12,9 @@ mod told;
 
 pub use closing::close;
 pub use executing::execute;
-pub use laws::{a_new_store_is_sound, runs_join};
+pub use laws::{
+    a_new_store_is_sound, a_turn_adds_an_entry, a_turn_adds_no_entry, replies_may_change, runs_join,
+};
 pub use room::ReplyRoom;
 pub use serving::serve;
 pub use told::Told;
